@@ -1,0 +1,4 @@
+pub mod Cats
+pub mod Runs
+pub mod Kept
+pub mod Label

@@ -1,0 +1,10 @@
+//! Labels of multilevel security, as SELinux MLS has them: a level and a set of categories, ordered by dominance.
+//! Contracts see a set as the ascending list of its numbers, and a label as its level and its set.
+#![tactic(auto)]
+
+mod cat_set;
+mod label;
+
+pub use cat_set::{CatSet, SetStop};
+pub use label::{Label, OutOfMemory, Tag};
+pub use octet_grammar::{WireFault, WireKind, WireStop};

@@ -1,0 +1,8 @@
+//! What a reader of octets is held to, whatever the format: a grammar is a relation between octet strings and
+//! values, and a reader that refuses an input names the first octet that no member of the grammar has there.
+//! The definitions stand in `specs/`; the two types below are the place and the kind of a fault.
+#![tactic(auto)]
+
+mod fault;
+
+pub use fault::{WireFault, WireKind, WireStop};
