@@ -1,0 +1,4 @@
+pub mod LabelText
+pub mod Crowd
+pub mod Number
+pub mod Rest

@@ -1,0 +1,89 @@
+-- What the parts of the reader say of the text from a place on.
+use Rattle.std.specs.Prelude.{◌≡◌, ℕ, ◌+◌, ◌<◌, ◌≤◌, Bool, List, [], ◌∷◌, ◌++◌, length, drop, IsTrue, ◌⊎◌}
+use Rattle.std.specs.Fmt.{decimal}
+use Rattle.std.specs.List.{All, flat_map}
+use Rattle.mls_label.specs.declared.label.Label.{Label}
+use Rattle.mls_range.specs.declared.fault.TextFault.{TextFault}
+use Rattle.mls_range.specs.declared.fault.TextKind.{TextKind}
+use Rattle.mls_range.specs.declared.fault.TextKind.TheVariants.{Grammar, End, TooManyRuns, NotOrdered}
+use Rattle.mls_range.specs.LabelText.{IsTerm, term_text, IsLabelText}
+use Rattle.mls_range.specs.Number.{BeginsNumber}
+
+-- from start to end the text reads part
+pub record Reads (text : List ℕ) (start end : ℕ) (part : List ℕ) : Type 0 where
+  pub within : end ≤ length text
+  pub forward : start ≤ end
+  pub is : drop start text ≡ part ++ drop end text
+
+-- the octets go on, or they end
+abbrev pub StopsHere : List ℕ → TextKind → Type 0
+StopsHere rest Grammar = (octet : ℕ) × (more : List ℕ) × (rest ≡ octet ∷ more)
+StopsHere rest End = rest ≡ []
+StopsHere rest TooManyRuns = ⊥
+StopsHere rest NotOrdered = ⊥
+
+-- no text of L begins so and goes on as the octets do; or the octets end, and are none
+abbrev pub StopsIn : (List ℕ → Type 0) → List ℕ → List ℕ → TextKind → Type 0
+StopsIn L part rest Grammar = (octet : ℕ) × (more : List ℕ) × (rest ≡ octet ∷ more) × ((end : List ℕ) → L (part ++ octet ∷ end) → ⊥)
+StopsIn L part rest End = (rest ≡ []) × (L part → ⊥)
+StopsIn L part rest TooManyRuns = ⊥
+StopsIn L part rest NotOrdered = ⊥
+
+-- From start on the text begins as a text of L does up to the fault, and there it stops.
+pub record FaultIn (L : List ℕ → Type 0) (text : List ℕ) (start : ℕ) (fault : TextFault) : Type 0 where
+  pub part : List ℕ
+  pub reads : Reads text start fault.octet part
+  pub more : List ℕ
+  pub front : L (part ++ more)
+  pub stops : StopsIn L part (drop fault.octet text) fault.kind
+
+-- a number from low to high
+pub record IsNumber (low high : ℕ) (text : List ℕ) : Type 0 where
+  pub number : ℕ
+  pub is : text ≡ decimal number
+  pub above : low ≤ number
+  pub below : number ≤ high
+
+-- a number stands there, and the octet at its end belongs to no longer one
+pub record ReadsNumber (text : List ℕ) (start low high number end : ℕ) : Type 0 where
+  pub reads : Reads text start end (decimal number)
+  pub above : low ≤ number
+  pub below : number ≤ high
+  pub ends : (octet : ℕ) (more : List ℕ) → drop end text ≡ octet ∷ more → BeginsNumber low high (decimal number ++ octet ∷ []) → ⊥
+
+-- what ends a label: the end of the text, and where dash says so also a dash and another label
+abbrev pub EndsLabel : Bool → List ℕ → Type 0
+EndsLabel dash [] = Unit {0}
+EndsLabel dash (octet ∷ rest) = IsTrue dash × (octet ≡ 45) × (label : Label) × IsLabelText rest label
+
+-- a term behind another
+abbrev pub comma_with : ℕ × ℕ → List ℕ
+comma_with term = 44 ∷ term_text term
+
+-- any number of further terms, and the label's end
+pub record MoreTerms (dash : Bool) (text : List ℕ) : Type 0 where
+  pub terms : List (ℕ × ℕ)
+  pub rest : List ℕ
+  pub are : All IsTerm terms
+  pub is : text ≡ flat_map comma_with terms ++ rest
+  pub ends : EndsLabel dash rest
+
+-- a term, and what may come behind it
+pub record Terms (dash : Bool) (text : List ℕ) : Type 0 where
+  pub term : ℕ × ℕ
+  pub more : List ℕ
+  pub is_term : IsTerm term
+  pub is : text ≡ term_text term ++ more
+  pub behind : MoreTerms dash more
+
+-- behind a level a colon and terms, or the label's end
+abbrev pub MayHaveTerms : Bool → List ℕ → Type 0
+MayHaveTerms dash text = EndsLabel dash text ⊎ ((more : List ℕ) × (text ≡ 58 ∷ more) × Terms dash more)
+
+-- a label, and its end
+pub record LabelOn (dash : Bool) (text : List ℕ) : Type 0 where
+  pub level : ℕ
+  pub more : List ℕ
+  pub small : level < 256
+  pub is : text ≡ 115 ∷ decimal level ++ more
+  pub behind : MayHaveTerms dash more

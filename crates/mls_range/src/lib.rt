@@ -1,0 +1,7 @@
+//! Texts of labels and of ranges of labels, in the form of SELinux MLS: `s2:c0.c5` and `s0-s2:c1,c3`.
+#![tactic(auto)]
+
+mod fault;
+mod number;
+
+pub use fault::{TextFault, TextKind, TextStop};
