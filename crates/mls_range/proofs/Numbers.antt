@@ -7,7 +7,7 @@ use Rattle.mls_range.specs.declared.fault.TextFault.{TextFault}
 use Rattle.mls_range.specs.declared.fault.TextKind.{TextKind}
 use Rattle.mls_range.specs.declared.fault.TextKind.TheVariants.{Grammar, End, TooManyRuns, NotOrdered}
 use Rattle.mls_range.specs.Number.{BeginsNumber, number_after, GoesOn}
-use Rattle.mls_range.specs.Rest.{Reads, FaultIn, IsNumber, ReadsNumber, StopsHere, StopsIn}
+use Rattle.mls_range.specs.Rest.{Reads, FaultIn, FailsNumber, IsNumber, ReadsNumber, StopsHere, StopsIn}
 use Rattle.mls_range.proofs.Digits.{begins_goes, goes_begins, number-decimal, decimal-number, number_after-append, begins_small, begins_number, grows}
 use Rattle.mls_range.proofs.Reading.{drop_at, drop_end, reads_none, reads_octet, reads_on, reads_length, reads_nothing}
 
@@ -75,16 +75,18 @@ none_number text start at low high number small h (inr lt) n =
     let is : n.number ≡ number = sym (number-decimal n.number (omega (arith, n.below))) ∙ ap (number_after 0) (sym n.is) ∙ h.value in
     omega (arith, n.above, is)
 
-pub number_fault : (text : List ℕ) (start at low high number : ℕ) (fault : TextFault) → high < 65536 → (h : HasDigits text start at low high number) → EndsDigits text at low high h.digits → (at ≡ start) ⊎ (number < low) → fault.octet ≡ at → StopsHere (drop at text) fault.kind → FaultIn (IsNumber low high) text start fault
+pub number_fault : (text : List ℕ) (start at low high number : ℕ) (fault : TextFault) → high < 65536 → (h : HasDigits text start at low high number) → EndsDigits text at low high h.digits → (at ≡ start) ⊎ (number < low) → fault.octet ≡ at → StopsHere (drop at text) fault.kind → FailsNumber text start low high fault
 number_fault text start at low high number fault small h ends bad place here =
-    let stops = stops_digits text at low high h.digits fault.kind ends (none_number text start at low high number small h bad) here in
-    record {
+    let none = none_number text start at low high number small h bad in
+    let stops = stops_digits text at low high h.digits fault.kind ends none here in
+    let fails : FaultIn (IsNumber low high) text start fault = record {
       part = h.digits;
       reads = subst (λ k. Reads text start k h.digits) (sym place) h.reads;
       more = h.begins.more;
       front = record { number = h.begins.number; is = sym h.begins.is; above = h.begins.above; below = h.begins.below };
       stops = subst (λ k. StopsIn (IsNumber low high) h.digits (drop k text) fault.kind) (sym place) stops;
-    }
+    } in
+    record { fails = fails; none = none }
 
 pub number_read : (text : List ℕ) (start at low high number : ℕ) → high < 65536 → (h : HasDigits text start at low high number) → EndsDigits text at low high h.digits → (at ≡ start → ⊥) → low ≤ number → ReadsNumber text start low high number at
 number_read text start at low high number small h ends some above =

@@ -1,12 +1,13 @@
 -- What the parts of the reader say of the text from a place on.
-use Rattle.std.specs.Prelude.{◌≡◌, ℕ, ◌+◌, ◌<◌, ◌≤◌, Bool, List, [], ◌∷◌, ◌++◌, length, drop, IsTrue, ◌⊎◌}
+use Rattle.std.specs.Prelude.{◌≡◌, ℕ, ◌+◌, ◌<◌, ◌≤◌, Bool, List, [], ◌∷◌, ◌++◌, length, drop, IsTrue, ◌⊎◌, ◌==◌, if◌then◌else◌}
 use Rattle.std.specs.Fmt.{decimal}
-use Rattle.std.specs.List.{All, flat_map}
+use Rattle.std.specs.List.{All}
 use Rattle.mls_label.specs.declared.label.Label.{Label}
 use Rattle.mls_range.specs.declared.fault.TextFault.{TextFault}
 use Rattle.mls_range.specs.declared.fault.TextKind.{TextKind}
 use Rattle.mls_range.specs.declared.fault.TextKind.TheVariants.{Grammar, End, TooManyRuns, NotOrdered}
 use Rattle.mls_range.specs.LabelText.{IsTerm, term_text, IsLabelText}
+use Rattle.mls_range.specs.Crowd.{IsCounted}
 use Rattle.mls_range.specs.Number.{BeginsNumber}
 
 -- from start to end the text reads part
@@ -44,6 +45,11 @@ pub record IsNumber (low high : ℕ) (text : List ℕ) : Type 0 where
   pub above : low ≤ number
   pub below : number ≤ high
 
+-- no number stands there
+pub record FailsNumber (text : List ℕ) (start low high : ℕ) (fault : TextFault) : Type 0 where
+  pub fails : FaultIn (IsNumber low high) text start fault
+  pub none : IsNumber low high fails.part → ⊥
+
 -- a number stands there, and the octet at its end belongs to no longer one
 pub record ReadsNumber (text : List ℕ) (start low high number end : ℕ) : Type 0 where
   pub reads : Reads text start end (decimal number)
@@ -51,21 +57,40 @@ pub record ReadsNumber (text : List ℕ) (start low high number end : ℕ) : Typ
   pub below : number ≤ high
   pub ends : (octet : ℕ) (more : List ℕ) → drop end text ≡ octet ∷ more → BeginsNumber low high (decimal number ++ octet ∷ []) → ⊥
 
+-- the second part of a term that has one
+abbrev pub last_text : ℕ → ℕ → List ℕ
+last_text first last = if first == last then [] else 46 ∷ 99 ∷ decimal last
+
+-- the octets go on with another one, or they end
+abbrev pub MissesOctet : ℕ → List ℕ → TextKind → Type 0
+MissesOctet wanted rest Grammar = (octet : ℕ) × (more : List ℕ) × (rest ≡ octet ∷ more) × (octet ≡ wanted → ⊥)
+MissesOctet wanted rest End = rest ≡ []
+MissesOctet wanted rest TooManyRuns = ⊥
+MissesOctet wanted rest NotOrdered = ⊥
+
+-- the octets go on as they don't behind a counted term
+abbrev pub MissesEnd : Bool → List ℕ → TextKind → Type 0
+MissesEnd dash rest Grammar = (octet : ℕ) × (more : List ℕ) × (rest ≡ octet ∷ more) × (IsCounted dash (octet ∷ []) → ⊥)
+MissesEnd dash rest End = ⊥
+MissesEnd dash rest TooManyRuns = ⊥
+MissesEnd dash rest NotOrdered = ⊥
+
 -- what ends a label: the end of the text, and where dash says so also a dash and another label
 abbrev pub EndsLabel : Bool → List ℕ → Type 0
 EndsLabel dash [] = Unit {0}
 EndsLabel dash (octet ∷ rest) = IsTrue dash × (octet ≡ 45) × (label : Label) × IsLabelText rest label
 
--- a term behind another
-abbrev pub comma_with : ℕ × ℕ → List ℕ
-comma_with term = 44 ∷ term_text term
+-- terms, the first behind the separator and each other behind a comma
+abbrev pub separated : ℕ → List (ℕ × ℕ) → List ℕ
+separated separator [] = []
+separated separator (term ∷ terms) = separator ∷ term_text term ++ separated 44 terms
 
 -- any number of further terms, and the label's end
 pub record MoreTerms (dash : Bool) (text : List ℕ) : Type 0 where
   pub terms : List (ℕ × ℕ)
   pub rest : List ℕ
   pub are : All IsTerm terms
-  pub is : text ≡ flat_map comma_with terms ++ rest
+  pub is : text ≡ separated 44 terms ++ rest
   pub ends : EndsLabel dash rest
 
 -- a term, and what may come behind it
@@ -76,9 +101,22 @@ pub record Terms (dash : Bool) (text : List ℕ) : Type 0 where
   pub is : text ≡ term_text term ++ more
   pub behind : MoreTerms dash more
 
+-- behind a term's first number: its last number, if that is greater, and what may come behind the term
+pub record BehindFirst (dash : Bool) (first : ℕ) (text : List ℕ) : Type 0 where
+  pub last : ℕ
+  pub more : List ℕ
+  pub order : first ≤ last
+  pub small : last < 65535
+  pub is : text ≡ last_text first last ++ more
+  pub behind : MoreTerms dash more
+
 -- behind a level a colon and terms, or the label's end
-abbrev pub MayHaveTerms : Bool → List ℕ → Type 0
-MayHaveTerms dash text = EndsLabel dash text ⊎ ((more : List ℕ) × (text ≡ 58 ∷ more) × Terms dash more)
+pub record BehindLevel (dash : Bool) (text : List ℕ) : Type 0 where
+  pub terms : List (ℕ × ℕ)
+  pub rest : List ℕ
+  pub are : All IsTerm terms
+  pub is : text ≡ separated 58 terms ++ rest
+  pub ends : EndsLabel dash rest
 
 -- a label, and its end
 pub record LabelOn (dash : Bool) (text : List ℕ) : Type 0 where
@@ -86,4 +124,10 @@ pub record LabelOn (dash : Bool) (text : List ℕ) : Type 0 where
   pub more : List ℕ
   pub small : level < 256
   pub is : text ≡ 115 ∷ decimal level ++ more
-  pub behind : MayHaveTerms dash more
+  pub behind : BehindLevel dash more
+
+-- a counted term stands there
+pub record ReadsTerm (dash : Bool) (text : List ℕ) (start first last end : ℕ) : Type 0 where
+  pub reads : Reads text start end (term_text (first, last))
+  pub is_term : IsTerm (first, last)
+  pub counts : IsCounted dash (drop end text)

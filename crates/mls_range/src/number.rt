@@ -2,7 +2,7 @@
 
 ghost use Rattle.std.specs.Prelude.{◌≡◌, ◌+◌, ◌*◌, ◌<◌, ◌≤◌, length, drop, MatchBool, IfOk, IfErr};
 ghost use Rattle.mls_range.specs.Number.{GoesOn, Reaches};
-ghost use Rattle.mls_range.specs.Rest.{FaultIn, IsNumber, ReadsNumber, StopsHere};
+ghost use Rattle.mls_range.specs.Rest.{FailsNumber, ReadsNumber, StopsHere};
 
 use crate::fault::{TextFault, TextKind};
 
@@ -61,7 +61,7 @@ pub(crate) fn read_number(text: &[u8], start: usize, low: u32, high: u32) -> Res
     requires order { low ≤ high }
     requires bound { high < 65536 }
     ensures ok { IfOk result (λ read. ReadsNumber text.now start low high read.0 read.1) }
-    ensures err { IfErr result (λ fault. FaultIn (IsNumber low high) text.now start fault) }
+    ensures err { IfErr result (λ fault. FailsNumber text.now start low high fault) }
 {
     let mut number = 0;
     let mut at = start;
