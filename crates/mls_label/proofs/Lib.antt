@@ -1,1 +1,3 @@
 pub mod Cats
+pub mod Runs
+pub mod Splice

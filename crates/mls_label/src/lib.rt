@@ -3,7 +3,9 @@
 #![tactic(auto)]
 
 mod cat_set;
+mod kept_runs;
 mod label;
+
 
 pub use cat_set::{CatSet, SetStop};
 pub use label::{Label, OutOfMemory, Tag};
