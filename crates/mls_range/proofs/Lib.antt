@@ -2,3 +2,4 @@ pub mod Digits
 pub mod Reading
 pub mod Numbers
 pub mod Rests
+pub mod TermRests

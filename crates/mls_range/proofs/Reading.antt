@@ -1,5 +1,6 @@
 -- Reading on in a text.
-use Rattle.std.proofs.Common.{◌≡◌, ℕ, zero, suc, ◌+◌, ◌-◌, ◌<◌, ◌≤◌, List, [], ◌∷◌, ◌++◌, length, get_or, take, drop, refl, sym, ap, subst, ◌∙◌, append_assoc, add-one, length-append, length-drop, drop-cons, arith}
+use Rattle.std.proofs.Common.{◌≡◌, ℕ, zero, suc, ◌+◌, ◌-◌, ◌<◌, ◌≤◌, List, [], ◌∷◌, ◌++◌, length, get_or, take, drop, refl, sym, ap, subst, ◌∙◌, append_assoc, add-one, length-append, length-drop, drop-cons, arith, inl, inr}
+use Rattle.std.proofs.lemmas.Bool.{cases_lt}
 use Rattle.std.proofs.lemmas.List.{append-nil, nil_from_length}
 use Rattle.mls_range.specs.Rest.{Reads}
 
@@ -30,3 +31,10 @@ reads_length text start end part r =
 -- nothing was read where the place is the same
 pub reads_nothing : (text : List ℕ) (at : ℕ) (part : List ℕ) → Reads text at at part → part ≡ []
 reads_nothing text at part r = nil_from_length part (omega (arith, reads_length text at at part r))
+
+pub first_is : (text : List ℕ) (at x : ℕ) (w : List ℕ) → drop at text ≡ x ∷ w → get_or text at 0 ≡ x
+first_is text at x w is =
+    elim (cases_lt at (length text)) [
+      | inl lt ↦ ap (λ l. get_or l 0 0) (sym (drop_at text at lt) ∙ is)
+      | inr le ↦ absurd (omega (arith, ap length (sym (drop_end text at le) ∙ is)))
+    ]

@@ -7,7 +7,8 @@ use Rattle.mls_range.specs.declared.fault.TextFault.{TextFault}
 use Rattle.mls_range.specs.declared.fault.TextKind.{TextKind}
 use Rattle.mls_range.specs.declared.fault.TextKind.TheVariants.{Grammar, End, TooManyRuns, NotOrdered}
 use Rattle.mls_range.specs.Number.{BeginsNumber, IsDigit, AllDigits}
-use Rattle.mls_range.specs.Rest.{Reads, FaultIn, FailsNumber, IsNumber, ReadsNumber, StopsHere, StopsIn}
+use Rattle.mls_range.specs.Rest.{Reads, FaultIn, FailsNumber, IsNumber, MissesEnd, MissesOctet, ReadsNumber, StopsIn}
+use Rattle.mls_range.specs.Crowd.{IsCounted}
 use Rattle.mls_range.proofs.Digits.{digits_of_decimal, digits_back, digits_front}
 use Rattle.mls_range.proofs.Reading.{reads_none, reads_on}
 
@@ -58,21 +59,29 @@ fault_goes L p R text start at fault reads g f =
     }
 
 -- a fault at this very place
-stops_now : (R : List ℕ → Type 0) (rest : List ℕ) (kind : TextKind) → StopsHere rest kind → ((x : ℕ) (w t : List ℕ) → rest ≡ x ∷ w → R (x ∷ t) → ⊥) → (rest ≡ [] → R [] → ⊥) → StopsIn R [] rest kind
-stops_now R rest Grammar here other ended = (here.0, here.1, here.2, λ end r. other here.0 here.1 end here.2 r)
-stops_now R rest End here other ended = (here, λ r. ended here r)
-stops_now R rest TooManyRuns here other ended = here
-stops_now R rest NotOrdered here other ended = here
-
-pub fault_now : (R : List ℕ → Type 0) (text : List ℕ) (at : ℕ) (fault : TextFault) (some : List ℕ) → at ≤ length text → fault.octet ≡ at → StopsHere (drop at text) fault.kind → R some → ((x : ℕ) (w t : List ℕ) → drop at text ≡ x ∷ w → R (x ∷ t) → ⊥) → (drop at text ≡ [] → R [] → ⊥) → FaultIn R text at fault
-fault_now R text at fault some within place here member other ended =
+pub fault_now : (R : List ℕ → Type 0) (text : List ℕ) (at : ℕ) (fault : TextFault) (some : List ℕ) → at ≤ length text → fault.octet ≡ at → R some → StopsIn R [] (drop at text) fault.kind → FaultIn R text at fault
+fault_now R text at fault some within place member stops =
     record {
       part = [];
       reads = subst (λ k. Reads text at k []) (sym place) (reads_none text at within);
       more = some;
       front = member;
-      stops = subst (λ k. StopsIn R [] (drop k text) fault.kind) (sym place) (stops_now R (drop at text) fault.kind here other ended);
+      stops = subst (λ k. StopsIn R [] (drop k text) fault.kind) (sym place) stops;
     }
+
+-- another octet stands there than the one that has to
+pub stops_octet : (R : List ℕ → Type 0) (wanted : ℕ) (rest : List ℕ) (kind : TextKind) → MissesOctet wanted rest kind → ((x : ℕ) (t : List ℕ) → R (x ∷ t) → x ≡ wanted) → (R [] → ⊥) → StopsIn R [] rest kind
+stops_octet R wanted rest Grammar m only some = (m.0, m.1, m.2, λ end r. m.3 (only m.0 end r))
+stops_octet R wanted rest End m only some = (m, some)
+stops_octet R wanted rest TooManyRuns m only some = m
+stops_octet R wanted rest NotOrdered m only some = m
+
+-- an octet that can't stand behind a counted term
+pub stops_end : (R : List ℕ → Type 0) (dash : Bool) (rest : List ℕ) (kind : TextKind) → MissesEnd dash rest kind → ((x : ℕ) (w t : List ℕ) → rest ≡ x ∷ w → R (x ∷ t) → IsCounted dash (x ∷ [])) → StopsIn R [] rest kind
+stops_end R dash rest Grammar m only = (m.0, m.1, m.2, λ end r. m.3 (only m.0 m.1 end m.2 r))
+stops_end R dash rest End m only = absurd m
+stops_end R dash rest TooManyRuns m only = m
+stops_end R dash rest NotOrdered m only = m
 
 -- ---- a number, and what comes behind it
 

@@ -126,6 +126,13 @@ pub record LabelOn (dash : Bool) (text : List ℕ) : Type 0 where
   pub is : text ≡ 115 ∷ decimal level ++ more
   pub behind : BehindLevel dash more
 
+-- the rest of a counted term stands there
+pub record ReadsLast (dash : Bool) (text : List ℕ) (start first last end : ℕ) : Type 0 where
+  pub reads : Reads text start end (last_text first last)
+  pub order : first ≤ last
+  pub small : last < 65535
+  pub counts : IsCounted dash (drop end text)
+
 -- a counted term stands there
 pub record ReadsTerm (dash : Bool) (text : List ℕ) (start first last end : ℕ) : Type 0 where
   pub reads : Reads text start end (term_text (first, last))

@@ -3,5 +3,7 @@
 
 mod fault;
 mod number;
+mod octet;
+mod terms;
 
 pub use fault::{TextFault, TextKind, TextStop};

@@ -1,10 +1,11 @@
 //! Decimal numbers with bounds, read from the left up to the first octet that can't belong to them.
 
-ghost use Rattle.std.specs.Prelude.{◌≡◌, ◌+◌, ◌*◌, ◌<◌, ◌≤◌, length, drop, MatchBool, IfOk, IfErr};
+ghost use Rattle.std.specs.Prelude.{◌≡◌, ◌+◌, ◌*◌, ◌<◌, ◌≤◌, length, MatchBool, IfOk, IfErr};
 ghost use Rattle.mls_range.specs.Number.{GoesOn, Reaches};
-ghost use Rattle.mls_range.specs.Rest.{FailsNumber, ReadsNumber, StopsHere};
+ghost use Rattle.mls_range.specs.Rest.{FailsNumber, ReadsNumber};
 
-use crate::fault::{TextFault, TextKind};
+use crate::fault::TextFault;
+use crate::octet::fault_at;
 
 /// Whether some digits behind `start` make a number from `low` to `high`.
 fn reaches(start: u32, low: u32, high: u32) -> bool
@@ -39,20 +40,6 @@ fn goes_on(count: usize, number: u32, octet: u8, low: u32, high: u32) -> bool
         number == 0
     };
     octet.is_ascii_digit() && !is_led_by_zero && reaches(10 * number + u32::from(octet - b'0'), low, high)
-}
-
-/// The fault of a text that doesn't go on as it should at a place.
-pub(crate) fn fault_at(text: &[u8], octet: usize) -> TextFault
-    requires { octet ≤ length text.now }
-    ensures place { result.octet ≡ octet }
-    ensures kind { StopsHere (drop octet text.now) result.kind }
-{
-    let kind = if octet == text.len() {
-        TextKind::End
-    } else {
-        TextKind::Grammar
-    };
-    TextFault { octet, kind }
 }
 
 /// Reads the longest number from `low` to `high` that begins at `start`, and gives it with its end.

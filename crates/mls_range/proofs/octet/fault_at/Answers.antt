@@ -1,6 +1,6 @@
 use Rattle.std.proofs.Common.{get_or, drop, ◌+◌, arith}
 use Rattle.mls_range.proofs.Reading.{drop_at}
-use Rattle.mls_range.proofs.number.fault_at.Goals as goal
+use Rattle.mls_range.proofs.octet.fault_at.Goals as goal
 
 pub returns-else-octet-text-clause-kind : goal.returns-else-octet-text-clause-kind
 returns-else-octet-text-clause-kind c =
