@@ -32,12 +32,12 @@ numbers_join c (r ∷ runs) o =
     elim (cases_eq r.0 (c + 1)) [
       | inl e ↦ rw (eq-eqb r.0 (c + 1) e) (
         (let n : r.1 + 1 - c ≡ suc (r.1 + 1 - r.0) = omega (arith, o.0) in
-         ap (λ n. range_with_len c n ++ numbers_of runs) n ∙ ap (λ a. c ∷ (range_with_len a (r.1 + 1 - r.0) ++ numbers_of runs)) (sym e)),
+            ap (λ n. range_with_len c n ++ numbers_of runs) n ∙ ap (λ a. c ∷ (range_with_len a (r.1 + 1 - r.0) ++ numbers_of runs)) (sym e)),
         (omega (arith, o.0), o.1),
       )
       | inr ne ↦ rw (ne_eqb r.0 (c + 1) ne) (
         (let n : c + 1 - c ≡ 1 = omega arith in
-         ap (λ n. range_with_len c n ++ numbers_of (r ∷ runs)) n),
+            ap (λ n. range_with_len c n ++ numbers_of (r ∷ runs)) n),
         (omega arith, o),
       )
     ]

@@ -183,8 +183,8 @@ place_after runs run start end place =
 place_touches : (runs : List Run) (run : Run) (start end : ℕ) → AreApart 0 runs → IsPlace runs run start end → Each (Touches run) (slice_range runs start end)
 place_touches runs run start end a place =
     each_between (Touches run) runs start end place.within (λ k d lo hi.
-        let at = apart_at 0 runs k d a (omega (arith, place.within)) in
-        (place.reached k d (omega arith) hi, place.met k d lo (omega (arith, place.within)), at.1))
+    let at = apart_at 0 runs k d a (omega (arith, place.within)) in
+    (place.reached k d (omega arith) hi, place.met k d lo (omega (arith, place.within)), at.1))
 
 pub joined_apart : (runs : List Run) (run : Run) (start end : ℕ) → AreApart 0 runs → run.first ≤ run.last → run.last < 65535 → IsPlace runs run start end → AreApart 0 (joined runs run start end)
 joined_apart runs run start end a o lt place =

@@ -2,8 +2,8 @@
 
 ghost use Rattle.std.specs.Prelude.{◌≡◌, ◌+◌, ◌<◌, ◌≤◌, List, [], ◌∷◌, length, fold, vec_len, OnOk, OnErr, IsErrOf};
 ghost use Rattle.std.specs.List.{AllWithin, splice};
-ghost use Rattle.std.specs.Prelude.{◌||◌};
-ghost use Rattle.mls_label.specs.Cats.{has, is_within, cats_where};
+ghost use Rattle.std.specs.Prelude.{ℕ, ◌||◌, ◌↔◌, IsTrue, MatchOption};
+ghost use Rattle.mls_label.specs.Cats.{has, is_within, cats_where, IsSubset};
 ghost use Rattle.mls_label.specs.Runs.{runs_of};
 ghost use Rattle.mls_label.specs.Kept.{cats_of, AreApart, IsKept, IsPlace, hull};
 
@@ -33,10 +33,13 @@ pub fn begin_by(runs: &[Run], bound: u16) -> usize
 fn hull_with(runs: &[Run], run: Run) -> Run
     ensures { result ≡ fold hull run runs.now }
 {
-    runs.iter().fold(run, |hull, next| Run {
-        first: hull.first.min(next.first),
-        last: hull.last.max(next.last),
-    })
+    runs.iter().fold(
+        run,
+        |hull, next| Run {
+            first: hull.first.min(next.first),
+            last: hull.last.max(next.last),
+        },
+    )
 }
 
 /// Where the run belongs: it touches those from the first of the two places to the second.
@@ -102,4 +105,56 @@ fn replace(runs: &mut Vec<Run>, start: usize, end: usize, run: Run)
     runs[start] = run;
     runs.copy_within(end.., start + 1);
     runs.truncate(left);
+}
+
+/// Whether a category is in one of the runs.
+pub fn holds(runs: &[Run], c: u16) -> bool
+    requires { AreApart 0 runs.now }
+    ensures { result ≡ has (cats_of runs.now) c }
+{
+    let place = end_below(runs, c);
+    place < runs.len() && runs[place].first <= c
+}
+
+/// Whether each category of the inner runs is one of the outer. It walks both lists once.
+pub fn is_inside(mut inner: &[Run], mut outer: &[Run]) -> bool
+    requires inner_apart { AreApart 0 inner.now }
+    requires outer_apart { AreApart 0 outer.now }
+    ensures { IsTrue result ↔ IsSubset (cats_of inner.now) (cats_of outer.now) }
+{
+    while let [run, rest @ ..] = inner {
+        let [cover, covers @ ..] = outer else {
+            return false;
+        };
+        if cover.last < run.first {
+            outer = covers;
+        } else if cover.first <= run.first && run.last <= cover.last {
+            inner = rest;
+        } else {
+            return false;
+        }
+    }
+    true
+}
+
+/// How many categories the runs have.
+pub fn count_of(runs: &[Run]) -> u32
+    requires { AreApart 0 runs.now }
+    ensures { result ≡ length (cats_of runs.now) }
+{
+    let mut count = 0;
+    for run in runs {
+        count += u32::from(run.last - run.first) + 1;
+    }
+    count
+}
+
+/// The last category of the last run.
+pub fn highest_of(runs: &[Run]) -> Option<u16>
+    requires { AreApart 0 runs.now }
+    ensures { MatchOption result (cats_of runs.now ≡ []) (λ c. IsTrue (has (cats_of runs.now) c)
+        × ((d : ℕ) → IsTrue (has (cats_of runs.now) d) → d ≤ c)) }
+{
+    let run = runs.last()?;
+    Some(run.last)
 }

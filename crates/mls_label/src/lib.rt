@@ -6,7 +6,6 @@ mod cat_set;
 mod kept_runs;
 mod label;
 
-
 pub use cat_set::{CatSet, SetStop};
 pub use label::{Label, OutOfMemory, Tag};
 pub use octet_grammar::{WireFault, WireKind, WireStop};

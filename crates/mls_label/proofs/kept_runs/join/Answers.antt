@@ -46,7 +46,7 @@ returns-clause-too_many c =
     let len : length (runs_of (cats_where (λ k. has (cats_of runs) k || is_within run.first run.last k))) ≡ length (joined runs run start end) =
     ap (λ s. length (runs_of s)) (sym cats) ∙ length-runs_of 0 (joined runs run start end) apart in
     λ e.
-        let full = c.put.ensures.too_many e in
-        let same : length (joined runs run start end) ≡ length (joined runs run start start) = ap (λ t. length (joined runs run start t)) (sym full.0) in
-        let more : length (joined runs run start start) ≡ length runs + 1 = joined_more runs run start (omega (arith, (place c).order, (place c).within)) in
-        omega (arith, len, same, more, full.1, c.args.runs.now.ok.0)
+    let full = c.put.ensures.too_many e in
+    let same : length (joined runs run start end) ≡ length (joined runs run start start) = ap (λ t. length (joined runs run start t)) (sym full.0) in
+    let more : length (joined runs run start start) ≡ length runs + 1 = joined_more runs run start (omega (arith, (place c).order, (place c).within)) in
+    omega (arith, len, same, more, full.1, c.args.runs.now.ok.0)
