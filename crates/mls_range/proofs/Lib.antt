@@ -3,3 +3,4 @@ pub mod Reading
 pub mod Numbers
 pub mod Rests
 pub mod TermRests
+pub mod Written

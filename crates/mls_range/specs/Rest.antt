@@ -138,3 +138,8 @@ pub record ReadsTerm (dash : Bool) (text : List ℕ) (start first last end : ℕ
   pub reads : Reads text start end (term_text (first, last))
   pub is_term : IsTerm (first, last)
   pub counts : IsCounted dash (drop end text)
+
+-- what stood there stands there still, with more behind it
+pub record Extends (old new : List ℕ) : Type 0 where
+  pub more : List ℕ
+  pub is : new ≡ old ++ more

@@ -5,5 +5,7 @@ mod fault;
 mod number;
 mod octet;
 mod terms;
+mod writing;
 
 pub use fault::{TextFault, TextKind, TextStop};
+pub use writing::write_label;
