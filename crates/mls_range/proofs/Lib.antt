@@ -4,3 +4,5 @@ pub mod Numbers
 pub mod Rests
 pub mod TermRests
 pub mod Written
+pub mod TermLists
+pub mod Crowds

@@ -1,17 +1,15 @@
 -- What may come within a term and behind it.
 use Rattle.std.proofs.Common.{◌≡◌, ℕ, zero, suc, ◌+◌, ◌-◌, ◌*◌, ◌^◌, ◌<◌, ◌≤◌, Bool, true, false, cond, nat_eq, List, [], ◌∷◌, ◌++◌, length, get_or, take, drop, refl, sym, ap, subst, ◌∙◌, append_assoc, arith, inl, inr, ◌⊎◌}
 use Rattle.std.specs.Fmt.{decimal}
-use Rattle.std.specs.List.{All}
 use Rattle.std.proofs.lemmas.Bool.{cases_lt, cases_eq, eq-eqb, ne_eqb}
 use Rattle.std.proofs.lemmas.List.{append-nil}
-use Rattle.std.proofs.lemmas.List.Elements.{All-nil}
 use Rattle.mls_range.specs.declared.fault.TextFault.{TextFault}
 use Rattle.mls_range.specs.declared.fault.TextKind.{TextKind}
 use Rattle.mls_range.specs.declared.fault.TextKind.TheVariants.{Grammar, End, TooManyRuns, NotOrdered}
 use Rattle.mls_range.specs.LabelText.{IsTerm, term_text}
 use Rattle.mls_range.specs.Crowd.{IsCounted}
 use Rattle.mls_range.specs.Number.{IsDigit}
-use Rattle.mls_range.specs.Rest.{Reads, ReadsNumber, FaultIn, MissesOctet, MissesEnd, EndsLabel, separated, MoreTerms, Terms, BehindFirst, last_text}
+use Rattle.mls_range.specs.Rest.{Reads, ReadsNumber, FaultIn, MissesOctet, MissesEnd, TermOn, BehindFirst, last_text}
 use Rattle.mls_range.proofs.Reading.{first_is}
 use Rattle.mls_range.proofs.Rests.{Goes, goes_octet, goes_number, NumberThen, IsApart, fault_goes, fault_now, number_then, stops_octet, stops_end}
 
@@ -37,19 +35,6 @@ term_text_is m n =
 
 -- ---- what a rest begins with
 
-pub ends_first : (dash : Bool) (x : ℕ) (t : List ℕ) → EndsLabel dash (x ∷ t) → IsCounted dash (x ∷ [])
-ends_first dash x t e = inr (e.0, e.1)
-
-more_first_of : (dash : Bool) (x : ℕ) (t rest : List ℕ) (terms : List (ℕ × ℕ)) → x ∷ t ≡ separated 44 terms ++ rest → EndsLabel dash rest → IsCounted dash (x ∷ [])
-more_first_of dash x t rest [] e ends = ends_first dash x t (subst (EndsLabel dash) (sym e) ends)
-more_first_of dash x t rest (u ∷ us) e ends = inl cc
-
-pub more_first : (dash : Bool) (x : ℕ) (t : List ℕ) → MoreTerms dash (x ∷ t) → IsCounted dash (x ∷ [])
-more_first dash x t m = more_first_of dash x t m.rest m.terms m.is m.ends
-
-pub more_none : (dash : Bool) → MoreTerms dash []
-more_none dash = record { terms = []; rest = []; are = All-nil IsTerm; is = refl; ends = tt }
-
 pub counted_digit : (dash : Bool) (x : ℕ) → IsCounted dash (x ∷ []) → IsDigit x → ⊥
 counted_digit dash x (inl e) d = omega (arith, d.0)
 counted_digit dash x (inr e) d = omega (arith, d.0, e.1)
@@ -58,26 +43,26 @@ pub counted_dot : (dash : Bool) (x : ℕ) → IsCounted dash (x ∷ []) → x �
 counted_dot dash x (inl e) d = omega arith
 counted_dot dash x (inr e) d = omega (arith, e.1)
 
-pub more_apart : (dash : Bool) → IsApart (λ n. MoreTerms dash)
-more_apart dash n x t m d = counted_digit dash x (more_first dash x t m) d
+pub counted_apart : (dash : Bool) → IsApart (λ n. IsCounted dash)
+counted_apart dash n x t m d = counted_digit dash x m d
 
-behind_cases : (dash : Bool) (m n : ℕ) (text more : List ℕ) → m ≤ n → n < 65535 → text ≡ last_text m n ++ more → MoreTerms dash more → MoreTerms dash text ⊎ ((m < n) × (text ≡ 46 ∷ 99 ∷ (decimal n ++ more)))
+behind_cases : (dash : Bool) (m n : ℕ) (text more : List ℕ) → m ≤ n → n < 65535 → text ≡ last_text m n ++ more → IsCounted dash more → IsCounted dash text ⊎ ((m < n) × (text ≡ 46 ∷ 99 ∷ (decimal n ++ more)))
 behind_cases dash m n text more order small is behind =
     elim (cases_lt m n) [
       | inl lt ↦ inr (lt, is ∙ ap (λ x. x ++ more) (last_some m n lt))
       | inr le ↦
           let same : n ≡ m = omega arith in
           let none : text ≡ more = is ∙ ap (λ k. last_text m k ++ more) same ∙ ap (λ x. x ++ more) (last_none m) in
-          inl (subst (MoreTerms dash) (sym none) behind)
+          inl (subst (IsCounted dash) (sym none) behind)
     ]
 
-pub behind_first : (dash : Bool) (m : ℕ) (text : List ℕ) → (b : BehindFirst dash m text) → MoreTerms dash text ⊎ ((m < b.last) × (text ≡ 46 ∷ 99 ∷ (decimal b.last ++ b.more)))
-behind_first dash m text b = behind_cases dash m b.last text b.more b.order b.small b.is b.behind
+pub behind_first : (dash : Bool) (m : ℕ) (text : List ℕ) → (b : BehindFirst dash m text) → IsCounted dash text ⊎ ((m < b.last) × (text ≡ 46 ∷ 99 ∷ (decimal b.last ++ b.more)))
+behind_first dash m text b = behind_cases dash m b.last text b.more b.order b.small b.is b.counts
 
 pub behind_octet : (dash : Bool) (m x : ℕ) (t : List ℕ) → BehindFirst dash m (x ∷ t) → IsCounted dash (x ∷ []) ⊎ ((x ≡ 46) × (m < 65534))
 behind_octet dash m x t b =
     elim (behind_first dash m (x ∷ t) b) [
-      | inl more ↦ inl (more_first dash x t more)
+      | inl more ↦ inl more
       | inr dot ↦ inr (cc (dot.1), omega (arith, dot.0, b.small))
     ]
 
@@ -90,23 +75,23 @@ behind_apart dash m x t b d =
 
 pub behind_none : (dash : Bool) (m : ℕ) → m < 65535 → BehindFirst dash m []
 behind_none dash m lt =
-    record { last = m; more = []; order = omega arith; small = lt; is = sym (ap (λ x. x ++ []) (last_none m)); behind = more_none dash }
+    record { last = m; more = []; order = omega arith; small = lt; is = sym (ap (λ x. x ++ []) (last_none m)); counts = tt }
 
 -- ---- from one part to the next
 
-pub terms_first : (dash : Bool) (x : ℕ) (t : List ℕ) → Terms dash (x ∷ t) → x ≡ 99
+pub terms_first : (dash : Bool) (x : ℕ) (t : List ℕ) → TermOn dash (x ∷ t) → x ≡ 99
 terms_first dash x t w =
     let e : x ∷ t ≡ 99 ∷ ((decimal w.term.0 ++ last_text w.term.0 w.term.1) ++ w.more) = w.is ∙ ap (λ x. x ++ w.more) (term_text_is w.term.0 w.term.1) in
     cc
 
-pub terms_some : (dash : Bool) (t : List ℕ) → Terms dash t → t ≡ [] → ⊥
+pub terms_some : (dash : Bool) (t : List ℕ) → TermOn dash t → t ≡ [] → ⊥
 terms_some dash t w e =
     let q : [] ≡ 99 ∷ ((decimal w.term.0 ++ last_text w.term.0 w.term.1) ++ w.more) = sym e ∙ w.is ∙ ap (λ x. x ++ w.more) (term_text_is w.term.0 w.term.1) in
     cc
 
-pub goes_letter : (dash : Bool) (s : List ℕ) → Goes (Terms dash) (99 ∷ []) s (NumberThen 0 65534 (BehindFirst dash))
+pub goes_letter : (dash : Bool) (s : List ℕ) → Goes (TermOn dash) (99 ∷ []) s (NumberThen 0 65534 (BehindFirst dash))
 goes_letter dash s =
-    goes_octet 99 s (Terms dash) (NumberThen 0 65534 (BehindFirst dash)) (λ t w.
+    goes_octet 99 s (TermOn dash) (NumberThen 0 65534 (BehindFirst dash)) (λ t w.
         let m = w.term.0 in
         let n = w.term.1 in
         let e : 99 ∷ t ≡ 99 ∷ ((decimal m ++ last_text m n) ++ w.more) = w.is ∙ ap (λ x. x ++ w.more) (term_text_is m n) in
@@ -117,7 +102,7 @@ goes_letter dash s =
           is = q ∙ append_assoc (decimal m) (last_text m n) w.more;
           above = omega arith;
           below = omega (arith, w.is_term);
-          behind = record { last = n; more = w.more; order = w.is_term.0; small = w.is_term.1; is = refl; behind = w.behind };
+          behind = record { last = n; more = w.more; order = w.is_term.0; small = w.is_term.1; is = refl; counts = w.counts };
         }) (λ t n.
         let b = n.behind in
         let e : t ≡ (decimal n.number ++ last_text n.number b.last) ++ b.more =
@@ -127,7 +112,7 @@ goes_letter dash s =
           more = b.more;
           is_term = (b.order, b.small);
           is = ap (λ x. 99 ∷ x) e ∙ ap (λ x. x ++ b.more) (sym (term_text_is n.number b.last));
-          behind = b.behind;
+          counts = b.counts;
         })
 
 -- behind the dot of a term
@@ -137,16 +122,16 @@ pub record BehindDot (dash : Bool) (m : ℕ) (text : List ℕ) : Type 0 where
   pub order : m < last
   pub small : last < 65535
   pub is : text ≡ 99 ∷ (decimal last ++ more)
-  pub behind : MoreTerms dash more
+  pub counts : IsCounted dash more
 
 pub goes_dot : (dash : Bool) (m : ℕ) (s : List ℕ) → Goes (BehindFirst dash m) (46 ∷ []) s (BehindDot dash m)
 goes_dot dash m s =
     goes_octet 46 s (BehindFirst dash m) (BehindDot dash m) (λ t b.
         elim (behind_first dash m (46 ∷ t) b) [
-          | inl more ↦ absurd (counted_dot dash 46 (more_first dash 46 t more) refl)
+          | inl more ↦ absurd (counted_dot dash 46 more refl)
           | inr dot ↦
               let e : t ≡ 99 ∷ (decimal b.last ++ b.more) = cc (dot.1) in
-              record { last = b.last; more = b.more; order = dot.0; small = b.small; is = e; behind = b.behind }
+              record { last = b.last; more = b.more; order = dot.0; small = b.small; is = e; counts = b.counts }
         ]) (λ t d.
         record {
           last = d.last;
@@ -154,7 +139,7 @@ goes_dot dash m s =
           order = omega (arith, d.order);
           small = d.small;
           is = ap (λ x. 46 ∷ x) d.is ∙ ap (λ x. x ++ d.more) (sym (last_some m d.last d.order));
-          behind = d.behind;
+          counts = d.counts;
         })
 
 pub dot_first : (dash : Bool) (m x : ℕ) (t : List ℕ) → BehindDot dash m (x ∷ t) → x ≡ 99
@@ -163,15 +148,15 @@ dot_first dash m x t d = let e = d.is in cc
 pub dot_none : (dash : Bool) (m : ℕ) → BehindDot dash m [] → ⊥
 dot_none dash m d = let e = d.is in cc
 
-pub goes_second : (dash : Bool) (m : ℕ) (s : List ℕ) → Goes (BehindDot dash m) (99 ∷ []) s (NumberThen (m + 1) 65534 (λ n. MoreTerms dash))
+pub goes_second : (dash : Bool) (m : ℕ) (s : List ℕ) → Goes (BehindDot dash m) (99 ∷ []) s (NumberThen (m + 1) 65534 (λ n. IsCounted dash))
 goes_second dash m s =
-    goes_octet 99 s (BehindDot dash m) (NumberThen (m + 1) 65534 (λ n. MoreTerms dash)) (λ t d.
+    goes_octet 99 s (BehindDot dash m) (NumberThen (m + 1) 65534 (λ n. IsCounted dash)) (λ t d.
         let e = d.is in
-        record { number = d.last; more = d.more; is = cc; above = omega (arith, d.order); below = omega (arith, d.small); behind = d.behind }) (λ t n.
-        record { last = n.number; more = n.more; order = omega (arith, n.above); small = omega (arith, n.below); is = ap (λ x. 99 ∷ x) n.is; behind = n.behind })
+        record { number = d.last; more = d.more; is = cc; above = omega (arith, d.order); below = omega (arith, d.small); behind = d.counts }) (λ t n.
+        record { last = n.number; more = n.more; order = omega (arith, n.above); small = omega (arith, n.below); is = ap (λ x. 99 ∷ x) n.is; counts = n.behind })
 
 pub dot_some : (dash : Bool) (m : ℕ) → m < 65534 → BehindDot dash m (99 ∷ (decimal 65534 ++ []))
-dot_some dash m lt = record { last = 65534; more = []; order = lt; small = omega arith; is = refl; behind = more_none dash }
+dot_some dash m lt = record { last = 65534; more = []; order = lt; small = omega arith; is = refl; counts = tt }
 
 -- ---- faults within a term
 
@@ -179,13 +164,13 @@ pub fault_dot : (dash : Bool) (m : ℕ) (text : List ℕ) (start at : ℕ) (faul
 fault_dot dash m text start at fault reads f =
     fault_goes (BehindFirst dash m) (46 ∷ []) (BehindDot dash m) text start at fault reads (goes_dot dash m (drop at text)) f
 
-pub fault_second : (dash : Bool) (m : ℕ) (text : List ℕ) (start at : ℕ) (fault : TextFault) → Reads text start at (99 ∷ []) → FaultIn (NumberThen (m + 1) 65534 (λ n. MoreTerms dash)) text at fault → FaultIn (BehindDot dash m) text start fault
+pub fault_second : (dash : Bool) (m : ℕ) (text : List ℕ) (start at : ℕ) (fault : TextFault) → Reads text start at (99 ∷ []) → FaultIn (NumberThen (m + 1) 65534 (λ n. IsCounted dash)) text at fault → FaultIn (BehindDot dash m) text start fault
 fault_second dash m text start at fault reads f =
-    fault_goes (BehindDot dash m) (99 ∷ []) (NumberThen (m + 1) 65534 (λ n. MoreTerms dash)) text start at fault reads (goes_second dash m (drop at text)) f
+    fault_goes (BehindDot dash m) (99 ∷ []) (NumberThen (m + 1) 65534 (λ n. IsCounted dash)) text start at fault reads (goes_second dash m (drop at text)) f
 
-pub fault_letter : (dash : Bool) (text : List ℕ) (start at : ℕ) (fault : TextFault) → Reads text start at (99 ∷ []) → FaultIn (NumberThen 0 65534 (BehindFirst dash)) text at fault → FaultIn (Terms dash) text start fault
+pub fault_letter : (dash : Bool) (text : List ℕ) (start at : ℕ) (fault : TextFault) → Reads text start at (99 ∷ []) → FaultIn (NumberThen 0 65534 (BehindFirst dash)) text at fault → FaultIn (TermOn dash) text start fault
 fault_letter dash text start at fault reads f =
-    fault_goes (Terms dash) (99 ∷ []) (NumberThen 0 65534 (BehindFirst dash)) text start at fault reads (goes_letter dash (drop at text)) f
+    fault_goes (TermOn dash) (99 ∷ []) (NumberThen 0 65534 (BehindFirst dash)) text start at fault reads (goes_letter dash (drop at text)) f
 
 -- behind a number
 pub fault_number : (low high n : ℕ) (Q : ℕ → List ℕ → Type 0) (text : List ℕ) (start at : ℕ) (fault : TextFault) → high < 65536 → IsApart Q → ReadsNumber text start low high n at → FaultIn (Q n) text at fault → FaultIn (NumberThen low high Q) text start fault
@@ -204,17 +189,17 @@ fault_undotted dash m text at fault within small place misses undotted =
           ])
         ]))
 
-pub fault_behind : (dash : Bool) (text : List ℕ) (at : ℕ) (fault : TextFault) → at ≤ length text → fault.octet ≡ at → MissesEnd dash (drop at text) fault.kind → FaultIn (MoreTerms dash) text at fault
+pub fault_behind : (dash : Bool) (text : List ℕ) (at : ℕ) (fault : TextFault) → at ≤ length text → fault.octet ≡ at → MissesEnd dash (drop at text) fault.kind → FaultIn (IsCounted dash) text at fault
 fault_behind dash text at fault within place misses =
-    fault_now (MoreTerms dash) text at fault [] within place (more_none dash) (stops_end (MoreTerms dash) dash (drop at text) fault.kind misses (λ x w t is more. more_first dash x t more))
+    fault_now (IsCounted dash) text at fault [] within place (tt) (stops_end (IsCounted dash) dash (drop at text) fault.kind misses (λ x w t is more. more))
 
 pub fault_no_letter : (dash : Bool) (m : ℕ) (text : List ℕ) (at : ℕ) (fault : TextFault) → at ≤ length text → m < 65534 → fault.octet ≡ at → MissesOctet 99 (drop at text) fault.kind → FaultIn (BehindDot dash m) text at fault
 fault_no_letter dash m text at fault within small place misses =
     fault_now (BehindDot dash m) text at fault (99 ∷ (decimal 65534 ++ [])) within place (dot_some dash m small) (stops_octet (BehindDot dash m) 99 (drop at text) fault.kind misses (dot_first dash m) (dot_none dash m))
 
-pub terms_one : (dash : Bool) → Terms dash (term_text (0, 0) ++ [])
-terms_one dash = record { term = (0, 0); more = []; is_term = (omega arith, omega arith); is = refl; behind = more_none dash }
+pub terms_one : (dash : Bool) → TermOn dash (term_text (0, 0) ++ [])
+terms_one dash = record { term = (0, 0); more = []; is_term = (omega arith, omega arith); is = refl; counts = tt }
 
-pub fault_no_term : (dash : Bool) (text : List ℕ) (at : ℕ) (fault : TextFault) → at ≤ length text → fault.octet ≡ at → MissesOctet 99 (drop at text) fault.kind → FaultIn (Terms dash) text at fault
+pub fault_no_term : (dash : Bool) (text : List ℕ) (at : ℕ) (fault : TextFault) → at ≤ length text → fault.octet ≡ at → MissesOctet 99 (drop at text) fault.kind → FaultIn (TermOn dash) text at fault
 fault_no_term dash text at fault within place misses =
-    fault_now (Terms dash) text at fault (term_text (0, 0) ++ []) within place (terms_one dash) (stops_octet (Terms dash) 99 (drop at text) fault.kind misses (terms_first dash) (λ w. terms_some dash [] w refl))
+    fault_now (TermOn dash) text at fault (term_text (0, 0) ++ []) within place (terms_one dash) (stops_octet (TermOn dash) 99 (drop at text) fault.kind misses (terms_first dash) (λ w. terms_some dash [] w refl))

@@ -1,13 +1,17 @@
 -- What the parts of the reader say of the text from a place on.
-use Rattle.std.specs.Prelude.{◌≡◌, ℕ, ◌+◌, ◌<◌, ◌≤◌, Bool, List, [], ◌∷◌, ◌++◌, length, drop, IsTrue, ◌⊎◌, ◌==◌, if◌then◌else◌}
+use Rattle.std.specs.Prelude.{◌≡◌, ℕ, ◌+◌, ◌<◌, ◌≤◌, Bool, List, [], ◌∷◌, ◌++◌, length, drop, IsTrue, ◌⊎◌, ◌||◌, ◌==◌, if◌then◌else◌}
 use Rattle.std.specs.Fmt.{decimal}
 use Rattle.std.specs.List.{All}
 use Rattle.mls_label.specs.declared.label.Label.{Label}
 use Rattle.mls_range.specs.declared.fault.TextFault.{TextFault}
+use Rattle.mls_label.specs.Cats.{has, cats_where, is_within}
+use Rattle.mls_label.specs.Runs.{runs_of}
+use Rattle.mls_range.specs.declared.fault.TextStop.{TextStop}
+use Rattle.mls_range.specs.declared.fault.TextStop.TheVariants.{Fault, OutOfMemory}
 use Rattle.mls_range.specs.declared.fault.TextKind.{TextKind}
 use Rattle.mls_range.specs.declared.fault.TextKind.TheVariants.{Grammar, End, TooManyRuns, NotOrdered}
-use Rattle.mls_range.specs.LabelText.{IsTerm, term_text, IsLabelText}
-use Rattle.mls_range.specs.Crowd.{IsCounted}
+use Rattle.mls_range.specs.LabelText.{IsTerm, term_text, cats_of_terms, IsLabelText}
+use Rattle.mls_range.specs.Crowd.{IsCounted, CrowdsTerms}
 use Rattle.mls_range.specs.Number.{BeginsNumber}
 
 -- from start to end the text reads part
@@ -101,14 +105,22 @@ pub record Terms (dash : Bool) (text : List ℕ) : Type 0 where
   pub is : text ≡ term_text term ++ more
   pub behind : MoreTerms dash more
 
--- behind a term's first number: its last number, if that is greater, and what may come behind the term
+-- a counted term, and anything behind it
+pub record TermOn (dash : Bool) (text : List ℕ) : Type 0 where
+  pub term : ℕ × ℕ
+  pub more : List ℕ
+  pub is_term : IsTerm term
+  pub is : text ≡ term_text term ++ more
+  pub counts : IsCounted dash more
+
+-- the same from behind the term's first number
 pub record BehindFirst (dash : Bool) (first : ℕ) (text : List ℕ) : Type 0 where
   pub last : ℕ
   pub more : List ℕ
   pub order : first ≤ last
   pub small : last < 65535
   pub is : text ≡ last_text first last ++ more
-  pub behind : MoreTerms dash more
+  pub counts : IsCounted dash more
 
 -- behind a level a colon and terms, or the label's end
 pub record BehindLevel (dash : Bool) (text : List ℕ) : Type 0 where
@@ -138,6 +150,39 @@ pub record ReadsTerm (dash : Bool) (text : List ℕ) (start first last end : ℕ
   pub reads : Reads text start end (term_text (first, last))
   pub is_term : IsTerm (first, last)
   pub counts : IsCounted dash (drop end text)
+
+-- where terms end: the text's end, or, where dash says so, a dash
+abbrev pub IsTermsEnd : Bool → List ℕ → Type 0
+IsTermsEnd dash [] = Unit {0}
+IsTermsEnd dash (octet ∷ rest) = IsTrue dash × (octet ≡ 45)
+
+-- terms stand there, up to their end, with these categories and nowhere too many runs
+pub record ReadsTerms (dash : Bool) (text : List ℕ) (start : ℕ) (cats : List ℕ) (end : ℕ) : Type 0 where
+  pub terms : List (ℕ × ℕ)
+  pub part : List ℕ
+  pub are : All IsTerm terms
+  pub is : separated 58 terms ≡ 58 ∷ part
+  pub reads : Reads text start end part
+  pub has : cats ≡ cats_of_terms terms
+  pub ends : IsTermsEnd dash (drop end text)
+  pub roomy : (octet : ℕ) → CrowdsTerms dash (drop start text) octet → ⊥
+
+-- no terms stand there that a set can have: the fault of their grammar, or the term that is too much
+abbrev pub FailsTerms : Bool → List ℕ → ℕ → TextFault → TextKind → Type 0
+FailsTerms dash text start fault Grammar = FaultIn (Terms dash) text start fault × ((octet : ℕ) → CrowdsTerms dash (drop start text) octet → ⊥)
+FailsTerms dash text start fault End = FaultIn (Terms dash) text start fault × ((octet : ℕ) → CrowdsTerms dash (drop start text) octet → ⊥)
+FailsTerms dash text start fault TooManyRuns = (octet : ℕ) × (fault.octet ≡ start + octet) × CrowdsTerms dash (drop start text) octet
+FailsTerms dash text start fault NotOrdered = ⊥
+
+-- the same, unless memory ran out
+abbrev pub StopsTerms : Bool → List ℕ → ℕ → TextStop → Type 0
+StopsTerms dash text start (Fault fault) = FailsTerms dash text start fault fault.kind
+StopsTerms dash text start OutOfMemory = Unit {0}
+
+-- the run is too much for the set, or memory ran out
+abbrev pub StopsRun : List ℕ → ℕ → ℕ → ℕ → TextStop → Type 0
+StopsRun cats first last octet (Fault fault) = (fault.octet ≡ octet) × (fault.kind ≡ TooManyRuns) × (1952 < length (runs_of (cats_where (λ c. has cats c || is_within first last c))))
+StopsRun cats first last octet OutOfMemory = Unit {0}
 
 -- what stood there stands there still, with more behind it
 pub record Extends (old new : List ℕ) : Type 0 where

@@ -1,3 +1,5 @@
+ghost use Rattle.std.specs.Prelude.{◌≡◌};
+
 /// What is wrong with a text.
 #[derive(Clone, Copy, Debug, PartialEq, Eq)]
 pub enum TextKind {
@@ -24,4 +26,14 @@ pub struct TextFault {
 pub enum TextStop {
     Fault(TextFault),
     OutOfMemory,
+}
+
+impl From<TextFault> for TextStop {
+    ghost use Rattle.mls_range.specs.declared.fault.TextStop.TheVariants.{Fault};
+
+    ghost from_gives = { λ fault stop. stop ≡ Fault fault };
+
+    fn from(fault: TextFault) -> TextStop {
+        TextStop::Fault(fault)
+    }
 }

@@ -2,10 +2,10 @@ use Rattle.std.proofs.Common.{◌≡◌, ℕ, ◌+◌, ◌<◌, ◌≤◌, lengt
 use Rattle.std.specs.Fmt.{decimal}
 use Rattle.std.proofs.lemmas.List.{get_or_past}
 use Rattle.std.proofs.lemmas.Result.{err_from_is_err_and}
-use Rattle.mls_range.specs.Rest.{FaultIn, MoreTerms}
+use Rattle.mls_range.specs.Crowd.{IsCounted}
 use Rattle.mls_range.proofs.Reading.{drop_end}
 use Rattle.mls_range.proofs.Rests.{NumberThen, number_then}
-use Rattle.mls_range.proofs.TermRests.{BehindDot, more_none, more_apart, fault_dot, fault_second, fault_number, fault_undotted, fault_behind, fault_no_letter}
+use Rattle.mls_range.proofs.TermRests.{BehindDot, counted_apart, fault_dot, fault_second, fault_number, fault_undotted, fault_behind, fault_no_letter}
 use Rattle.mls_range.proofs.terms.read_last.Goals as goal
 use Rattle.mls_range.proofs.terms.read_last.Goals.{then-first-eq-MOST-via-then-first-eq-MOST, then-first-eq-MOST-via-else-first-eq-MOST+then-start-text, then-first-eq-MOST-via-else-first-eq-MOST+else-start-text+then-text-start-ne46}
 
@@ -36,7 +36,7 @@ returns-in_err-last-clause-err c =
     let a = c.args in
     let text = a.text.now in
     let fault = c.in_err-last.field-0.0 in
-    let fails = number_then (a.first + 1) 65534 (λ n. MoreTerms a.dash) text c.in_ok-number.number fault (omega arith) (more_apart a.dash) (λ n low high. ([], more_none a.dash)) c.in_err-last.ensures.err in
+    let fails = number_then (a.first + 1) 65534 (λ n. IsCounted a.dash) text c.in_ok-number.number fault (omega arith) (counted_apart a.dash) (λ n low high. ([], tt)) c.in_err-last.ensures.err in
     let p = err_from_is_err_and c.from_residual-in_err-last.result c.from_residual-in_err-last.ensures.1 in
     rw (p.1, p.2) (fault_dot a.dash a.first text a.start c.in_ok-letter.letter fault c.in_ok-letter.ensures.ok (fault_second a.dash a.first text c.in_ok-letter.letter c.in_ok-number.number fault c.in_ok-number.ensures.ok fails))
 
@@ -46,6 +46,6 @@ returns-in_err-end_term-2-clause-err c =
     let text = a.text.now in
     let fault = c.in_err-end_term-2.field-0.0 in
     let reads = c.in_ok-last.ensures.ok in
-    let fails = fault_number (a.first + 1) 65534 c.in_ok-last.last (λ n. MoreTerms a.dash) text c.in_ok-number.number c.in_ok-last.end fault (omega arith) (more_apart a.dash) reads (fault_behind a.dash text c.in_ok-last.end fault reads.reads.within c.in_err-end_term-2.ensures.place c.in_err-end_term-2.ensures.err) in
+    let fails = fault_number (a.first + 1) 65534 c.in_ok-last.last (λ n. IsCounted a.dash) text c.in_ok-number.number c.in_ok-last.end fault (omega arith) (counted_apart a.dash) reads (fault_behind a.dash text c.in_ok-last.end fault reads.reads.within c.in_err-end_term-2.ensures.place c.in_err-end_term-2.ensures.err) in
     let p = err_from_is_err_and c.from_residual-in_err-end_term-2.result c.from_residual-in_err-end_term-2.ensures.1 in
     rw (p.1, p.2) (fault_dot a.dash a.first text a.start c.in_ok-letter.letter fault c.in_ok-letter.ensures.ok (fault_second a.dash a.first text c.in_ok-letter.letter c.in_ok-number.number fault c.in_ok-number.ensures.ok fails))
