@@ -18,13 +18,13 @@ use Rattle.mls_range.specs.declared.fault.TextKind.TheVariants.{Grammar, End, To
 use Rattle.mls_range.specs.LabelText.{IsTerm, term_text, term_has, cats_of_terms}
 use Rattle.mls_range.specs.Crowd.{IsCounted, with_comma, run_count, CrowdsTerms}
 use Rattle.mls_range.specs.Rest.{Reads, FaultIn, StopsIn, separated, Terms, TermOn, ReadsTerm, ReadsTerms, IsTermsEnd, FailsTerms, StopsRun, StopsTerms}
-use Rattle.mls_range.proofs.Reading.{reads_none, reads_octet, reads_on, reads_length, drop_at, first_is}
+use Rattle.mls_range.proofs.Places.{reads_none, reads_octet, reads_on, reads_length, drop_at, first_is}
 use Rattle.mls_range.proofs.Rests.{fault_goes}
 use Rattle.mls_range.proofs.TermLists.{comma_is, Among, Behind, First, peel, first_of_terms, term_unique, goes_terms, fault_terms, fault_no_counted}
 
 -- ---- sets of categories
 
-none_of_terms : [] ≡ cats_of_terms []
+pub none_of_terms : [] ≡ cats_of_terms []
 none_of_terms = cats_where_is [] (term_has []) tt (λ c lt. refl)
 
 pub cats_push : (cats : List ℕ) (terms : List (ℕ × ℕ)) (term : ℕ × ℕ) → cats ≡ cats_of_terms terms → cats_where (λ c. has cats c || is_within term.0 term.1 c) ≡ cats_of_terms (terms ++ term ∷ [])

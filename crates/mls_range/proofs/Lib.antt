@@ -1,8 +1,10 @@
 pub mod Digits
-pub mod Reading
+pub mod Places
 pub mod Numbers
 pub mod Rests
 pub mod TermRests
 pub mod Written
 pub mod TermLists
 pub mod Crowds
+pub mod Labels
+pub mod Wholes

@@ -9,7 +9,7 @@ use Rattle.mls_range.specs.declared.fault.TextKind.TheVariants.{Grammar, End, To
 use Rattle.mls_range.specs.Number.{BeginsNumber, number_after, GoesOn}
 use Rattle.mls_range.specs.Rest.{Reads, FaultIn, FailsNumber, IsNumber, ReadsNumber, StopsHere, StopsIn}
 use Rattle.mls_range.proofs.Digits.{begins_goes, goes_begins, number-decimal, decimal-number, number_after-append, begins_small, begins_number, grows}
-use Rattle.mls_range.proofs.Reading.{drop_at, drop_end, reads_none, reads_octet, reads_on, reads_length, reads_nothing}
+use Rattle.mls_range.proofs.Places.{drop_at, drop_end, reads_none, reads_octet, reads_on, reads_length, reads_nothing}
 
 -- the digits from start on, and their number
 pub record HasDigits (text : List ℕ) (start at low high number : ℕ) : Type 0 where

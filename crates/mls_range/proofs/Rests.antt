@@ -10,7 +10,7 @@ use Rattle.mls_range.specs.Number.{BeginsNumber, IsDigit, AllDigits}
 use Rattle.mls_range.specs.Rest.{Reads, FaultIn, FailsNumber, IsNumber, MissesEnd, MissesOctet, ReadsNumber, StopsIn}
 use Rattle.mls_range.specs.Crowd.{IsCounted}
 use Rattle.mls_range.proofs.Digits.{digits_of_decimal, digits_back, digits_front}
-use Rattle.mls_range.proofs.Reading.{reads_none, reads_on}
+use Rattle.mls_range.proofs.Places.{reads_none, reads_on}
 
 -- Behind p, where the text goes on as s does, the texts of L go on as those of R.
 pub record Goes (L : List ℕ → Type 0) (p s : List ℕ) (R : List ℕ → Type 0) : Type 0 where

@@ -10,7 +10,7 @@ use Rattle.mls_range.specs.LabelText.{IsTerm, term_text}
 use Rattle.mls_range.specs.Crowd.{IsCounted}
 use Rattle.mls_range.specs.Number.{IsDigit}
 use Rattle.mls_range.specs.Rest.{Reads, ReadsNumber, FaultIn, MissesOctet, MissesEnd, TermOn, BehindFirst, last_text}
-use Rattle.mls_range.proofs.Reading.{first_is}
+use Rattle.mls_range.proofs.Places.{first_is}
 use Rattle.mls_range.proofs.Rests.{Goes, goes_octet, goes_number, NumberThen, IsApart, fault_goes, fault_now, number_then, stops_octet, stops_end}
 
 -- ---- the two forms of a term

@@ -39,7 +39,7 @@ pub record CrowdsLabel (dash : Bool) (text : List ℕ) (octet : ℕ) : Type 0 wh
   pub is : text ≡ 115 ∷ decimal level ++ 58 ∷ terms
   pub small : level < 256
   pub crowds : CrowdsTerms dash terms at
-  pub place : octet ≡ length (decimal level) + 2 + at
+  pub place : octet ≡ 2 + length (decimal level) + at
 
 -- nowhere in it
 abbrev pub IsRoomy : Bool → List ℕ → Type 0

@@ -11,7 +11,7 @@ use Rattle.mls_range.specs.declared.fault.TextStop.TheVariants.{Fault, OutOfMemo
 use Rattle.mls_range.specs.declared.fault.TextKind.{TextKind}
 use Rattle.mls_range.specs.declared.fault.TextKind.TheVariants.{Grammar, End, TooManyRuns, NotOrdered}
 use Rattle.mls_range.specs.LabelText.{IsTerm, term_text, cats_of_terms, IsLabelText}
-use Rattle.mls_range.specs.Crowd.{IsCounted, CrowdsTerms}
+use Rattle.mls_range.specs.Crowd.{IsCounted, CrowdsTerms, CrowdsLabel, IsRoomy}
 use Rattle.mls_range.specs.Number.{BeginsNumber}
 
 -- from start to end the text reads part
@@ -178,6 +178,58 @@ FailsTerms dash text start fault NotOrdered = ⊥
 abbrev pub StopsTerms : Bool → List ℕ → ℕ → TextStop → Type 0
 StopsTerms dash text start (Fault fault) = FailsTerms dash text start fault fault.kind
 StopsTerms dash text start OutOfMemory = Unit {0}
+
+-- the term that is too much, of the terms behind a colon
+pub record CrowdsBehind (dash : Bool) (text : List ℕ) (octet : ℕ) : Type 0 where
+  pub terms : List ℕ
+  pub at : ℕ
+  pub is : text ≡ 58 ∷ terms
+  pub crowds : CrowdsTerms dash terms at
+  pub place : octet ≡ 1 + at
+
+abbrev pub IsRoomyBehind : Bool → List ℕ → Type 0
+IsRoomyBehind dash text = (octet : ℕ) → CrowdsBehind dash text octet → ⊥
+
+-- behind a level stand terms, or none, with these categories and nowhere too many runs
+pub record ReadsCats (dash : Bool) (text : List ℕ) (start : ℕ) (cats : List ℕ) (end : ℕ) : Type 0 where
+  pub terms : List (ℕ × ℕ)
+  pub are : All IsTerm terms
+  pub reads : Reads text start end (separated 58 terms)
+  pub has : cats ≡ cats_of_terms terms
+  pub ends : IsTermsEnd dash (drop end text)
+  pub roomy : IsRoomyBehind dash (drop start text)
+
+-- no terms stand there that a set can have
+abbrev pub FailsCats : Bool → List ℕ → ℕ → TextFault → TextKind → Type 0
+FailsCats dash text start fault Grammar = FaultIn (BehindLevel dash) text start fault × IsRoomyBehind dash (drop start text)
+FailsCats dash text start fault End = FaultIn (BehindLevel dash) text start fault × IsRoomyBehind dash (drop start text)
+FailsCats dash text start fault TooManyRuns = (octet : ℕ) × (fault.octet ≡ start + octet) × CrowdsBehind dash (drop start text) octet
+FailsCats dash text start fault NotOrdered = ⊥
+
+-- the same, unless memory ran out
+abbrev pub StopsCats : Bool → List ℕ → ℕ → TextStop → Type 0
+StopsCats dash text start (Fault fault) = FailsCats dash text start fault fault.kind
+StopsCats dash text start OutOfMemory = Unit {0}
+
+-- a label stands there, up to its end, nowhere with too many runs
+pub record ReadsPart (dash : Bool) (text : List ℕ) (start : ℕ) (label : Label) (end : ℕ) : Type 0 where
+  pub part : List ℕ
+  pub reads : Reads text start end part
+  pub is : IsLabelText part label
+  pub ends : IsTermsEnd dash (drop end text)
+  pub roomy : IsRoomy dash (drop start text)
+
+-- no label stands there
+abbrev pub FailsPart : Bool → List ℕ → ℕ → TextFault → TextKind → Type 0
+FailsPart dash text start fault Grammar = FaultIn (LabelOn dash) text start fault × IsRoomy dash (drop start text)
+FailsPart dash text start fault End = FaultIn (LabelOn dash) text start fault × IsRoomy dash (drop start text)
+FailsPart dash text start fault TooManyRuns = (octet : ℕ) × (fault.octet ≡ start + octet) × CrowdsLabel dash (drop start text) octet
+FailsPart dash text start fault NotOrdered = ⊥
+
+-- the same, unless memory ran out
+abbrev pub StopsPart : Bool → List ℕ → ℕ → TextStop → Type 0
+StopsPart dash text start (Fault fault) = FailsPart dash text start fault fault.kind
+StopsPart dash text start OutOfMemory = Unit {0}
 
 -- the run is too much for the set, or memory ran out
 abbrev pub StopsRun : List ℕ → ℕ → ℕ → ℕ → TextStop → Type 0

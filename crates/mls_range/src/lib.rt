@@ -4,8 +4,10 @@
 mod fault;
 mod number;
 mod octet;
+mod reading;
 mod terms;
 mod writing;
 
 pub use fault::{TextFault, TextKind, TextStop};
+pub use reading::read_label;
 pub use writing::write_label;

@@ -1,5 +1,5 @@
 use Rattle.std.proofs.Common.{get_or, drop, ◌+◌, arith}
-use Rattle.mls_range.proofs.Reading.{drop_at}
+use Rattle.mls_range.proofs.Places.{drop_at}
 use Rattle.mls_range.proofs.octet.fault_at.Goals as goal
 
 pub returns-else-octet-text-clause-kind : goal.returns-else-octet-text-clause-kind
