@@ -17,7 +17,7 @@ use Rattle.mls_range.specs.declared.fault.TextKind.{TextKind}
 use Rattle.mls_range.specs.declared.fault.TextKind.TheVariants.{Grammar, End, TooManyRuns, NotOrdered}
 use Rattle.mls_range.specs.LabelText.{IsTerm, term_text, term_has, cats_of_terms}
 use Rattle.mls_range.specs.Crowd.{IsCounted, with_comma, run_count, CrowdsTerms}
-use Rattle.mls_range.specs.Rest.{Reads, FaultIn, StopsIn, separated, Terms, TermOn, ReadsTerm, ReadsTerms, IsTermsEnd, FailsTerms, StopsRun, StopsTerms}
+use Rattle.mls_range.specs.Rest.{Reads, FaultIn, StopsIn, separated, Terms, TermOn, ReadsTerm, ReadsTerms, IsLabelEnd, FailsTerms, StopsRun, StopsTerms}
 use Rattle.mls_range.proofs.Places.{reads_none, reads_octet, reads_on, reads_length, drop_at, first_is}
 use Rattle.mls_range.proofs.Rests.{fault_goes}
 use Rattle.mls_range.proofs.TermLists.{comma_is, Among, Behind, First, peel, first_of_terms, term_unique, goes_terms, fault_terms, fault_no_counted}
@@ -148,16 +148,16 @@ separated_last s (u ∷ us) term =
     let rest : List ℕ = flat_map with_comma us ++ term_text term in
     ap (λ t. s ∷ (term_text u ++ t)) (separated_last 44 us term) ∙ ap (λ t. s ∷ t) (sym (append_assoc (with_comma u) (flat_map with_comma us) (term_text term) ∙ comma_is u rest))
 
-ends_of : (dash : Bool) (l : List ℕ) → IsCounted dash l → ((x : ℕ) (w : List ℕ) → l ≡ x ∷ w → x ≡ 44 → ⊥) → IsTermsEnd dash l
+ends_of : (dash : Bool) (l : List ℕ) → IsCounted dash l → ((x : ℕ) (w : List ℕ) → l ≡ x ∷ w → x ≡ 44 → ⊥) → IsLabelEnd dash l
 ends_of dash [] c other = tt
 ends_of dash (x ∷ w) (inl e) other = absurd (other x w refl e)
 ends_of dash (x ∷ w) (inr e) other = (e.0, e.1)
 
-no_comma : (dash : Bool) (l w : List ℕ) → IsTermsEnd dash l → l ≡ 44 ∷ w → ⊥
+no_comma : (dash : Bool) (l w : List ℕ) → IsLabelEnd dash l → l ≡ 44 ∷ w → ⊥
 no_comma dash [] w ends e = absurd (omega (arith, ap length e))
 no_comma dash (x ∷ t) w ends e = let q : x ≡ 44 = cc in omega (arith, ends.1)
 
-ends_here : (dash : Bool) (text : List ℕ) (end : ℕ) → IsCounted dash (drop end text) → (end ≡ length text) ⊎ (get_or text end 0 ≡ 44 → ⊥) → IsTermsEnd dash (drop end text)
+ends_here : (dash : Bool) (text : List ℕ) (end : ℕ) → IsCounted dash (drop end text) → (end ≡ length text) ⊎ (get_or text end 0 ≡ 44 → ⊥) → IsLabelEnd dash (drop end text)
 ends_here dash text end c over =
     ends_of dash (drop end text) c (λ x w is comma.
         elim over [
@@ -166,7 +166,7 @@ ends_here dash text end c over =
         ])
 
 -- of the crowding terms the first is the last that was read: then it isn't too much
-no_crowd : (dash : Bool) (text : List ℕ) (start at end first last octet : ℕ) (cats : List ℕ) → (h : HasTerms text start at cats) → ReadsTerm dash text at first last end → run_count (h.terms ++ (first, last) ∷ []) ≤ 1952 → IsTermsEnd dash (drop end text) → CrowdsTerms dash (drop start text) octet → ⊥
+no_crowd : (dash : Bool) (text : List ℕ) (start at end first last octet : ℕ) (cats : List ℕ) → (h : HasTerms text start at cats) → ReadsTerm dash text at first last end → run_count (h.terms ++ (first, last) ∷ []) ≤ 1952 → IsLabelEnd dash (drop end text) → CrowdsTerms dash (drop start text) octet → ⊥
 no_crowd dash text start at end first last octet cats h r few ends c =
     let term : ℕ × ℕ = (first, last) in
     let b = first_behind dash text start at octet cats h c in

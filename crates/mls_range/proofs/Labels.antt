@@ -13,7 +13,7 @@ use Rattle.mls_range.specs.declared.fault.TextKind.TheVariants.{Grammar, End, To
 use Rattle.mls_range.specs.LabelText.{IsTerm, term_text, terms_text, cats_of_terms, IsLabelText}
 use Rattle.mls_range.specs.Crowd.{CrowdsTerms, CrowdsLabel, IsRoomy}
 use Rattle.mls_range.specs.Number.{IsDigit}
-use Rattle.mls_range.specs.Rest.{Reads, FaultIn, StopsIn, MissesOctet, EndsLabel, separated, Terms, MoreTerms, BehindLevel, LabelOn, FailsNumber, ReadsNumber, ReadsTerms, FailsTerms, StopsTerms, IsTermsEnd, ReadsCats, FailsCats, StopsCats, CrowdsBehind, IsRoomyBehind, ReadsPart, FailsPart, StopsPart}
+use Rattle.mls_range.specs.Rest.{Reads, FaultIn, StopsIn, MissesOctet, IsLabelEnd, separated, Terms, MoreTerms, BehindLevel, LabelOn, FailsNumber, ReadsNumber, ReadsTerms, FailsTerms, StopsTerms, ReadsCats, FailsCats, StopsCats, CrowdsBehind, IsRoomyBehind, ReadsPart, FailsPart, StopsPart}
 use Rattle.mls_range.proofs.Places.{reads_none, reads_on, reads_length, drop_end, first_is}
 use Rattle.mls_range.proofs.Rests.{Goes, goes_octet, goes_number, NumberThen, IsApart, fault_goes, fault_now, number_then, stops_octet}
 use Rattle.mls_range.proofs.TermLists.{NoDigit, stops_not}
@@ -23,9 +23,9 @@ use Rattle.mls_range.proofs.Written.{terms_text_is}
 
 -- ---- behind the level
 
-level_first_of : (dash : Bool) (x : ℕ) (t rest : List ℕ) (terms : List (ℕ × ℕ)) → x ∷ t ≡ separated 58 terms ++ rest → EndsLabel dash rest → (x ≡ 58) ⊎ (IsTrue dash × (x ≡ 45))
+level_first_of : (dash : Bool) (x : ℕ) (t rest : List ℕ) (terms : List (ℕ × ℕ)) → x ∷ t ≡ separated 58 terms ++ rest → IsLabelEnd dash rest → (x ≡ 58) ⊎ (IsTrue dash × (x ≡ 45))
 level_first_of dash x t rest [] e ends =
-    let here : EndsLabel dash (x ∷ t) = subst (EndsLabel dash) (sym e) ends in
+    let here : IsLabelEnd dash (x ∷ t) = subst (IsLabelEnd dash) (sym e) ends in
     inr (here.0, here.1)
 level_first_of dash x t rest (u ∷ us) e ends = inl cc
 
@@ -42,9 +42,9 @@ level_apart dash n x t b d =
 pub level_none : (dash : Bool) → BehindLevel dash []
 level_none dash = record { terms = []; rest = []; are = All-nil IsTerm; is = refl; ends = tt }
 
-colon_terms_of : (dash : Bool) (x rest : List ℕ) (terms : List (ℕ × ℕ)) → All IsTerm terms → 58 ∷ x ≡ separated 58 terms ++ rest → EndsLabel dash rest → Terms dash x
+colon_terms_of : (dash : Bool) (x rest : List ℕ) (terms : List (ℕ × ℕ)) → All IsTerm terms → 58 ∷ x ≡ separated 58 terms ++ rest → IsLabelEnd dash rest → Terms dash x
 colon_terms_of dash x rest [] are e ends =
-    let bad : EndsLabel dash (58 ∷ x) = subst (EndsLabel dash) (sym e) ends in
+    let bad : IsLabelEnd dash (58 ∷ x) = subst (IsLabelEnd dash) (sym e) ends in
     absurd (omega (arith, bad.1))
 colon_terms_of dash x rest (u ∷ us) are e ends =
     let q : x ≡ (term_text u ++ separated 44 us) ++ rest = cc in
@@ -97,11 +97,11 @@ fails_cats_kind dash text start fault L part rest NotOrdered stops f roomy = sto
 fails_cats : (dash : Bool) (text : List ℕ) (start : ℕ) (fault : TextFault) → FaultIn (BehindLevel dash) text start fault → IsRoomyBehind dash (drop start text) → FailsCats dash text start fault fault.kind
 fails_cats dash text start fault f roomy = fails_cats_kind dash text start fault (BehindLevel dash) f.part (drop fault.octet text) fault.kind f.stops f roomy
 
-not_end : (dash : Bool) (l w : List ℕ) (x : ℕ) → IsTermsEnd dash l → l ≡ x ∷ w → (x ≡ 45 → ⊥) → ⊥
+not_end : (dash : Bool) (l w : List ℕ) (x : ℕ) → IsLabelEnd dash l → l ≡ x ∷ w → (x ≡ 45 → ⊥) → ⊥
 not_end dash [] w x ends e other = absurd (omega (arith, ap length e))
 not_end dash (y ∷ t) w x ends e other = let q : y ≡ x = cc in other (sym q ∙ ends.1)
 
-pub cats_none : (dash : Bool) (text : List ℕ) (start : ℕ) (cats : List ℕ) → start ≤ length text → cats ≡ [] → IsTermsEnd dash (drop start text) → ReadsCats dash text start cats start
+pub cats_none : (dash : Bool) (text : List ℕ) (start : ℕ) (cats : List ℕ) → start ≤ length text → cats ≡ [] → IsLabelEnd dash (drop start text) → ReadsCats dash text start cats start
 cats_none dash text start cats within none ends =
     record {
       terms = [];
@@ -121,18 +121,18 @@ misses wanted rest w End m e = let q : [] ≡ wanted ∷ w = sym m ∙ e in cc
 misses wanted rest w TooManyRuns m e = m
 misses wanted rest w NotOrdered m e = m
 
-stops_colon : (dash : Bool) (rest : List ℕ) (kind : TextKind) → (IsTermsEnd dash rest → ⊥) → MissesOctet 58 rest kind → StopsIn (BehindLevel dash) [] rest kind
+stops_colon : (dash : Bool) (rest : List ℕ) (kind : TextKind) → (IsLabelEnd dash rest → ⊥) → MissesOctet 58 rest kind → StopsIn (BehindLevel dash) [] rest kind
 stops_colon dash rest Grammar over m =
     (m.0, m.1, m.2, λ end b.
         elim (level_first dash m.0 end b) [
           | inl e ↦ m.3 e
-          | inr e ↦ over (subst (IsTermsEnd dash) (sym m.2) e)
+          | inr e ↦ over (subst (IsLabelEnd dash) (sym m.2) e)
         ])
-stops_colon dash rest End over m = absurd (over (subst (IsTermsEnd dash) (sym m) tt))
+stops_colon dash rest End over m = absurd (over (subst (IsLabelEnd dash) (sym m) tt))
 stops_colon dash rest TooManyRuns over m = m
 stops_colon dash rest NotOrdered over m = m
 
-pub cats_no_colon : (dash : Bool) (text : List ℕ) (start : ℕ) (fault : TextFault) → start ≤ length text → (IsTermsEnd dash (drop start text) → ⊥) → fault.octet ≡ start → MissesOctet 58 (drop start text) fault.kind → FailsCats dash text start fault fault.kind
+pub cats_no_colon : (dash : Bool) (text : List ℕ) (start : ℕ) (fault : TextFault) → start ≤ length text → (IsLabelEnd dash (drop start text) → ⊥) → fault.octet ≡ start → MissesOctet 58 (drop start text) fault.kind → FailsCats dash text start fault fault.kind
 cats_no_colon dash text start fault within over place m =
     fails_cats dash text start fault (fault_now (BehindLevel dash) text start fault [] within place (level_none dash) (stops_colon dash (drop start text) fault.kind over m)) (λ octet c. misses 58 (drop start text) c.terms fault.kind m c.is)
 

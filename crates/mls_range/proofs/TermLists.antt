@@ -12,7 +12,7 @@ use Rattle.mls_range.specs.declared.fault.TextKind.TheVariants.{Grammar, End, To
 use Rattle.mls_range.specs.LabelText.{IsTerm, term_text, cats_of_terms}
 use Rattle.mls_range.specs.Crowd.{IsCounted, with_comma, run_count, CrowdsTerms}
 use Rattle.mls_range.specs.Number.{IsDigit, AllDigits}
-use Rattle.mls_range.specs.Rest.{Reads, FaultIn, StopsIn, EndsLabel, separated, last_text, MoreTerms, Terms, TermOn}
+use Rattle.mls_range.specs.Rest.{Reads, FaultIn, StopsIn, IsLabelEnd, separated, last_text, MoreTerms, Terms, TermOn}
 use Rattle.mls_range.proofs.Digits.{digits_of_decimal, digits_back}
 use Rattle.mls_range.proofs.Rests.{Goes, goes_self, goes_then, Cuts, cuts}
 use Rattle.mls_range.proofs.TermRests.{term_text_is, last_none, last_some}
@@ -158,11 +158,11 @@ first_of_terms dash (u ∷ us) term text rest are is_term counts e =
 
 -- ---- the grammar of terms behind terms
 
-pub ends_counted : (dash : Bool) (r : List ℕ) → EndsLabel dash r → IsCounted dash r
+pub ends_counted : (dash : Bool) (r : List ℕ) → IsLabelEnd dash r → IsCounted dash r
 ends_counted dash [] e = tt
 ends_counted dash (x ∷ t) e = inr (e.0, e.1)
 
-more_counted_of : (dash : Bool) (r rest : List ℕ) (terms : List (ℕ × ℕ)) → r ≡ separated 44 terms ++ rest → EndsLabel dash rest → IsCounted dash r
+more_counted_of : (dash : Bool) (r rest : List ℕ) (terms : List (ℕ × ℕ)) → r ≡ separated 44 terms ++ rest → IsLabelEnd dash rest → IsCounted dash r
 more_counted_of dash r rest [] e ends = subst (IsCounted dash) (sym e) (ends_counted dash rest ends)
 more_counted_of dash r rest (u ∷ us) e ends = subst (IsCounted dash) (sym e) (inl refl)
 
@@ -172,9 +172,9 @@ more_counted dash r m = more_counted_of dash r m.rest m.terms m.is m.ends
 pub more_none : (dash : Bool) → MoreTerms dash []
 more_none dash = record { terms = []; rest = []; are = All-nil IsTerm; is = refl; ends = tt }
 
-comma_terms_of : (dash : Bool) (x rest : List ℕ) (terms : List (ℕ × ℕ)) → All IsTerm terms → 44 ∷ x ≡ separated 44 terms ++ rest → EndsLabel dash rest → Terms dash x
+comma_terms_of : (dash : Bool) (x rest : List ℕ) (terms : List (ℕ × ℕ)) → All IsTerm terms → 44 ∷ x ≡ separated 44 terms ++ rest → IsLabelEnd dash rest → Terms dash x
 comma_terms_of dash x rest [] are e ends =
-    let bad : EndsLabel dash (44 ∷ x) = subst (EndsLabel dash) (sym e) ends in
+    let bad : IsLabelEnd dash (44 ∷ x) = subst (IsLabelEnd dash) (sym e) ends in
     absurd (omega (arith, bad.1))
 comma_terms_of dash x rest (u ∷ us) are e ends =
     let q : x ≡ (term_text u ++ separated 44 us) ++ rest = cc in

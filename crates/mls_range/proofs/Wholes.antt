@@ -15,7 +15,7 @@ use Rattle.mls_range.specs.LabelText.{IsLabelText, cats_of_terms}
 use Rattle.mls_range.specs.Crowd.{CrowdsLabel, IsRoomy}
 use Rattle.mls_range.specs.Place.{octet_fault, end_fault}
 use Rattle.mls_range.specs.TextFault.{FailsLabel, StopsLabel}
-use Rattle.mls_range.specs.Rest.{FaultIn, StopsIn, EndsLabel, separated, BehindLevel, LabelOn, IsTermsEnd, FailsPart, StopsPart, ReadsPart}
+use Rattle.mls_range.specs.Rest.{FaultIn, StopsIn, IsLabelEnd, separated, BehindLevel, LabelOn, FailsPart, StopsPart, ReadsPart}
 use Rattle.mls_range.proofs.Places.{reads_length}
 use Rattle.mls_range.proofs.Written.{terms_text_is}
 
@@ -69,7 +69,7 @@ end_fault_of G L text fault texts f e =
 
 -- ---- labels
 
-pub on_label : (dash : Bool) (u k : List ℕ) (x : Label) → IsLabelText u x → EndsLabel dash k → LabelOn dash (u ++ k)
+pub on_label : (dash : Bool) (u k : List ℕ) (x : Label) → IsLabelText u x → IsLabelEnd dash k → LabelOn dash (u ++ k)
 on_label dash u k x l ends =
     let e : u ++ k ≡ 115 ∷ (decimal x.level ++ (separated 58 l.terms ++ k)) =
     ap (λ t. t ++ k) (l.is ∙ ap (λ t. 115 ∷ (decimal x.level ++ t)) (terms_text_is l.terms)) ∙ ap (λ t. 115 ∷ t) (append_assoc (decimal x.level) (separated 58 l.terms) k) in
@@ -82,7 +82,7 @@ pub record LabelAnd (dash : Bool) (t : List ℕ) : Type 0 where
   pub label : Label
   pub is : t ≡ text ++ rest
   pub member : IsLabelText text label
-  pub ends : EndsLabel dash rest
+  pub ends : IsLabelEnd dash rest
 
 pub label_and : (dash : Bool) (t : List ℕ) → LabelOn dash t → LabelAnd dash t
 label_and dash t l =
@@ -98,7 +98,7 @@ label_and dash t l =
       ends = b.ends;
     }
 
-no_dash : (rest : List ℕ) → EndsLabel false rest → rest ≡ []
+no_dash : (rest : List ℕ) → IsLabelEnd false rest → rest ≡ []
 no_dash [] e = refl
 no_dash (x ∷ w) e = absurd (false≢true e.0)
 
@@ -122,11 +122,7 @@ stops_label text (Fault fault) s = fails_label text fault fault.kind refl s
 stops_label text OutOfMemory s = tt
 
 -- a label that ends where the text does is all of it
-off_end : (rest : List ℕ) → IsTermsEnd false rest → rest ≡ []
-off_end [] e = refl
-off_end (x ∷ w) e = absurd (false≢true e.0)
-
 pub whole_label : (text : List ℕ) (label : Label) (end : ℕ) → ReadsPart false text 0 label end → IsLabelText text label
 whole_label text label end r =
-    let e : text ≡ r.part = r.reads.is ∙ ap (λ k. r.part ++ k) (off_end (drop end text) r.ends) ∙ append-nil r.part in
+    let e : text ≡ r.part = r.reads.is ∙ ap (λ k. r.part ++ k) (no_dash (drop end text) r.ends) ∙ append-nil r.part in
     subst (λ t. IsLabelText t label) (sym e) r.is

@@ -79,10 +79,10 @@ MissesEnd dash rest End = ⊥
 MissesEnd dash rest TooManyRuns = ⊥
 MissesEnd dash rest NotOrdered = ⊥
 
--- what ends a label: the end of the text, and where dash says so also a dash and another label
-abbrev pub EndsLabel : Bool → List ℕ → Type 0
-EndsLabel dash [] = Unit {0}
-EndsLabel dash (octet ∷ rest) = IsTrue dash × (octet ≡ 45) × (label : Label) × IsLabelText rest label
+-- where a label ends: at the text's end, or, where dash says so, at a dash
+abbrev pub IsLabelEnd : Bool → List ℕ → Type 0
+IsLabelEnd dash [] = Unit {0}
+IsLabelEnd dash (octet ∷ rest) = IsTrue dash × (octet ≡ 45)
 
 -- terms, the first behind the separator and each other behind a comma
 abbrev pub separated : ℕ → List (ℕ × ℕ) → List ℕ
@@ -95,7 +95,7 @@ pub record MoreTerms (dash : Bool) (text : List ℕ) : Type 0 where
   pub rest : List ℕ
   pub are : All IsTerm terms
   pub is : text ≡ separated 44 terms ++ rest
-  pub ends : EndsLabel dash rest
+  pub ends : IsLabelEnd dash rest
 
 -- a term, and what may come behind it
 pub record Terms (dash : Bool) (text : List ℕ) : Type 0 where
@@ -128,7 +128,7 @@ pub record BehindLevel (dash : Bool) (text : List ℕ) : Type 0 where
   pub rest : List ℕ
   pub are : All IsTerm terms
   pub is : text ≡ separated 58 terms ++ rest
-  pub ends : EndsLabel dash rest
+  pub ends : IsLabelEnd dash rest
 
 -- a label, and its end
 pub record LabelOn (dash : Bool) (text : List ℕ) : Type 0 where
@@ -151,11 +151,6 @@ pub record ReadsTerm (dash : Bool) (text : List ℕ) (start first last end : ℕ
   pub is_term : IsTerm (first, last)
   pub counts : IsCounted dash (drop end text)
 
--- where terms end: the text's end, or, where dash says so, a dash
-abbrev pub IsTermsEnd : Bool → List ℕ → Type 0
-IsTermsEnd dash [] = Unit {0}
-IsTermsEnd dash (octet ∷ rest) = IsTrue dash × (octet ≡ 45)
-
 -- terms stand there, up to their end, with these categories and nowhere too many runs
 pub record ReadsTerms (dash : Bool) (text : List ℕ) (start : ℕ) (cats : List ℕ) (end : ℕ) : Type 0 where
   pub terms : List (ℕ × ℕ)
@@ -164,7 +159,7 @@ pub record ReadsTerms (dash : Bool) (text : List ℕ) (start : ℕ) (cats : List
   pub is : separated 58 terms ≡ 58 ∷ part
   pub reads : Reads text start end part
   pub has : cats ≡ cats_of_terms terms
-  pub ends : IsTermsEnd dash (drop end text)
+  pub ends : IsLabelEnd dash (drop end text)
   pub roomy : (octet : ℕ) → CrowdsTerms dash (drop start text) octet → ⊥
 
 -- no terms stand there that a set can have: the fault of their grammar, or the term that is too much
@@ -196,7 +191,7 @@ pub record ReadsCats (dash : Bool) (text : List ℕ) (start : ℕ) (cats : List 
   pub are : All IsTerm terms
   pub reads : Reads text start end (separated 58 terms)
   pub has : cats ≡ cats_of_terms terms
-  pub ends : IsTermsEnd dash (drop end text)
+  pub ends : IsLabelEnd dash (drop end text)
   pub roomy : IsRoomyBehind dash (drop start text)
 
 -- no terms stand there that a set can have
@@ -216,7 +211,7 @@ pub record ReadsPart (dash : Bool) (text : List ℕ) (start : ℕ) (label : Labe
   pub part : List ℕ
   pub reads : Reads text start end part
   pub is : IsLabelText part label
-  pub ends : IsTermsEnd dash (drop end text)
+  pub ends : IsLabelEnd dash (drop end text)
   pub roomy : IsRoomy dash (drop start text)
 
 -- no label stands there

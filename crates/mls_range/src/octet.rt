@@ -1,7 +1,7 @@
 //! One octet at a place of a text.
 
 ghost use Rattle.std.specs.Prelude.{◌≡◌, [], ◌∷◌, ◌≤◌, length, drop, IfOk, IfErr, MatchBool};
-ghost use Rattle.mls_range.specs.Rest.{IsTermsEnd, MissesOctet, Reads, StopsHere};
+ghost use Rattle.mls_range.specs.Rest.{IsLabelEnd, MissesOctet, Reads, StopsHere};
 
 use crate::fault::{TextFault, TextKind};
 
@@ -33,10 +33,10 @@ pub(crate) fn read_octet(text: &[u8], at: usize, wanted: u8) -> Result<usize, Te
     }
 }
 
-/// Whether terms may end at a place: at the end of the text or, with `dash`, at a dash.
-pub(crate) fn is_terms_end(text: &[u8], at: usize, dash: bool) -> bool
+/// Whether a label may end at a place: at the end of the text or, with `dash`, at a dash.
+pub(crate) fn is_label_end(text: &[u8], at: usize, dash: bool) -> bool
     requires { at ≤ length text.now }
-    ensures { MatchBool result (IsTermsEnd dash (drop at text.now)) (IsTermsEnd dash (drop at text.now) → ⊥) }
+    ensures { MatchBool result (IsLabelEnd dash (drop at text.now)) (IsLabelEnd dash (drop at text.now) → ⊥) }
 {
     at == text.len() || dash && text[at] == b'-'
 }

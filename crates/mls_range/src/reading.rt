@@ -8,7 +8,7 @@ ghost use Rattle.mls_range.specs.TextFault.{StopsLabel};
 
 use crate::fault::TextStop;
 use crate::number::read_number;
-use crate::octet::{is_terms_end, read_octet};
+use crate::octet::{is_label_end, read_octet};
 use crate::terms::read_terms;
 use mls_label::{CatSet, Label};
 use std::alloc::Global;
@@ -49,7 +49,7 @@ fn read_cats(alloc: Global, text: &[u8], start: usize, dash: bool) -> Result<(Ca
     ensures ok { IfOk result (λ read. ReadsCats dash text.now start read.0 read.1) }
     ensures err { IfErr result (StopsCats dash text.now start) }
 {
-    if is_terms_end(text, start, dash) {
+    if is_label_end(text, start, dash) {
         return Ok((CatSet::empty(alloc), start));
     }
     let terms = read_octet(text, start, b':')?;

@@ -2,16 +2,16 @@ use Rattle.std.proofs.lemmas.Result.{err_from_is_err_and}
 use Rattle.mls_range.proofs.Labels.{cats_none, cats_no_colon, stops_terms, cats_some}
 use Rattle.mls_range.proofs.reading.read_cats.Goals as goal
 
-pub returns-then-is_terms_end-clause-ok : goal.returns-then-is_terms_end-clause-ok
-returns-then-is_terms_end-clause-ok c =
+pub returns-then-is_label_end-clause-ok : goal.returns-then-is_label_end-clause-ok
+returns-then-is_label_end-clause-ok c =
     let a = c.args in
-    cats_none a.dash a.text.now a.start c.empty.result c.requires c.empty.ensures c.if-is_terms_end.ensures
+    cats_none a.dash a.text.now a.start c.empty.result c.requires c.empty.ensures c.if-is_label_end.ensures
 
 pub returns-in_err-terms-clause-err : goal.returns-in_err-terms-clause-err
 returns-in_err-terms-clause-err c =
     let a = c.args in
     let p = err_from_is_err_and c.from_residual.result c.from_residual.ensures.1 in
-    rw (p.1, p.2) (cats_no_colon a.dash a.text.now a.start c.in_err-terms.field-0.0 c.requires c.if-is_terms_end.ensures c.in_err-terms.ensures.place c.in_err-terms.ensures.err)
+    rw (p.1, p.2) (cats_no_colon a.dash a.text.now a.start c.in_err-terms.field-0.0 c.requires c.if-is_label_end.ensures c.in_err-terms.ensures.place c.in_err-terms.ensures.err)
 
 pub returns-in_err-cats-clause-err : goal.returns-in_err-cats-clause-err
 returns-in_err-cats-clause-err c =
