@@ -8,3 +8,5 @@ pub mod TermLists
 pub mod Crowds
 pub mod Labels
 pub mod Wholes
+pub mod Unique
+pub mod ReadBack
