@@ -98,7 +98,7 @@ label_and dash t l =
       ends = b.ends;
     }
 
-no_dash : (rest : List ℕ) → IsLabelEnd false rest → rest ≡ []
+pub no_dash : (rest : List ℕ) → IsLabelEnd false rest → rest ≡ []
 no_dash [] e = refl
 no_dash (x ∷ w) e = absurd (false≢true e.0)
 

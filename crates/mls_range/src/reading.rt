@@ -1,15 +1,19 @@
-//! Labels, read from their texts.
+//! Labels and ranges, read from their texts.
 
 ghost use Rattle.std.specs.Prelude.{◌≡◌, ◌≤◌, false, length, IfOk, IfErr, OnOk};
+ghost use Rattle.mls_label.specs.Label.{Dominates};
 ghost use Rattle.mls_range.specs.Crowd.{IsRoomy};
 ghost use Rattle.mls_range.specs.LabelText.{IsLabelText};
+ghost use Rattle.mls_range.specs.Range.{Ends};
+ghost use Rattle.mls_range.specs.RangeText.{IsRangeText, IsRoomyRange, StopsRange};
 ghost use Rattle.mls_range.specs.Rest.{ReadsCats, ReadsPart, StopsCats, StopsPart};
 ghost use Rattle.mls_range.specs.TextFault.{StopsLabel};
 
-use crate::fault::TextStop;
+use crate::fault::{TextFault, TextKind, TextStop};
 use crate::number::read_number;
 use crate::octet::{is_label_end, read_octet};
 use crate::terms::read_terms;
+use crate::Range;
 use mls_label::{CatSet, Label};
 use std::alloc::Global;
 
@@ -25,6 +29,41 @@ pub fn read_label(alloc: Global, text: &[u8]) -> Result<Label, TextStop>
 {
     let (label, _end) = read_part(alloc, text, 0, false)?;
     Ok(label)
+}
+
+/// Reads a whole text as a range: one label, which is both ends, or two labels joined by a dash. The high label has to
+/// dominate the low one.
+pub fn read_range(alloc: Global, text: &[u8]) -> Result<Range, TextStop>
+    ensures ok { IfOk result (IsRangeText text.now) }
+    ensures ordered { IfOk result (λ range. Dominates range.high range.low) }
+    ensures roomy { OnOk result (IsRoomyRange text.now) }
+    ensures err { IfErr result (StopsRange text.now) }
+{
+    let (low, end) = read_part(alloc, text, 0, true)?;
+    if end == text.len() {
+        return lone_range(low);
+    }
+    let start = end + 1;
+    let (high, _end) = read_part(alloc, text, start, false)?;
+    if !high.dominates(&low) {
+        return Err(TextStop::Fault(TextFault {
+            octet: start,
+            kind: TextKind::NotOrdered,
+        }));
+    }
+    Ok(Range { low, high })
+}
+
+/// The range of which both ends are the label.
+fn lone_range(label: Label) -> Result<Range, TextStop>
+    ensures ok { IfOk result (λ range. range ≡ record { low = label; high = label }) }
+    ensures err { IfErr result (λ stop. stop ≡ TextStop.OutOfMemory) }
+{
+    let high = label.copy()?;
+    Ok(Range {
+        low: label,
+        high,
+    })
 }
 
 /// Reads a label that begins at `start`, up to the text's end or, with `dash`, up to a dash. Gives it with its end.
