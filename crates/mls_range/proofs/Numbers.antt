@@ -58,10 +58,14 @@ ends_past text at low high digits le octet more is b =
     cc
 
 stops_digits : (text : List ℕ) (at low high : ℕ) (digits : List ℕ) (kind : TextKind) → EndsDigits text at low high digits → (IsNumber low high digits → ⊥) → StopsHere (drop at text) kind → StopsIn (IsNumber low high) digits (drop at text) kind
-stops_digits text at low high digits Grammar ends none here =
-    (here.0, here.1, here.2, λ end n.
-        let is : decimal n.number ≡ (digits ++ here.0 ∷ []) ++ end = sym n.is ∙ sym (append_assoc digits (here.0 ∷ []) end) in
-        ends here.0 here.1 here.2 (record { number = n.number; more = end; is = is; above = n.above; below = n.below }))
+stops_digits text at low high digits Grammar ends none here = (
+  here.0,
+  here.1,
+  here.2,
+  λ end n.
+      let is : decimal n.number ≡ (digits ++ here.0 ∷ []) ++ end = sym n.is ∙ sym (append_assoc digits (here.0 ∷ []) end) in
+      ends here.0 here.1 here.2 (record { number = n.number; more = end; is = is; above = n.above; below = n.below }),
+)
 stops_digits text at low high digits End ends none here = (here, none)
 stops_digits text at low high digits TooManyRuns ends none here = here
 stops_digits text at low high digits NotOrdered ends none here = here

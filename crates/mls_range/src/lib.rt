@@ -14,3 +14,6 @@ pub use fault::{TextFault, TextKind, TextStop};
 pub use range::Range;
 pub use reading::{read_label, read_range};
 pub use writing::{write_label, write_range};
+
+#[cfg(test)]
+mod tests;

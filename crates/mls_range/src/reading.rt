@@ -9,11 +9,11 @@ ghost use Rattle.mls_range.specs.RangeText.{IsRangeText, IsRoomyRange, StopsRang
 ghost use Rattle.mls_range.specs.Rest.{ReadsCats, ReadsPart, StopsCats, StopsPart};
 ghost use Rattle.mls_range.specs.TextFault.{StopsLabel};
 
+use crate::Range;
 use crate::fault::{TextFault, TextKind, TextStop};
 use crate::number::read_number;
 use crate::octet::{is_label_end, read_octet};
 use crate::terms::read_terms;
-use crate::Range;
 use mls_label::{CatSet, Label};
 use std::alloc::Global;
 
@@ -60,14 +60,16 @@ fn lone_range(label: Label) -> Result<Range, TextStop>
     ensures err { IfErr result (λ stop. stop ≡ TextStop.OutOfMemory) }
 {
     let high = label.copy()?;
-    Ok(Range {
-        low: label,
-        high,
-    })
+    Ok(Range { low: label, high })
 }
 
 /// Reads a label that begins at `start`, up to the text's end or, with `dash`, up to a dash. Gives it with its end.
-pub(crate) fn read_part(alloc: Global, text: &[u8], start: usize, dash: bool) -> Result<(Label, usize), TextStop>
+pub(crate) fn read_part(
+    alloc: Global,
+    text: &[u8],
+    start: usize,
+    dash: bool,
+) -> Result<(Label, usize), TextStop>
     requires { start ≤ length text.now }
     ensures ok { IfOk result (λ read. ReadsPart dash text.now start read.0 read.1) }
     ensures err { IfErr result (StopsPart dash text.now start) }
@@ -83,7 +85,12 @@ pub(crate) fn read_part(alloc: Global, text: &[u8], start: usize, dash: bool) ->
 }
 
 /// Reads what stands behind a level: a colon and terms, or nothing.
-fn read_cats(alloc: Global, text: &[u8], start: usize, dash: bool) -> Result<(CatSet, usize), TextStop>
+fn read_cats(
+    alloc: Global,
+    text: &[u8],
+    start: usize,
+    dash: bool,
+) -> Result<(CatSet, usize), TextStop>
     requires { start ≤ length text.now }
     ensures ok { IfOk result (λ read. ReadsCats dash text.now start read.0 read.1) }
     ensures err { IfErr result (StopsCats dash text.now start) }
