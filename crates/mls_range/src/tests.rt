@@ -1,40 +1,12 @@
+use super::TextKind::*;
 use super::*;
 use decimal_text::write_decimal;
 use mls_label::OutOfMemory;
 use std::alloc::Global;
 use std::test::Fail;
 
-/// A text and the first fault that it has.
-#[derive(Clone, Copy)]
-struct Refused {
-    text: &'static str,
-    octet: usize,
-    kind: TextKind,
-}
-
-const fn grammar(text: &'static str, octet: usize) -> Refused {
-    Refused {
-        text,
-        octet,
-        kind: TextKind::Grammar,
-    }
-}
-
-const fn end(text: &'static str, octet: usize) -> Refused {
-    Refused {
-        text,
-        octet,
-        kind: TextKind::End,
-    }
-}
-
-const fn unordered(text: &'static str, octet: usize) -> Refused {
-    Refused {
-        text,
-        octet,
-        kind: TextKind::NotOrdered,
-    }
-}
+/// A text, the octet of its first fault, and what is wrong there.
+type Refused = (&'static str, usize, TextKind);
 
 /// Where reading a label stops, or `None` where the text is one.
 fn label_stop(alloc: Global, text: &[u8]) -> Option<TextStop> {
@@ -89,59 +61,61 @@ fn reads_labels_and_writes_their_one_form(rt: HostRuntime) -> Result<(), Fail> {
     Ok(())
 }
 
+/// What is no label, and why.
+const REFUSED_LABELS: [Refused; 44] = [
+    ("", 0, End),
+    ("x", 0, Grammar),
+    ("S0", 0, Grammar),
+    (" s0", 0, Grammar),
+    ("s", 1, End),
+    ("sx", 1, Grammar),
+    ("s:", 1, Grammar),
+    ("s256", 3, Grammar),
+    ("s300", 3, Grammar),
+    ("s01", 2, Grammar),
+    ("s00", 2, Grammar),
+    ("s0x", 2, Grammar),
+    ("s0 ", 2, Grammar),
+    ("s0-s1", 2, Grammar),
+    ("s0:", 3, End),
+    ("s0:x", 3, Grammar),
+    ("s0:,", 3, Grammar),
+    ("s0:c", 4, End),
+    ("s0:cx", 4, Grammar),
+    ("s0:c65535", 8, Grammar),
+    ("s0:c99999", 8, Grammar),
+    ("s0:c655340", 9, Grammar),
+    ("s0:c00", 5, Grammar),
+    ("s0:c07", 5, Grammar),
+    ("s0:c0x", 5, Grammar),
+    ("s0:c1-s1", 5, Grammar),
+    ("s0:c1,", 6, End),
+    ("s0:c1,,", 6, Grammar),
+    ("s0:c1,s0", 6, Grammar),
+    ("s0:c1.", 6, End),
+    ("s0:c1.2", 6, Grammar),
+    ("s0:c65534.", 9, Grammar),
+    ("s0:c1.c", 7, End),
+    ("s0:c1.cx", 7, Grammar),
+    ("s0:c1.c0", 7, Grammar),
+    ("s2:c5.c5", 8, End),
+    ("s2:c5.c5,c7", 8, Grammar),
+    ("s2:c5.c4", 8, End),
+    ("s0:c60000.c7", 11, Grammar),
+    ("s0:c65533.c6553", 15, End),
+    ("s0:c65533.c65533", 15, Grammar),
+    ("s0:c1.c65535", 11, Grammar),
+    ("s0:c1.c2.c3", 8, Grammar),
+    ("s0:c1.c2-s1", 8, Grammar),
+];
+
 #[test]
 fn refuses_labels_at_their_first_fault(rt: HostRuntime) -> Result<(), Fail> {
-    for case in [
-        end("", 0),
-        grammar("x", 0),
-        grammar("S0", 0),
-        grammar(" s0", 0),
-        end("s", 1),
-        grammar("sx", 1),
-        grammar("s:", 1),
-        grammar("s256", 3),
-        grammar("s300", 3),
-        grammar("s01", 2),
-        grammar("s00", 2),
-        grammar("s0x", 2),
-        grammar("s0 ", 2),
-        grammar("s0-s1", 2),
-        end("s0:", 3),
-        grammar("s0:x", 3),
-        grammar("s0:,", 3),
-        end("s0:c", 4),
-        grammar("s0:cx", 4),
-        grammar("s0:c65535", 8),
-        grammar("s0:c99999", 8),
-        grammar("s0:c655340", 9),
-        grammar("s0:c00", 5),
-        grammar("s0:c07", 5),
-        grammar("s0:c0x", 5),
-        grammar("s0:c1-s1", 5),
-        end("s0:c1,", 6),
-        grammar("s0:c1,,", 6),
-        grammar("s0:c1,s0", 6),
-        end("s0:c1.", 6),
-        grammar("s0:c1.2", 6),
-        grammar("s0:c65534.", 9),
-        end("s0:c1.c", 7),
-        grammar("s0:c1.cx", 7),
-        grammar("s0:c1.c0", 7),
-        end("s2:c5.c5", 8),
-        grammar("s2:c5.c5,c7", 8),
-        end("s2:c5.c4", 8),
-        grammar("s0:c60000.c7", 11),
-        end("s0:c65533.c6553", 15),
-        grammar("s0:c65533.c65533", 15),
-        grammar("s0:c1.c65535", 11),
-        grammar("s0:c1.c2.c3", 8),
-        grammar("s0:c1.c2-s1", 8),
-    ] {
+    for (text, octet, kind) in REFUSED_LABELS {
         assert_eq!(rt;
-            label_stop(rt.alloc(), case.text.as_bytes()),
-            fault(case.octet, case.kind),
-            "{}",
-            case.text
+            label_stop(rt.alloc(), text.as_bytes()),
+            fault(octet, kind),
+            "{text}"
         );
     }
     let mut long = Vec::new(rt.alloc());
@@ -149,9 +123,35 @@ fn refuses_labels_at_their_first_fault(rt: HostRuntime) -> Result<(), Fail> {
     for _ in 0..300 {
         long.push(b'0')?;
     }
-    assert_eq!(rt; label_stop(rt.alloc(), &long), fault(9, TextKind::Grammar));
+    assert_eq!(rt; label_stop(rt.alloc(), &long), fault(9, Grammar));
     Ok(())
 }
+
+/// What is no range, and why.
+const REFUSED_RANGES: [Refused; 22] = [
+    ("", 0, End),
+    ("-", 0, Grammar),
+    ("-s0", 0, Grammar),
+    ("s", 1, End),
+    ("s256-s0", 3, Grammar),
+    ("s0--s1", 3, Grammar),
+    ("s0-", 3, End),
+    ("s0-x", 3, Grammar),
+    ("s0-s", 4, End),
+    ("s0-s256", 6, Grammar),
+    ("s0-s1:c1,", 9, End),
+    ("s0-s1-s2", 5, Grammar),
+    ("s0-s1:c1-s2", 8, Grammar),
+    ("s0:c1.-s1", 6, Grammar),
+    ("s0:c5.c5-s1", 8, Grammar),
+    ("s0:c5,-s1", 6, Grammar),
+    ("s0-s1:c5.c5,c6", 11, Grammar),
+    ("s3-s0", 3, NotOrdered),
+    ("s0:c1-s0", 6, NotOrdered),
+    ("s0:c1-s9:c2", 6, NotOrdered),
+    ("s3-s0:", 6, End),
+    ("s3-s0x", 5, Grammar),
+];
 
 #[test]
 fn reads_and_refuses_ranges(rt: HostRuntime) -> Result<(), Fail> {
@@ -170,35 +170,11 @@ fn reads_and_refuses_ranges(rt: HostRuntime) -> Result<(), Fail> {
         assert_eq!(rt; &out[..half], written.as_bytes());
         assert_eq!(rt; &out[half..], written.as_bytes());
     }
-    for case in [
-        end("", 0),
-        grammar("-", 0),
-        grammar("-s0", 0),
-        end("s", 1),
-        grammar("s256-s0", 3),
-        grammar("s0--s1", 3),
-        end("s0-", 3),
-        grammar("s0-x", 3),
-        end("s0-s", 4),
-        grammar("s0-s256", 6),
-        end("s0-s1:c1,", 9),
-        grammar("s0-s1-s2", 5),
-        grammar("s0-s1:c1-s2", 8),
-        grammar("s0:c1.-s1", 6),
-        grammar("s0:c5.c5-s1", 8),
-        grammar("s0:c5,-s1", 6),
-        grammar("s0-s1:c5.c5,c6", 11),
-        unordered("s3-s0", 3),
-        unordered("s0:c1-s0", 6),
-        unordered("s0:c1-s9:c2", 6),
-        end("s3-s0:", 6),
-        grammar("s3-s0x", 5),
-    ] {
+    for (text, octet, kind) in REFUSED_RANGES {
         assert_eq!(rt;
-            range_stop(rt.alloc(), case.text.as_bytes()),
-            fault(case.octet, case.kind),
-            "{}",
-            case.text
+            range_stop(rt.alloc(), text.as_bytes()),
+            fault(octet, kind),
+            "{text}"
         );
     }
     Ok(())
@@ -212,38 +188,16 @@ fn takes_1952_runs_and_no_more(rt: HostRuntime) -> Result<(), Fail> {
 
     let term = text.len() + 1;
     text.extend_from_slice(b",c3904")?;
-    assert_eq!(rt;
-        label_stop(rt.alloc(), &text),
-        fault(term, TextKind::TooManyRuns)
-    );
-    assert_eq!(rt;
-        range_stop(rt.alloc(), &text),
-        fault(term, TextKind::TooManyRuns)
-    );
+    assert_eq!(rt; label_stop(rt.alloc(), &text), fault(term, TooManyRuns));
+    assert_eq!(rt; range_stop(rt.alloc(), &text), fault(term, TooManyRuns));
 
     // a later fault doesn't count, and a term without its end neither
     let whole = text.len();
     for (behind, label_fault, range_fault) in [
-        (
-            ",x",
-            fault(term, TextKind::TooManyRuns),
-            fault(term, TextKind::TooManyRuns),
-        ),
-        (
-            "-s0",
-            fault(whole, TextKind::Grammar),
-            fault(term, TextKind::TooManyRuns),
-        ),
-        (
-            "x",
-            fault(whole, TextKind::Grammar),
-            fault(whole, TextKind::Grammar),
-        ),
-        (
-            ".",
-            fault(whole + 1, TextKind::End),
-            fault(whole + 1, TextKind::End),
-        ),
+        (",x", fault(term, TooManyRuns), fault(term, TooManyRuns)),
+        ("-s0", fault(whole, Grammar), fault(term, TooManyRuns)),
+        ("x", fault(whole, Grammar), fault(whole, Grammar)),
+        (".", fault(whole + 1, End), fault(whole + 1, End)),
     ] {
         text.extend_from_slice(behind.as_bytes())?;
         assert_eq!(rt; label_stop(rt.alloc(), &text), label_fault, "{behind}");
@@ -265,13 +219,10 @@ fn counts_runs_in_the_high_label(rt: HostRuntime) -> Result<(), Fail> {
     text.extend_from_slice(b"s0-")?;
     text.extend_from_slice(&high)?;
     let whole = text.len();
-    let term = fault(whole.saturating_sub(5), TextKind::TooManyRuns);
+    let term = fault(whole.saturating_sub(5), TooManyRuns);
     assert_eq!(rt; range_stop(rt.alloc(), &text), term);
     text.push(b'-')?;
-    assert_eq!(rt;
-        range_stop(rt.alloc(), &text),
-        fault(whole, TextKind::Grammar)
-    );
+    assert_eq!(rt; range_stop(rt.alloc(), &text), fault(whole, Grammar));
     Ok(())
 }
 
