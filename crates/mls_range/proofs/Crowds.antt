@@ -1,6 +1,6 @@
 -- What the reader of terms keeps, and when it finds the term that is too much.
-use Rattle.std.proofs.Common.{◌≡◌, ℕ, zero, suc, ◌+◌, ◌-◌, ◌<◌, ◌≤◌, Bool, true, false, ◌||◌, cond, List, [], ◌∷◌, ◌++◌, length, get_or, take, drop, refl, sym, ap, subst, ◌∙◌, append_assoc, length-append, arith, inl, inr, ◌⊎◌}
-use Rattle.std.specs.List.{All, flat_map, list_any}
+use Rattle.std.proofs.Common.{◌≡◌, ℕ, zero, suc, ◌+◌, ◌<◌, ◌≤◌, Bool, ◌||◌, List, [], ◌∷◌, ◌++◌, length, get_or, take, drop, refl, sym, ap, subst, ◌∙◌, append_assoc, length-append, arith, inl, inr, ◌⊎◌}
+use Rattle.std.specs.List.{All, flat_map}
 use Rattle.std.proofs.lemmas.Bool.{cases_lt}
 use Rattle.std.proofs.Math.Bool.{or-false}
 use Rattle.std.proofs.lemmas.List.{append-nil, take-append-le, take_all, get_or_past}
@@ -18,9 +18,9 @@ use Rattle.mls_range.specs.declared.fault.TextKind.TheVariants.{Grammar, End, To
 use Rattle.mls_range.specs.LabelText.{IsTerm, term_text, term_has, cats_of_terms}
 use Rattle.mls_range.specs.Crowd.{IsCounted, with_comma, run_count, CrowdsTerms}
 use Rattle.mls_range.specs.Rest.{Reads, FaultIn, StopsIn, separated, Terms, TermOn, ReadsTerm, ReadsTerms, IsLabelEnd, FailsTerms, StopsRun, StopsTerms}
-use Rattle.mls_range.proofs.Places.{reads_none, reads_octet, reads_on, reads_length, drop_at, first_is}
+use Rattle.mls_range.proofs.Places.{reads_none, reads_octet, reads_on, reads_length, first_is}
 use Rattle.mls_range.proofs.Rests.{fault_goes}
-use Rattle.mls_range.proofs.TermLists.{comma_is, Among, Behind, First, peel, first_of_terms, term_unique, goes_terms, fault_terms, fault_no_counted}
+use Rattle.mls_range.proofs.TermLists.{comma_is, Behind, First, peel, first_of_terms, term_unique, goes_terms, fault_terms, fault_no_counted}
 
 -- ---- sets of categories
 

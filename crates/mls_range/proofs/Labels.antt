@@ -1,8 +1,7 @@
 -- What may come within a label's text, and its faults.
-use Rattle.std.proofs.Common.{◌≡◌, ℕ, zero, suc, ◌+◌, ◌-◌, ◌^◌, ◌<◌, ◌≤◌, Bool, true, false, IsTrue, List, [], ◌∷◌, ◌++◌, length, get_or, take, drop, refl, sym, ap, subst, ◌∙◌, append_assoc, length-append, arith, inl, inr, ◌⊎◌}
+use Rattle.std.proofs.Common.{◌≡◌, ℕ, ◌+◌, ◌-◌, ◌≤◌, Bool, IsTrue, List, [], ◌∷◌, ◌++◌, length, drop, refl, sym, ap, subst, ◌∙◌, append_assoc, arith, inl, inr, ◌⊎◌}
 use Rattle.std.specs.Fmt.{decimal}
 use Rattle.std.specs.List.{All}
-use Rattle.std.proofs.lemmas.List.{append-nil, get_or_past}
 use Rattle.std.proofs.lemmas.List.Elements.{All-nil, All-cons, All-head, All-tail}
 use Rattle.mls_label.specs.declared.label.Label.{Label}
 use Rattle.mls_range.specs.declared.fault.TextFault.{TextFault}
@@ -10,11 +9,10 @@ use Rattle.mls_range.specs.declared.fault.TextStop.{TextStop}
 use Rattle.mls_range.specs.declared.fault.TextStop.TheVariants.{Fault, OutOfMemory}
 use Rattle.mls_range.specs.declared.fault.TextKind.{TextKind}
 use Rattle.mls_range.specs.declared.fault.TextKind.TheVariants.{Grammar, End, TooManyRuns, NotOrdered}
-use Rattle.mls_range.specs.LabelText.{IsTerm, term_text, terms_text, cats_of_terms, IsLabelText}
+use Rattle.mls_range.specs.LabelText.{IsTerm, term_text}
 use Rattle.mls_range.specs.Crowd.{CrowdsTerms, CrowdsLabel, IsRoomy}
-use Rattle.mls_range.specs.Number.{IsDigit}
-use Rattle.mls_range.specs.Rest.{Reads, FaultIn, StopsIn, MissesOctet, IsLabelEnd, separated, Terms, MoreTerms, BehindLevel, LabelOn, FailsNumber, ReadsNumber, ReadsTerms, FailsTerms, StopsTerms, ReadsCats, FailsCats, StopsCats, CrowdsBehind, IsRoomyBehind, ReadsPart, FailsPart, StopsPart}
-use Rattle.mls_range.proofs.Places.{reads_none, reads_on, reads_length, drop_end, first_is}
+use Rattle.mls_range.specs.Rest.{Reads, FaultIn, StopsIn, MissesOctet, IsLabelEnd, separated, Terms, BehindLevel, LabelOn, FailsNumber, ReadsNumber, ReadsTerms, FailsTerms, StopsTerms, ReadsCats, FailsCats, StopsCats, CrowdsBehind, IsRoomyBehind, ReadsPart, FailsPart, StopsPart}
+use Rattle.mls_range.proofs.Places.{reads_none, reads_on, reads_length}
 use Rattle.mls_range.proofs.Rests.{Goes, goes_octet, goes_number, NumberThen, IsApart, fault_goes, fault_now, number_then, stops_octet}
 use Rattle.mls_range.proofs.TermLists.{NoDigit, stops_not}
 use Rattle.mls_range.proofs.TermRests.{fault_number}

@@ -1,14 +1,13 @@
 -- What the reader of numbers keeps.
-use Rattle.std.proofs.Common.{◌≡◌, ℕ, ◌+◌, ◌-◌, ◌*◌, ◌^◌, ◌<◌, ◌≤◌, List, [], ◌∷◌, ◌++◌, length, get_or, drop, refl, sym, ap, subst, ◌∙◌, append_assoc, arith, inl, inr, ◌⊎◌}
+use Rattle.std.proofs.Common.{◌≡◌, ℕ, ◌+◌, ◌-◌, ◌*◌, ◌<◌, ◌≤◌, List, [], ◌∷◌, ◌++◌, length, get_or, drop, refl, sym, ap, subst, ◌∙◌, append_assoc, arith, inl, inr, ◌⊎◌}
 use Rattle.std.specs.Fmt.{decimal}
-use Rattle.std.proofs.lemmas.List.{append-nil}
 use Rattle.std.proofs.lemmas.Fmt.{decimal_nonempty}
 use Rattle.mls_range.specs.declared.fault.TextFault.{TextFault}
 use Rattle.mls_range.specs.declared.fault.TextKind.{TextKind}
 use Rattle.mls_range.specs.declared.fault.TextKind.TheVariants.{Grammar, End, TooManyRuns, NotOrdered}
 use Rattle.mls_range.specs.Number.{BeginsNumber, number_after, GoesOn}
 use Rattle.mls_range.specs.Rest.{Reads, FaultIn, FailsNumber, IsNumber, ReadsNumber, StopsHere, StopsIn}
-use Rattle.mls_range.proofs.Digits.{begins_goes, goes_begins, number-decimal, decimal-number, number_after-append, begins_small, begins_number, grows}
+use Rattle.mls_range.proofs.Digits.{begins_goes, goes_begins, number-decimal, number_after-append, begins_small, begins_number, grows}
 use Rattle.mls_range.proofs.Places.{drop_at, drop_end, reads_none, reads_octet, reads_on, reads_length, reads_nothing}
 
 -- the digits from start on, and their number

@@ -1,11 +1,9 @@
 -- Texts of ranges: their faults from those of their labels, their one value, and their written form.
-use Rattle.std.proofs.Common.{◌≡◌, ℕ, zero, suc, ◌+◌, ◌-◌, ◌<◌, ◌≤◌, Bool, true, false, ◌&&◌, cond, nat_eq, List, [], ◌∷◌, ◌++◌, length, take, drop, refl, sym, ap, subst, ◌∙◌, append_assoc, length-append, arith, inl, inr, ◌⊎◌, IsTrue}
+use Rattle.std.proofs.Common.{◌≡◌, ℕ, ◌+◌, ◌<◌, Bool, true, false, cond, nat_eq, List, [], ◌∷◌, ◌++◌, length, drop, refl, sym, ap, subst, ◌∙◌, append_assoc, arith, inl, inr}
 use Rattle.std.specs.Str.{bytes_eq}
-use Rattle.std.proofs.lemmas.Bool.{true≢false, false≢true, eq-eqb}
 use Rattle.std.proofs.lemmas.Bool.Decides.{Decides-and, Decides-eqb}
 use Rattle.std.proofs.lemmas.Slice.Eq.{bytes_eq-Decides}
 use Rattle.std.proofs.lemmas.List.{append-nil}
-use Rattle.octet_grammar.specs.Fault.{IsFault}
 use Rattle.mls_label.specs.declared.label.Label.{Label}
 use Rattle.mls_label.specs.Cats.{IsCats}
 use Rattle.mls_label.specs.Label.{Dominates}
@@ -17,7 +15,7 @@ use Rattle.mls_range.specs.declared.fault.TextKind.TheVariants.{Grammar, End, To
 use Rattle.mls_range.specs.LabelText.{IsLabelText, label_text}
 use Rattle.mls_range.specs.Crowd.{CrowdsLabel, IsRoomy}
 use Rattle.mls_range.specs.Range.{Ends}
-use Rattle.mls_range.specs.RangeText.{IsLone, IsPair, IsRangeText, same_label, range_text, CrowdsHigh, CrowdsRange, IsRoomyRange, IsUnordered, FailsRange, StopsRange}
+use Rattle.mls_range.specs.RangeText.{IsPair, IsRangeText, same_label, range_text, IsRoomyRange, IsUnordered, FailsRange, StopsRange}
 use Rattle.mls_range.specs.Rest.{Reads, FaultIn, StopsIn, IsLabelEnd, LabelOn, FailsPart, StopsPart, ReadsPart}
 use Rattle.mls_range.proofs.Places.{reads_on, reads_length, reads_octet, drop_at, drop_end}
 use Rattle.mls_range.proofs.Rests.{Goes, fault_goes, cuts}

@@ -1,5 +1,5 @@
 -- What may still come behind a part of a text, and the faults there.
-use Rattle.std.proofs.Common.{◌≡◌, ℕ, zero, suc, ◌+◌, ◌-◌, ◌*◌, ◌^◌, ◌<◌, ◌≤◌, Bool, List, [], ◌∷◌, ◌++◌, length, get_or, take, drop, refl, sym, ap, subst, ◌∙◌, append_assoc, arith, inl, inr, ◌⊎◌}
+use Rattle.std.proofs.Common.{◌≡◌, ℕ, ◌^◌, ◌<◌, ◌≤◌, Bool, List, [], ◌∷◌, ◌++◌, length, take, drop, refl, sym, ap, subst, ◌∙◌, append_assoc, arith, inl, inr, ◌⊎◌}
 use Rattle.std.specs.Fmt.{decimal}
 use Rattle.std.proofs.lemmas.List.{append-nil}
 use Rattle.std.proofs.lemmas.Fmt.{decimal_injective}
@@ -7,7 +7,7 @@ use Rattle.mls_range.specs.declared.fault.TextFault.{TextFault}
 use Rattle.mls_range.specs.declared.fault.TextKind.{TextKind}
 use Rattle.mls_range.specs.declared.fault.TextKind.TheVariants.{Grammar, End, TooManyRuns, NotOrdered}
 use Rattle.mls_range.specs.Number.{BeginsNumber, IsDigit, AllDigits}
-use Rattle.mls_range.specs.Rest.{Reads, FaultIn, FailsNumber, IsNumber, MissesEnd, MissesOctet, ReadsNumber, StopsIn}
+use Rattle.mls_range.specs.Rest.{Reads, FaultIn, FailsNumber, IsNumber, MissesEnd, MissesOctet, StopsIn}
 use Rattle.mls_range.specs.Crowd.{IsCounted}
 use Rattle.mls_range.proofs.Digits.{digits_of_decimal, digits_back, digits_front}
 use Rattle.mls_range.proofs.Places.{reads_none, reads_on}

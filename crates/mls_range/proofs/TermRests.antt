@@ -1,17 +1,15 @@
 -- What may come within a term and behind it.
-use Rattle.std.proofs.Common.{◌≡◌, ℕ, zero, suc, ◌+◌, ◌-◌, ◌*◌, ◌^◌, ◌<◌, ◌≤◌, Bool, true, false, cond, nat_eq, List, [], ◌∷◌, ◌++◌, length, get_or, take, drop, refl, sym, ap, subst, ◌∙◌, append_assoc, arith, inl, inr, ◌⊎◌}
+use Rattle.std.proofs.Common.{◌≡◌, ℕ, ◌+◌, ◌<◌, ◌≤◌, Bool, cond, List, [], ◌∷◌, ◌++◌, length, get_or, drop, refl, sym, ap, subst, ◌∙◌, append_assoc, arith, inl, inr, ◌⊎◌}
 use Rattle.std.specs.Fmt.{decimal}
 use Rattle.std.proofs.lemmas.Bool.{cases_lt, cases_eq, eq-eqb, ne_eqb}
 use Rattle.std.proofs.lemmas.List.{append-nil}
 use Rattle.mls_range.specs.declared.fault.TextFault.{TextFault}
-use Rattle.mls_range.specs.declared.fault.TextKind.{TextKind}
-use Rattle.mls_range.specs.declared.fault.TextKind.TheVariants.{Grammar, End, TooManyRuns, NotOrdered}
-use Rattle.mls_range.specs.LabelText.{IsTerm, term_text}
+use Rattle.mls_range.specs.LabelText.{term_text}
 use Rattle.mls_range.specs.Crowd.{IsCounted}
 use Rattle.mls_range.specs.Number.{IsDigit}
 use Rattle.mls_range.specs.Rest.{Reads, ReadsNumber, FaultIn, MissesOctet, MissesEnd, TermOn, BehindFirst, last_text}
 use Rattle.mls_range.proofs.Places.{first_is}
-use Rattle.mls_range.proofs.Rests.{Goes, goes_octet, goes_number, NumberThen, IsApart, fault_goes, fault_now, number_then, stops_octet, stops_end}
+use Rattle.mls_range.proofs.Rests.{Goes, goes_octet, goes_number, NumberThen, IsApart, fault_goes, fault_now, stops_octet, stops_end}
 
 -- ---- the two forms of a term
 

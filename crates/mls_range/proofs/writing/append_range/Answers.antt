@@ -1,7 +1,6 @@
 use Rattle.std.proofs.Common.{◌≡◌, ℕ, List, [], ◌∷◌, ◌++◌, ap, sym, ◌∙◌, append_assoc}
 use Rattle.std.proofs.lemmas.Bool.{false≢true}
 use Rattle.mls_range.specs.LabelText.{label_text}
-use Rattle.mls_range.specs.RangeText.{range_text}
 use Rattle.mls_range.proofs.RangeTexts.{text_pair}
 use Rattle.mls_range.proofs.writing.append_range.Goals as goal
 
