@@ -3,7 +3,11 @@
 #![tactic(auto)]
 
 mod cat_set;
+mod kept_runs;
 mod label;
+mod laws;
+#[cfg(test)]
+mod tests;
 
 pub use cat_set::{CatSet, SetStop};
 pub use label::{Label, OutOfMemory, Tag};
