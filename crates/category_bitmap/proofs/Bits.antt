@@ -1,11 +1,11 @@
 -- The categories of a bitmap, collected stretch by stretch.
-use Rattle.std.proofs.Common.{◌≡◌, ℕ, ◌+◌, ◌-◌, ◌*◌, ◌/◌, ◌%◌, ◌<◌, ◌≤◌, Bool, true, false, not, ◌==◌, ◌&&◌, ◌||◌, nat_lt, nat_le, List, [], length, get_or, refl, sym, ap, subst, ◌∙◌, arith, inl, inr}
+use Rattle.std.proofs.Common.{◌≡◌, ℕ, ◌-◌, ◌*◌, ◌/◌, ◌%◌, ◌<◌, ◌≤◌, Bool, true, false, ◌==◌, ◌&&◌, ◌||◌, nat_lt, List, [], length, get_or, sym, ap, ◌∙◌, arith, inl, inr}
 use Rattle.std.proofs.lemmas.Bool.{cases_lt, true≢false}
 use Rattle.std.proofs.lemmas.Bool.Decides.{nat_tests}
 use Rattle.std.proofs.lemmas.Nat.Bits.{bit_at-zero}
 use Rattle.std.proofs.lemmas.List.{get_or_past}
 use Rattle.std.specs.Int.{bit_at}
-use Rattle.mls_label.specs.Cats.{has, IsCats, cats_where, is_within}
+use Rattle.mls_label.specs.Cats.{has, cats_where, is_within}
 use Rattle.mls_label.proofs.Cats.{cats_where_is, cats_where_same, has-cats_where}
 use Rattle.category_bitmap.specs.Bitmap.{has_bit, bitmap_cats}
 
@@ -50,9 +50,9 @@ below_more bitmap cats new first after next lt le so_far added ones zeros =
     added
     ∙ cats_where_same (λ c. has cats c || is_within first (after - 1) c) (λ c. has_bit bitmap c && nat_lt c next)
     (λ c small.
-        ap (λ xs. has xs c || is_within first (after - 1) c) so_far
-        ∙ ap (λ b. b || is_within first (after - 1) c) (has-cats_where (λ d. has_bit bitmap d && nat_lt d first) c small)
-        ∙ one_more (has_bit bitmap c) c first after next lt le (ones c) (zeros c))
+    ap (λ xs. has xs c || is_within first (after - 1) c) so_far
+    ∙ ap (λ b. b || is_within first (after - 1) c) (has-cats_where (λ d. has_bit bitmap d && nat_lt d first) c small)
+    ∙ one_more (has_bit bitmap c) c first after next lt le (ones c) (zeros c))
 
 all_below : (b : Bool) (c end : ℕ) → (end ≤ c → b ≡ false) → (b && nat_lt c end) ≡ b
 all_below b c end zeros =

@@ -1,4 +1,4 @@
-use Rattle.std.proofs.Common.{rules, ◌≡◌, ◌+◌, ◌<◌, ◌≤◌, ◌-◌, ◌*◌, length, ap, ◌∙◌, arith}
+use Rattle.std.proofs.Common.{◌<◌, ◌*◌, length, ap, ◌∙◌, arith}
 use Rattle.mls_label.specs.Runs.{runs_of}
 use Rattle.category_bitmap.proofs.Bits.{below_start, below_more, below_end, past_first}
 use Rattle.category_bitmap.proofs.read.read_bitmap.Goals as goal
