@@ -1,0 +1,111 @@
+-- Decimal texts, digit by digit.
+use Rattle.std.proofs.Common.{◌≡◌, ℕ, suc, zero, ◌+◌, ◌-◌, ◌*◌, ◌/◌, ◌%◌, ◌^◌, ◌<◌, ◌≤◌, List, [], ◌∷◌, ◌++◌, length, get_or, set, take, drop, refl, sym, ap, subst, ◌∙◌, append_assoc, arith, inl, inr, ◌⊎◌, Option, Some, None}
+use Rattle.std.specs.Prelude.{IfSome, IfNone}
+use Rattle.std.specs.Char.{digit_value}
+use Rattle.std.specs.Fmt.{decimal}
+use Rattle.std.specs.Str.Parse.{AllDigits, digits_value, digits_value_after}
+use Rattle.std.proofs.lemmas.List.{length-append}
+use Rattle.std.proofs.lemmas.Fmt.{decimal_digit, decimal_step, length-decimal-le, decimal_nonempty, first_decimal, digits_decimal, digits_value-decimal, decimal-digits_value}
+use Rattle.std.proofs.lemmas.Str.Parse.{IsNumeralModel}
+use Rattle.std.proofs.lemmas.Bool.Decides.{nat_tests}
+use Rattle.std.proofs.lemmas.Int.Digits.{digits_value_more, digits_more}
+
+-- std's own words are a model of numerals
+pub own : IsNumeralModel (AllDigits 10) (digits_value 10)
+own = record { to = λ ds h. h; from = λ ds h. h; same = λ ds h. refl }
+
+pub room_for_decimal : (n : ℕ) → n < 2 ^ 64 → length (decimal n) ≤ 20
+room_for_decimal n small = length-decimal-le 20 n (omega arith) (omega arith) small
+
+-- one digit fewer is to be written, and room is left for those before it
+pub step_room : (n room : ℕ) → 10 ≤ n → n < 2 ^ 64 → length (decimal n) ≤ room → (length (decimal (n / 10)) ≤ room - 1) × (1 < room)
+step_room n room many small le =
+    let e = ap length (decimal_step n many small) in
+    let more = decimal_nonempty (n / 10) (omega arith) in
+    (omega (arith, e, length-append (decimal (n / 10)) ((48 + n % 10) ∷ [])), omega (arith, e, more, length-append (decimal (n / 10)) ((48 + n % 10) ∷ [])))
+
+pub drop-set : {X : Type 0} (xs : List X) (i : ℕ) (x : X) → i < length xs → drop i (set xs i x) ≡ x ∷ drop (i + 1) xs
+drop-set [] i x lt = absurd (omega arith)
+drop-set (y ∷ xs) zero x lt = refl
+drop-set (y ∷ xs) (suc i) x lt =
+    let e : suc (i + 1) ≡ suc i + 1 = omega arith in
+    drop-set xs i x (omega arith) ∙ ap (λ k. x ∷ drop k (y ∷ xs)) e
+
+-- the next digit goes in front of those that are written
+pub step_digits : (n m first : ℕ) (digits : List ℕ) → 10 ≤ n → n < 2 ^ 64 → 0 < first → first ≤ length digits → decimal n ++ drop first digits ≡ decimal m → decimal (n / 10) ++ drop (first - 1) (set digits (first - 1) (48 + n % 10)) ≡ decimal m
+step_digits n m first digits many small pos le spelled =
+    let e : drop (first - 1) (set digits (first - 1) (48 + n % 10)) ≡ (48 + n % 10) ∷ drop first digits =
+    drop-set digits (first - 1) (48 + n % 10) (omega arith) ∙ ap (λ k. (48 + n % 10) ∷ drop k digits) (omega arith) in
+    ap (λ t. decimal (n / 10) ++ t) e ∙ sym (append_assoc (decimal (n / 10)) ((48 + n % 10) ∷ []) (drop first digits)) ∙ ap (λ t. t ++ drop first digits) (sym (decimal_step n many small)) ∙ spelled
+
+pub last_digits : (n m first : ℕ) (digits : List ℕ) → n < 10 → 0 < first → first ≤ length digits → decimal n ++ drop first digits ≡ decimal m → drop (first - 1) (set digits (first - 1) (48 + n)) ≡ decimal m
+last_digits n m first digits one pos le spelled =
+    let e : drop (first - 1) (set digits (first - 1) (48 + n)) ≡ (48 + n) ∷ drop first digits =
+    drop-set digits (first - 1) (48 + n) (omega arith) ∙ ap (λ k. (48 + n) ∷ drop k digits) (omega arith) in
+    e ∙ ap (λ t. t ++ drop first digits) (sym (decimal_digit n one)) ∙ spelled
+
+-- the front of a text of digits, and its value
+
+value_grows : (n : ℕ) (ds : List ℕ) → n ≤ digits_value_after 10 n ds
+value_grows n [] = omega arith
+value_grows n (d ∷ ds) = omega (arith, value_grows (n * 10 + digit_value d) ds)
+
+value_front : (n : ℕ) (k : ℕ) (ds : List ℕ) → digits_value_after 10 n (take k ds) ≤ digits_value_after 10 n ds
+value_front n zero ds = value_grows n ds
+value_front n (suc k) [] = omega arith
+value_front n (suc k) (d ∷ ds) = value_front (n * 10 + digit_value d) k ds
+
+pub value_at_front : (k : ℕ) (ds : List ℕ) → digits_value 10 (take k ds) ≤ digits_value 10 ds
+value_at_front k ds = value_front 0 k ds
+
+-- what `is_ascii_digit` tests is a digit, and has this value
+pub digit_of_octet : (c : ℕ) → 48 ≤ c → c ≤ 57 → digit_value c ≡ c - 48
+digit_of_octet c low high = grind (arith, nat_tests)
+
+-- one more digit is read
+pub read_more : (ds : List ℕ) (i value : ℕ) → i < length ds → AllDigits 10 (take i ds) → digits_value 10 (take i ds) ≡ value → 48 ≤ get_or ds i 0 → get_or ds i 0 ≤ 57
+    → AllDigits 10 (take (i + 1) ds) × (digits_value 10 (take (i + 1) ds) ≡ value * 10 + (get_or ds i 0 - 48))
+read_more ds i value lt digits is low high =
+    let d = digit_of_octet (get_or ds i 0) low high in
+    (digits_more 10 ds i lt digits (omega (arith, d)), omega (arith, digits_value_more 10 ds i lt, is, d))
+
+-- the value so far, times ten, is no more than the whole
+pub value_times_ten : (ds : List ℕ) (i value : ℕ) → i < length ds → digits_value 10 (take i ds) ≡ value → 48 ≤ get_or ds i 0 → get_or ds i 0 ≤ 57 → value * 10 + (get_or ds i 0 - 48) ≤ digits_value 10 ds
+value_times_ten ds i value lt is low high =
+    omega (arith, value_at_front (i + 1) ds, digits_value_more 10 ds i lt, is, digit_of_octet (get_or ds i 0) low high)
+
+-- a text that has the spelling of a number is of digits, and its value is that number
+pub spelled_digits : (text : List ℕ) (n : ℕ) → n < 2 ^ 64 → text ≡ decimal n → AllDigits 10 text × (digits_value 10 text ≡ n)
+spelled_digits text n small e = subst (λ t. AllDigits 10 t × (digits_value 10 t ≡ n)) (sym e) (digits_decimal own n small, digits_value-decimal own n small)
+
+-- without a zero in front, digits are the spelling of their value
+pub digits_spelled : (text : List ℕ) (n : ℕ) → n < 2 ^ 64 → AllDigits 10 text → digits_value 10 text ≡ n → 0 < length text → (get_or text 0 0 ≡ 48 → length text ≡ 1) → text ≡ decimal n
+digits_spelled text n small digits is some lead =
+    sym (ap decimal (sym is) ∙ decimal-digits_value own text digits some lead (omega (arith, is)))
+
+pub empty_is_none : (n : ℕ) → n < 2 ^ 64 → [] ≡ decimal n → ⊥
+empty_is_none n small e = omega (arith, decimal_nonempty n small, ap length e)
+
+-- two octets or more, of which the first is `0`
+pub zero_in_front : (text : List ℕ) (n : ℕ) → n < 2 ^ 64 → 1 < length text → get_or text 0 0 ≡ 48 → text ≡ decimal n → ⊥
+zero_in_front text zero small long front e =
+    let one : decimal 0 ≡ 48 ∷ [] = decimal_digit 0 (omega arith) in
+    omega (arith, ap length (e ∙ one))
+zero_in_front text (suc n) small long front e = omega (arith, first_decimal (suc n) (omega arith) small, ap (λ t. get_or t 0 0) e)
+
+-- neither can be the spelling of a number: nothing at all, or a zero that other octets follow
+pub unspelled : (text : List ℕ) (n : ℕ) → n < 2 ^ 64 → (length text ≡ 0) ⊎ ((1 < length text) × (get_or text 0 0 ≡ 48)) → text ≡ decimal n → ⊥
+unspelled text n small (inl none) e = omega (arith, decimal_nonempty n small, ap length e)
+unspelled text n small (inr spare) e = zero_in_front text n small spare.0 spare.1 e
+
+-- what reading the digits gives, for a text without a spare zero
+pub read_as_spelled : (text : List ℕ) (r : Option ℕ) → 0 < length text → (get_or text 0 0 ≡ 48 → length text ≡ 1)
+    → IfSome r (λ n. AllDigits 10 text × (digits_value 10 text ≡ n) × (n < 2 ^ 64)) → IfSome r (λ n. text ≡ decimal n)
+read_as_spelled text None some lead read = tt
+read_as_spelled text (Some n) some lead read = digits_spelled text n read.2 read.0 read.1 some lead
+
+pub refused_as_unspelled : (text : List ℕ) (r : Option ℕ) → IfNone r (AllDigits 10 text → 2 ^ 64 ≤ digits_value 10 text) → IfNone r ((n : ℕ) → n < 2 ^ 64 → text ≡ decimal n → ⊥)
+refused_as_unspelled text None large = λ n small e.
+    let s = spelled_digits text n small e in
+    omega (arith, large s.0, s.1)
+refused_as_unspelled text (Some m) large = tt

@@ -1,0 +1,12 @@
+//! Numbers as decimal text, without sign or leading zero: the one spelling that words, scripts, labels and reports
+//! share. A contract sees the spelling as std's `decimal`, which is what `{}` prints.
+#![tactic(auto)]
+
+mod reading;
+mod writing;
+
+pub use reading::read_decimal;
+pub use writing::write_decimal;
+
+#[cfg(test)]
+mod tests;

@@ -1,0 +1,47 @@
+ghost use Rattle.std.specs.Prelude.{◌≡◌, ℕ, ◌+◌, ◌*◌, ◌<◌, ◌≤◌, ◌^◌, ◌⊎◌, length, slice_index, IfSome, IfNone, MatchBool};
+ghost use Rattle.std.specs.Option.{SomeIff};
+ghost use Rattle.std.specs.Fmt.{decimal};
+ghost use Rattle.std.specs.Str.Parse.{AllDigits, digits_value};
+
+/// The number whose decimal text this is, and `None` where it is that of no number below 2^64.
+pub fn read_decimal(text: &[u8]) -> Option<u64>
+    ensures read { IfSome result (λ n. text.now ≡ decimal n) }
+    ensures none { IfNone result ((n : ℕ) → n < 2 ^ 64 → text.now ≡ decimal n → ⊥) }
+{
+    if has_spare_zero(text) {
+        return None;
+    }
+    value_of_digits(text)
+}
+
+/// There is no octet at all, or a zero that other octets follow.
+fn has_spare_zero(text: &[u8]) -> bool
+    ensures { MatchBool result ((length text.now ≡ 0) ⊎ ((1 < length text.now) × (slice_index text.now 0 ≡ 48))) (0 < length text.now × (slice_index text.now 0 ≡ 48 → length text.now ≡ 1)) }
+{
+    text.is_empty() || (text.len() > 1 && text[0] == b'0')
+}
+
+/// The value of a text of digits, and `None` where there is another octet or the value needs more than 64 bits.
+fn value_of_digits(text: &[u8]) -> Option<u64>
+    ensures digits { IfSome result (λ n. AllDigits 10 text.now × (digits_value 10 text.now ≡ n) × (n < 2 ^ 64)) }
+    ensures none { IfNone result (AllDigits 10 text.now → 2 ^ 64 ≤ digits_value 10 text.now) }
+{
+    let mut value = 0u64;
+    for octet in text {
+        if !octet.is_ascii_digit() {
+            return None;
+        }
+        let Some(more) = with_digit(value, *octet - b'0') else {
+            return None;
+        };
+        value = more;
+    }
+    Some(value)
+}
+
+/// A number with one more digit at its end, where it still fits.
+fn with_digit(value: u64, digit: u8) -> Option<u64>
+    ensures { SomeIff result (value * 10 + digit < 2 ^ 64) (value * 10 + digit) }
+{
+    value.checked_mul(10)?.checked_add(u64::from(digit))
+}

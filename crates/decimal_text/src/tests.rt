@@ -1,0 +1,32 @@
+use super::*;
+use std::test::Fail;
+
+#[test]
+fn spells_and_reads_numbers(rt: HostRuntime) -> Result<(), Fail> {
+    let cases: [(u64, &str); 5] = [
+        (0, "0"),
+        (7, "7"),
+        (10, "10"),
+        (4294967295, "4294967295"),
+        (18446744073709551615, "18446744073709551615"),
+    ];
+    for (number, text) in cases {
+        let mut out = Vec::new(rt.alloc());
+        write_decimal(number, &mut out)?;
+        assert_eq!(rt; out.as_slice(), text.as_bytes());
+        assert_eq!(rt; read_decimal(text.as_bytes()), Some(number));
+    }
+    for text in [
+        "",
+        "00",
+        "07",
+        "+7",
+        "-0",
+        " 7",
+        "7 ",
+        "18446744073709551616",
+    ] {
+        assert_eq!(rt; read_decimal(text.as_bytes()), None, "at {text}");
+    }
+    Ok(())
+}
