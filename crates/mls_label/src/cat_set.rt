@@ -1,8 +1,12 @@
 //! A set of categories, kept as its maximal runs in ascending order.
 
-ghost use Rattle.std.specs.Prelude.{◌≡◌, [], List};
+ghost use Rattle.std.specs.Prelude.{◌≡◌, ℕ, ◌+◌, ◌<◌, ◌≤◌, ◌||◌, ◌↔◌, [], List, length, IsTrue, IfOk, MatchOption, OnOk, OnErr, IsErrOf, slice_get};
+ghost use Rattle.mls_label.specs.Cats.{has, is_within, cats_where, IsCats, IsSubset};
+ghost use Rattle.mls_label.specs.Runs.{runs_of};
 
-use std::alloc::{AllocFailed, Global};
+use crate::OutOfMemory;
+use crate::kept_runs::{count_of, highest_of, holds, is_inside, join};
+use std::alloc::{AllocError, AllocFailed, Global};
 use std::marker::Model;
 
 /// The most maximal runs that a set may have.
@@ -14,6 +18,28 @@ pub enum SetStop {
     /// The set would need more than 1,952 maximal runs.
     TooManyRuns,
     OutOfMemory,
+}
+
+impl<T: Drop> From<AllocFailed<T>> for SetStop {
+    ghost use Rattle.std.specs.Prelude.{◌≡◌};
+    ghost use Rattle.mls_label.specs.declared.cat_set.SetStop.TheVariants.{OutOfMemory};
+
+    ghost from_gives = { λ _ stop. stop ≡ OutOfMemory };
+
+    fn from(_failed: AllocFailed<T>) -> SetStop {
+        SetStop::OutOfMemory
+    }
+}
+
+impl From<AllocError> for SetStop {
+    ghost use Rattle.std.specs.Prelude.{◌≡◌};
+    ghost use Rattle.mls_label.specs.declared.cat_set.SetStop.TheVariants.{OutOfMemory};
+
+    ghost from_gives = { λ _ stop. stop ≡ OutOfMemory };
+
+    fn from(_failed: AllocError) -> SetStop {
+        SetStop::OutOfMemory
+    }
 }
 
 /// All categories from `first` to `last`, both included.
@@ -49,5 +75,100 @@ impl CatSet {
         CatSet {
             runs: Vec::new(alloc),
         }
+    }
+
+    /// Adds all categories from `first` to `last`, both included. After an error nothing has changed.
+    pub fn add_run(&mut self, first: u16, last: u16) -> Result<(), SetStop>
+        requires order { first ≤ last }
+        requires categories { last < 65535 }
+        ensures ok { OnOk result
+            (self.new ≡ cats_where (λ c. has self.old c || is_within first last c)) }
+        ensures few { OnOk result (length (runs_of self.new) ≤ 1952) }
+        ensures too_many { IsErrOf result SetStop.TooManyRuns
+            → 1952 < length (runs_of (cats_where (λ c. has self.old c || is_within first last c))) }
+        ensures one_more { OnOk result (length (runs_of self.new) ≤ length (runs_of self.old) + 1) }
+        ensures full { IsErrOf result SetStop.TooManyRuns → 1952 ≤ length (runs_of self.old) }
+        ensures err { OnErr result (self.new ≡ self.old) }
+    {
+        join(&mut self.runs, Run { first, last })
+    }
+
+    /// Adds one category. After an error nothing has changed.
+    pub fn add(&mut self, c: u16) -> Result<(), SetStop>
+        requires { c < 65535 }
+        ensures ok { OnOk result (self.new ≡ cats_where (λ k. has self.old k || is_within c c k)) }
+        ensures few { OnOk result (length (runs_of self.new) ≤ 1952) }
+        ensures too_many { IsErrOf result SetStop.TooManyRuns
+            → 1952 < length (runs_of (cats_where (λ k. has self.old k || is_within c c k))) }
+        ensures one_more { OnOk result (length (runs_of self.new) ≤ length (runs_of self.old) + 1) }
+        ensures full { IsErrOf result SetStop.TooManyRuns → 1952 ≤ length (runs_of self.old) }
+        ensures err { OnErr result (self.new ≡ self.old) }
+    {
+        self.add_run(c, c)
+    }
+
+    /// Whether a category is in the set.
+    pub fn contains(&self, c: u16) -> bool
+        ensures { result ≡ has self.now c }
+    {
+        holds(&self.runs, c)
+    }
+
+    /// Whether each category of this set is in the other.
+    pub fn is_subset(&self, of: &CatSet) -> bool
+        ensures { IsTrue result ↔ IsSubset self.now of.now }
+    {
+        is_inside(&self.runs, &of.runs)
+    }
+
+    /// Whether both sets have the same categories.
+    pub fn same(&self, other: &CatSet) -> bool
+        ensures { IsTrue result ↔ (self.now ≡ other.now) }
+    {
+        self.runs.as_slice() == other.runs.as_slice()
+    }
+
+    /// How many maximal runs the set has.
+    pub fn runs(&self) -> usize
+        ensures count { result ≡ length (runs_of self.now) }
+        ensures few { result ≤ 1952 }
+        ensures categories { IsCats self.now }
+    {
+        self.runs.len()
+    }
+
+    /// The first and the last category of a maximal run, both included. The runs ascend from place 0.
+    pub fn run(&self, i: usize) -> (u16, u16)
+        requires { i < length (runs_of self.now) }
+        ensures run { slice_get (runs_of self.now) i ≡ Some result }
+        ensures order { result.0 ≤ result.1 }
+        ensures categories { result.1 < 65535 }
+    {
+        let run = self.runs[i];
+        (run.first, run.last)
+    }
+
+    /// How many categories the set has.
+    pub fn count(&self) -> u32
+        ensures { result ≡ length self.now }
+    {
+        count_of(&self.runs)
+    }
+
+    /// The highest category, or `None` where the set is empty.
+    pub fn highest(&self) -> Option<u16>
+        ensures { MatchOption result (self.now ≡ []) (λ c. IsTrue (has self.now c)
+            × ((d : ℕ) → IsTrue (has self.now d) → d ≤ c)) }
+    {
+        highest_of(&self.runs)
+    }
+
+    /// A copy, which takes the memory of its runs.
+    pub fn copy(&self) -> Result<CatSet, OutOfMemory>
+        ensures { IfOk result (λ s. s ≡ self.now) }
+    {
+        Ok(CatSet {
+            runs: self.runs.clone()?,
+        })
     }
 }

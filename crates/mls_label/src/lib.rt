@@ -3,6 +3,7 @@
 #![tactic(auto)]
 
 mod cat_set;
+mod kept_runs;
 mod label;
 
 pub use cat_set::{CatSet, SetStop};

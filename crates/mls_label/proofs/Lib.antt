@@ -1,0 +1,4 @@
+pub mod Cats
+pub mod Runs
+pub mod Splice
+pub mod Inside

@@ -1,0 +1,160 @@
+//! The runs behind a set: where a run belongs among them, and how it takes the place of those that it touches.
+
+ghost use Rattle.std.specs.Prelude.{◌≡◌, ◌+◌, ◌<◌, ◌≤◌, List, [], ◌∷◌, length, fold, vec_len, OnOk, OnErr, IsErrOf};
+ghost use Rattle.std.specs.List.{AllWithin, splice};
+ghost use Rattle.std.specs.Prelude.{ℕ, ◌||◌, ◌↔◌, IsTrue, MatchOption};
+ghost use Rattle.mls_label.specs.Cats.{has, is_within, cats_where, IsSubset};
+ghost use Rattle.mls_label.specs.Runs.{runs_of};
+ghost use Rattle.mls_label.specs.Kept.{cats_of, AreApart, IsKept, IsPlace, hull};
+
+use crate::cat_set::{MOST_RUNS, Run, SetStop};
+
+/// How many of the runs end below `bound`.
+pub fn end_below(runs: &[Run], bound: u16) -> usize
+    requires { AreApart 0 runs.now }
+    ensures within { result ≤ length runs.now }
+    ensures below { AllWithin (λ (r : Run). r.last < bound) runs.now 0 result }
+    ensures others { AllWithin (λ (r : Run). bound ≤ r.last) runs.now result (length runs.now) }
+{
+    runs.partition_point(|run| run.last < bound)
+}
+
+/// How many of the runs begin at `bound` or below.
+pub fn begin_by(runs: &[Run], bound: u16) -> usize
+    requires { AreApart 0 runs.now }
+    ensures within { result ≤ length runs.now }
+    ensures by_bound { AllWithin (λ (r : Run). r.first ≤ bound) runs.now 0 result }
+    ensures others { AllWithin (λ (r : Run). bound < r.first) runs.now result (length runs.now) }
+{
+    runs.partition_point(|run| run.first <= bound)
+}
+
+/// The least run that holds `run` and all of `runs`.
+fn hull_with(runs: &[Run], run: Run) -> Run
+    ensures { result ≡ fold hull run runs.now }
+{
+    runs.iter().fold(
+        run,
+        |hull, next| Run {
+            first: hull.first.min(next.first),
+            last: hull.last.max(next.last),
+        },
+    )
+}
+
+/// Where the run belongs: it touches those from the first of the two places to the second.
+fn place_of(runs: &[Run], run: Run) -> (usize, usize)
+    requires apart { AreApart 0 runs.now }
+    requires order { run.first ≤ run.last }
+    requires categories { run.last < 65535 }
+    ensures { IsPlace runs.now run result.0 result.1 }
+{
+    let start = end_below(runs, run.first.saturating_sub(1));
+    let end = begin_by(runs, run.last + 1);
+    (start, end)
+}
+
+/// Adds a run. After an error nothing has changed.
+pub fn join(runs: &mut Vec<Run>, run: Run) -> Result<(), SetStop>
+    requires kept { IsKept runs.old.items }
+    requires order { run.first ≤ run.last }
+    requires categories { run.last < 65535 }
+    ensures kept { OnOk result (IsKept runs.new.items) }
+    ensures cats { OnOk result (cats_of runs.new.items
+        ≡ cats_where (λ c. has (cats_of runs.old.items) c || is_within run.first run.last c)) }
+    ensures one_more { OnOk result (vec_len runs.new ≤ vec_len runs.old + 1) }
+    ensures too_many { IsErrOf result SetStop.TooManyRuns → 1952 < length (runs_of
+        (cats_where (λ c. has (cats_of runs.old.items) c || is_within run.first run.last c))) }
+    ensures full { IsErrOf result SetStop.TooManyRuns → vec_len runs.old ≡ 1952 }
+    ensures err { OnErr result (runs.new.items ≡ runs.old.items) }
+{
+    let (start, end) = place_of(runs, run);
+    let hull = hull_with(&runs[start..end], run);
+    put(runs, start, end, hull)
+}
+
+// Puts `run` in the place of the runs from `start` to `end`. After an error nothing has changed.
+fn put(runs: &mut Vec<Run>, start: usize, end: usize, run: Run) -> Result<(), SetStop>
+    requires order { start ≤ end }
+    requires within { end ≤ vec_len runs.old }
+    requires few { vec_len runs.old ≤ 1952 }
+    ensures ok { OnOk result (runs.new.items ≡ splice runs.old.items start end (run ∷ [])) }
+    ensures few { OnOk result (vec_len runs.new ≤ 1952) }
+    ensures one_more { OnOk result (vec_len runs.new ≤ vec_len runs.old + 1) }
+    ensures too_many { IsErrOf result SetStop.TooManyRuns → (start ≡ end) × (vec_len runs.old ≡ 1952) }
+    ensures err { OnErr result (runs.new.items ≡ runs.old.items) }
+{
+    if start < end {
+        replace(runs, start, end, run);
+        return Ok(());
+    }
+    if runs.len() == MOST_RUNS {
+        return Err(SetStop::TooManyRuns);
+    }
+    runs.insert(start, run)?;
+    Ok(())
+}
+
+fn replace(runs: &mut Vec<Run>, start: usize, end: usize, run: Run)
+    requires order { start < end }
+    requires within { end ≤ vec_len runs.old }
+    ensures items { runs.new.items ≡ splice runs.old.items start end (run ∷ []) }
+    ensures len { vec_len runs.new ≤ vec_len runs.old }
+{
+    let left = runs.len() - (end - start - 1);
+    runs[start] = run;
+    runs.copy_within(end.., start + 1);
+    runs.truncate(left);
+}
+
+/// Whether a category is in one of the runs.
+pub fn holds(runs: &[Run], c: u16) -> bool
+    requires { AreApart 0 runs.now }
+    ensures { result ≡ has (cats_of runs.now) c }
+{
+    let place = end_below(runs, c);
+    place < runs.len() && runs[place].first <= c
+}
+
+/// Whether each category of the inner runs is one of the outer. It walks both lists once.
+pub fn is_inside(mut inner: &[Run], mut outer: &[Run]) -> bool
+    requires inner_apart { AreApart 0 inner.now }
+    requires outer_apart { AreApart 0 outer.now }
+    ensures { IsTrue result ↔ IsSubset (cats_of inner.now) (cats_of outer.now) }
+{
+    while let [run, rest @ ..] = inner {
+        let [cover, covers @ ..] = outer else {
+            return false;
+        };
+        if cover.last < run.first {
+            outer = covers;
+        } else if cover.first <= run.first && run.last <= cover.last {
+            inner = rest;
+        } else {
+            return false;
+        }
+    }
+    true
+}
+
+/// How many categories the runs have.
+pub fn count_of(runs: &[Run]) -> u32
+    requires { AreApart 0 runs.now }
+    ensures { result ≡ length (cats_of runs.now) }
+{
+    let mut count = 0;
+    for run in runs {
+        count += u32::from(run.last - run.first) + 1;
+    }
+    count
+}
+
+/// The last category of the last run.
+pub fn highest_of(runs: &[Run]) -> Option<u16>
+    requires { AreApart 0 runs.now }
+    ensures { MatchOption result (cats_of runs.now ≡ []) (λ c. IsTrue (has (cats_of runs.now) c)
+        × ((d : ℕ) → IsTrue (has (cats_of runs.now) d) → d ≤ c)) }
+{
+    let run = runs.last()?;
+    Some(run.last)
+}
