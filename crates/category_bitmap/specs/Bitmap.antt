@@ -1,7 +1,7 @@
 -- Bitmaps of categories, as CIPSO (FIPS 188, tag type 1) and CALIPSO (RFC 5570, section 5.1) carry them.
-use Rattle.std.specs.Prelude.{ℕ, ◌+◌, ◌-◌, ◌*◌, ◌/◌, ◌%◌, ◌==◌, Bool, max, cond, List, [], ◌∷◌, map, slice_index}
+use Rattle.std.specs.Prelude.{ℕ, ◌+◌, ◌-◌, ◌*◌, ◌/◌, ◌%◌, ◌==◌, Bool, max, List, [], ◌∷◌, map, slice_index}
 use Rattle.std.specs.List.{range_with_len}
-use Rattle.std.specs.Int.{bit_at}
+use Rattle.std.specs.Int.{bit_at, from_bool}
 use Rattle.mls_label.specs.Cats.{has, cats_where}
 
 -- category c stands at bit 7 - c mod 8 of octet c / 8: category 0 is the most significant bit of the first octet
@@ -20,7 +20,7 @@ octets_needed (c ∷ cats) = max (c / 8 + 1) (octets_needed cats)
 -- the number that bits stand for, the most significant first, behind those that stand for n
 abbrev pub bits_after : ℕ → List Bool → ℕ
 bits_after n [] = n
-bits_after n (b ∷ bits) = bits_after (2 * n + cond b 1 0) bits
+bits_after n (b ∷ bits) = bits_after (2 * n + from_bool b) bits
 
 -- octet i of the bitmap of a set: the bits of its eight categories
 unfoldable pub octet_of : List ℕ → ℕ → ℕ

@@ -2,6 +2,9 @@
 //! CALIPSO option (RFC 5570, section 5.1). Category c is the bit 7 - c mod 8 of octet c / 8.
 #![tactic(auto)]
 
+pub mod laws;
 mod read;
+mod write;
 
 pub use read::read_bitmap;
+pub use write::{octets_of, write_bitmap};

@@ -5,3 +5,6 @@ pub mod Numbers
 pub mod Enumeration
 pub mod Ranges
 pub mod Headers
+pub mod Runs
+pub mod Fitting
+pub mod Members

@@ -1,6 +1,6 @@
 -- The one written form of a label in each tag, and the labels that a tag can express.
-use Rattle.std.specs.Prelude.{ℕ, ◌+◌, ◌==◌, Bool, IsTrue, if◌then◌else◌, nat_le, List, [], ◌∷◌, length, reverse}
-use Rattle.std.specs.List.{flat_map, list_all}
+use Rattle.std.specs.Prelude.{ℕ, ◌+◌, ◌==◌, Bool, IsTrue, if◌then◌else◌, nat_le, List, [], ◌∷◌, ◌++◌, length, Option}
+use Rattle.std.specs.List.{list_all, find}
 use Rattle.mls_label.specs.declared.label.Tag.{Tag}
 use Rattle.mls_label.specs.declared.label.Tag.TheVariants.{One, Two, Five}
 use Rattle.mls_label.specs.declared.label.Label.{Label}
@@ -18,21 +18,25 @@ fits Five label = nat_le (length (runs_of label.cats)) 7
 abbrev pub Fits : Tag → Label → Type 0
 Fits tag label = IsTrue (fits tag label)
 
--- numbers without the last one, where that is 0
-abbrev pub without_last_zero : List ℕ → List ℕ
-without_last_zero [] = []
-without_last_zero (n ∷ []) = if n == 0 then [] else n ∷ []
-without_last_zero (n ∷ m ∷ numbers) = n ∷ without_last_zero (m ∷ numbers)
+-- top and bottom of each run, from the highest run down
+abbrev pub ends_down : List (ℕ × ℕ) → List ℕ
+ends_down [] = []
+ends_down (run ∷ runs) = ends_down runs ++ run.1 ∷ run.0 ∷ []
 
--- the maximal runs from the highest down, top and bottom of each; the last bottom is left out where it is 0
-abbrev pub range_numbers : List ℕ → List ℕ
-range_numbers cats = without_last_zero (flat_map (λ run. run.1 ∷ run.0 ∷ []) (reverse (runs_of cats)))
+-- the same, but the last bottom is left out where it is 0
+abbrev pub range_numbers : List (ℕ × ℕ) → List ℕ
+range_numbers [] = []
+range_numbers (lowest ∷ runs) = ends_down runs ++ lowest.1 ∷ (if lowest.0 == 0 then [] else lowest.0 ∷ [])
 
--- a bitmap without trailing zero octets; all categories; the ranges
+-- a bitmap without trailing zero octets; all categories; the maximal runs as ranges
 abbrev pub body_text : Tag → List ℕ → List ℕ
 body_text One cats = bitmap_of cats (octets_needed cats)
 body_text Two cats = words cats
-body_text Five cats = words (range_numbers cats)
+body_text Five cats = words (range_numbers (runs_of cats))
 
 abbrev pub tag_text : Tag → Label → List ℕ
 tag_text tag label = type_of tag ∷ (4 + length (body_text tag label.cats)) ∷ 0 ∷ label.level ∷ body_text tag label.cats
+
+-- the first of the tags that can express the label
+abbrev pub first_tag_of : List Tag → Label → Option Tag
+first_tag_of tags label = find (λ tag. fits tag label) tags

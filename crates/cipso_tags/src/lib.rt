@@ -3,11 +3,15 @@
 //! one fault at the first octet that no tag has there.
 #![tactic(auto)]
 
+mod append;
 mod body;
 mod header;
+pub mod laws;
 mod octet;
 mod tag;
+mod write;
 
 pub use header::{has_length, tag_of_type};
 pub use octet::moved_stop;
 pub use tag::read_tag;
+pub use write::{append_tag, can_express, write_tag};
