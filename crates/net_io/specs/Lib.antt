@@ -1,0 +1,6 @@
+pub mod Depot
+pub mod Failed
+pub mod Faults
+pub mod Folder
+pub mod Memory
+pub mod Sink
