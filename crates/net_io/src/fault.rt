@@ -2,6 +2,7 @@
 ghost use Rattle.std.specs.Prelude.{◌≡◌};
 ghost use Rattle.net_io.specs.declared.fault.IoFault.TheVariants.{OutOfMemory as IoOutOfMemory};
 ghost use Rattle.net_io.specs.declared.fault.WholeFault.TheVariants.{OutOfMemory as WholeOutOfMemory};
+ghost use Rattle.net_io.specs.Fault.{whole_fault};
 
 use std::alloc::{AllocError, AllocFailed};
 use thiserror::Error;
@@ -63,5 +64,16 @@ impl From<AllocError> for WholeFault {
 
     fn from(_: AllocError) -> Self {
         WholeFault::OutOfMemory
+    }
+}
+
+impl From<IoFault> for WholeFault {
+    ghost from_gives = { λ cause fault. fault ≡ whole_fault cause };
+
+    fn from(cause: IoFault) -> Self {
+        match cause {
+            IoFault::Failed => WholeFault::Failed,
+            IoFault::OutOfMemory => WholeFault::OutOfMemory,
+        }
     }
 }

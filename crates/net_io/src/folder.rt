@@ -1,6 +1,6 @@
 //! A list of named files.
 ghost use Rattle.std.specs.Prelude.{◌≡◌, ◌<◌, ◌≤◌, ◌+◌, ◌++◌, ◌^◌, ℕ, List, [], length, take, drop, Some, None, IsSome, IfOk, OnOk, OnErr, IsErr, MatchOption, slice_get, option_map};
-ghost use Rattle.net_io.specs.Depot.{octets_of, ChangesFirst, IsPart, NowHolds};
+ghost use Rattle.net_io.specs.Depot.{octets_of, ChangesFirst, IsPart, SameHeld, NowHolds};
 ghost use Rattle.net_io.specs.Folder.{held_in, IsPlaceOf};
 
 use crate::OutOfMemory;
@@ -44,7 +44,7 @@ pub fn extend_file(files: &mut Vec<NamedFile>, name: &str, octets: &[u8]) -> Res
     requires { IsSome (held_in files.old.items name.now) }
     ensures ok { OnOk result (NowHolds name.now (octets_of (held_in files.old.items name.now) ++ octets.now)
         (held_in files.old.items) (held_in files.new.items)) }
-    ensures err { OnErr result (files.new.items ≡ files.old.items) }
+    ensures err { OnErr result (SameHeld (held_in files.old.items) (held_in files.new.items)) }
 {
     match place_of(files, name) {
         Some(place) => files[place].octets.extend_from_slice(octets)?,

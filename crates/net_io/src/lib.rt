@@ -9,6 +9,7 @@ mod fault;
 mod folder;
 mod memory_depot;
 mod memory_sink;
+mod piece;
 mod plan;
 mod reading;
 mod real_depot;

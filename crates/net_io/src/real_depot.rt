@@ -1,15 +1,13 @@
 //! The files of the folder that the program runs in. No clause tells what a disk holds: this is the trusted edge.
 ghost use Rattle.std.specs.Prelude.{◌≡◌, ◌<◌, ◌≤◌, ◌^◌, false, None, length, IfOk};
 
+use crate::piece::new_piece;
 use crate::{Depot, IoFault, OutOfMemory};
 use std::alloc::Global;
 use std::fs::{File, OpenOptions};
 use std::io;
 use std::io::{Read, Seek, SeekFrom, Write};
 use std::rt::Files;
-
-/// How many octets a call reads at most.
-const PIECE: usize = 65536;
 
 /// No file reaches this octet: the system counts octets by signed numbers of 64 bits.
 const NO_PLACE: u64 = 1 << 63;
@@ -33,7 +31,7 @@ impl<R: Files> RealDepot<R> {
     {
         Ok(RealDepot {
             files,
-            piece: vec![in alloc; 0u8; PIECE]?,
+            piece: new_piece(alloc)?,
             read_faults: 0,
             create_faults: 0,
             append_faults: 0,
@@ -75,9 +73,10 @@ impl<R: Files + Drop> Depot for RealDepot<R> {
             return Ok(0);
         }
         let most = buf.len().min(self.piece.len());
-        match read_piece(&self.files, name, at, &mut self.piece[..most]) {
+        let piece = &mut self.piece[..most];
+        match read_piece(&self.files, name, at, piece) {
             Ok(n) => {
-                buf[..n].copy_from_slice(&self.piece[..n]);
+                buf[..n].copy_from_slice(&piece[..n]);
                 Ok(n)
             }
             Err(_) => {
