@@ -1,5 +1,5 @@
 -- Where a file stands in a list of files, and what the list holds after a change there.
-use Rattle.std.proofs.Common.{◌≡◌, ◌≢◌, ◌<◌, ℕ, zero, suc, Bool, true, false, List, [], ◌∷◌, ◌++◌, length, take, get_or, set, Option, Some, None, refl, sym, ◌∙◌, ap, arith, bytes_eq, string_bytes}
+use Rattle.std.proofs.Common.{◌≡◌, ◌≢◌, ◌<◌, ℕ, zero, suc, Bool, true, false, List, [], ◌∷◌, ◌++◌, length, get_or, set, Option, Some, None, refl, sym, ◌∙◌, ap, arith, bytes_eq, string_bytes}
 use Rattle.std.specs.Bool.{if◌then◌else◌}
 use Rattle.std.proofs.lemmas.Slice.Eq.{bytes_eq-Decides}
 use Rattle.net_io.specs.Folder.{held_in, IsElsewhere, IsPlaceOf}
@@ -59,15 +59,15 @@ held_in-set-elsewhere (first ∷ files) name zero new at named other not_it =
     rw (new_not, first_not) refl
 held_in-set-elsewhere (first ∷ files) name (suc place) new at named other not_it =
     ap (λ rest. if bytes_eq (string_bytes first.name) other then Some first.octets.items else rest)
-      (held_in-set-elsewhere files name place new (later first files name place at) named other not_it)
+    (held_in-set-elsewhere files name place new (later first files name place at) named other not_it)
 
 -- other octets at a name's place are what it holds then
 pub holds-set : (files : List NamedFile) (name : List ℕ) (place : ℕ) (new : NamedFile) → IsPlaceOf files name place
     → string_bytes new.name ≡ name → NowHolds name new.octets.items (held_in files) (held_in (set files place new))
 holds-set files name place new at named = record {
-    here = held_in-set-here files name place new at named;
-    elsewhere = held_in-set-elsewhere files name place new at named;
-  }
+  here = held_in-set-here files name place new at named;
+  elsewhere = held_in-set-elsewhere files name place new at named;
+}
 
 -- what is found behind a file that isn't the one
 behind : (is : Bool) (octets : List ℕ) (old new found : Option (List ℕ)) → (old ≡ None → new ≡ found)
@@ -82,7 +82,7 @@ held_in-push-here [] name new none named =
     rw same refl
 held_in-push-here (first ∷ files) name new none named =
     behind (bytes_eq (string_bytes first.name) name) first.octets.items (held_in files name) (held_in (files ++ new ∷ []) name) (Some new.octets.items)
-      (λ absent. held_in-push-here files name new absent named) none
+    (λ absent. held_in-push-here files name new absent named) none
 
 held_in-push-elsewhere : (files : List NamedFile) (name : List ℕ) (new : NamedFile) → string_bytes new.name ≡ name
     → (other : List ℕ) → other ≢ name → held_in (files ++ new ∷ []) other ≡ held_in files other
@@ -91,15 +91,15 @@ held_in-push-elsewhere [] name new named other not_it =
     rw new_not refl
 held_in-push-elsewhere (first ∷ files) name new named other not_it =
     ap (λ rest. if bytes_eq (string_bytes first.name) other then Some first.octets.items else rest)
-      (held_in-push-elsewhere files name new named other not_it)
+    (held_in-push-elsewhere files name new named other not_it)
 
 -- a file more, of a name that was absent
 pub holds-push : (files : List NamedFile) (name : List ℕ) (new : NamedFile) → held_in files name ≡ None
     → string_bytes new.name ≡ name → NowHolds name new.octets.items (held_in files) (held_in (files ++ new ∷ []))
 holds-push files name new none named = record {
-    here = held_in-push-here files name new none named;
-    elsewhere = held_in-push-elsewhere files name new named;
-  }
+  here = held_in-push-here files name new none named;
+  elsewhere = held_in-push-elsewhere files name new named;
+}
 
 -- a file of the same name and octets at a place leaves all as it was
 pub same_held-set : (files : List NamedFile) (place : ℕ) (old new : NamedFile) → place < length files → old ≡ get_or files place old
@@ -110,4 +110,4 @@ same_held-set (first ∷ files) zero old new within is name octets other =
     ∙ ap (λ items. if bytes_eq (string_bytes first.name) other then Some items else held_in files other) (octets ∙ ap (λ (f : NamedFile). f.octets.items) is)
 same_held-set (first ∷ files) (suc place) old new within is name octets other =
     ap (λ rest. if bytes_eq (string_bytes first.name) other then Some first.octets.items else rest)
-      (same_held-set files place old new (omega arith) is name octets other)
+    (same_held-set files place old new (omega arith) is name octets other)

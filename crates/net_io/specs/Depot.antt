@@ -1,5 +1,5 @@
 -- What a folder of named files holds, and what the calls on it read and change. A name is its octets, and a name that holds nothing is absent.
-use Rattle.std.specs.Prelude.{◌≡◌, ◌≢◌, ◌<◌, ◌≤◌, ℕ, Bool, IsTrue, IsSome, List, [], length, take, drop, Option, Some, unwrap_or}
+use Rattle.std.specs.Prelude.{◌≡◌, ◌≢◌, ◌<◌, ◌≤◌, ℕ, Bool, IsTrue, List, [], length, take, drop, Option, Some, unwrap_or}
 
 -- the octets of a file, none where there is no file
 abbrev pub octets_of : Option (List ℕ) → List ℕ

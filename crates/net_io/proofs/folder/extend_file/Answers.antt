@@ -1,5 +1,5 @@
-use Rattle.std.proofs.Common.{◌≡◌, ◌<◌, ◌++◌, set, List, ℕ, length, None, Some, OnErr, subst, ap, sym, ◌∙◌, refl}
-use Rattle.net_io.specs.Depot.{octets_of, SameHeld, NowHolds}
+use Rattle.std.proofs.Common.{◌≡◌, ◌++◌, set, subst, ap, sym, ◌∙◌, refl}
+use Rattle.net_io.specs.Depot.{octets_of, NowHolds}
 use Rattle.net_io.specs.Folder.{held_in, IsPlaceOf}
 use Rattle.std.proofs.lemmas.Result.{err_from_is_err_and}
 use Rattle.net_io.specs.declared.folder.NamedFile.{NamedFile}
@@ -13,11 +13,11 @@ returns-in_err-extend_from_slice-in-Some-clause-err c =
     let files = c.args.files.now.items in
     let file = c.index_mut.result.now in
     let at : IsPlaceOf files name place =
-      subst (λ list. IsPlaceOf list name place) c.deref.ensures.value c.in-Some.ensures in
+    subst (λ list. IsPlaceOf list name place) c.deref.ensures.value c.in-Some.ensures in
     let gives = err_from_is_err_and c.from_residual.result c.from_residual.ensures.1 in
     rw gives.1
-      (same_held-set files place file (record { name = file.name; octets = c.extend_from_slice.new.self }) at.within
-      c.index_mut.ensures.value refl c.in_err-extend_from_slice-in-Some.ensures.items)
+    (same_held-set files place file (record { name = file.name; octets = c.extend_from_slice.new.self }) at.within
+    c.index_mut.ensures.value refl c.in_err-extend_from_slice-in-Some.ensures.items)
 
 pub returns-clause-ok : goal.returns-clause-ok
 returns-clause-ok c =
@@ -26,10 +26,10 @@ returns-clause-ok c =
     let files = c.args.files.now.items in
     let file = c.index_mut.result.now in
     let at : IsPlaceOf files name place =
-      subst (λ list. IsPlaceOf list name place) c.deref.ensures.value c.in-Some.ensures in
+    subst (λ list. IsPlaceOf list name place) c.deref.ensures.value c.in-Some.ensures in
     let is : c.extend_from_slice.new.self.items ≡ octets_of (held_in files name) ++ c.args.octets.now =
-      c.in_ok-extend_from_slice-in-Some.ensures.items
-      ∙ ap (λ held. octets_of held ++ c.args.octets.now) (sym (held_in-place files name place file at c.index_mut.ensures.value)) in
+    c.in_ok-extend_from_slice-in-Some.ensures.items
+    ∙ ap (λ held. octets_of held ++ c.args.octets.now) (sym (held_in-place files name place file at c.index_mut.ensures.value)) in
     let new : NamedFile = record { name = file.name; octets = c.extend_from_slice.new.self } in
     subst (λ octets. NowHolds name octets (held_in files) (held_in (set files place new))) is
-      (holds-set files name place new at (at.here file c.index_mut.ensures.value))
+    (holds-set files name place new at (at.here file c.index_mut.ensures.value))

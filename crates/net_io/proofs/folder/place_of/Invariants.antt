@@ -1,4 +1,4 @@
-use Rattle.std.proofs.Common.{◌≡◌, take}
+use Rattle.std.proofs.Common.{take}
 use Rattle.net_io.specs.Folder.{IsElsewhere}
 use Rattle.net_io.proofs.folder.place_of.Given as goal
 

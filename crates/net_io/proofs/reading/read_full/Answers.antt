@@ -1,4 +1,4 @@
-use Rattle.std.proofs.Common.{arith, ap, sym, subst, ◌∙◌, ◌≡◌, ◌<◌, ◌≤◌, ◌+◌, ◌-◌, min, length, take, drop, length-drop, is_some, Option, List, ℕ}
+use Rattle.std.proofs.Common.{arith, ap, sym, subst, ◌∙◌, ◌≡◌, ◌<◌, ◌≤◌, ◌+◌, ◌-◌, min, length, take, drop, length-drop, is_some}
 use Rattle.std.proofs.lemmas.List.{take_rest}
 use Rattle.net_io.specs.Depot.{octets_of}
 use Rattle.net_io.proofs.Parts.{rest_more, octets_more, read_count, read_same}

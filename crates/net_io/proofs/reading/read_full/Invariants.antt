@@ -1,4 +1,4 @@
-use Rattle.std.proofs.Common.{◌≡◌, ◌<◌, ◌≤◌, ◌+◌, ◌-◌, ◌^◌, IsTrue, IsSome, length}
+use Rattle.std.proofs.Common.{◌≡◌, ◌<◌, ◌+◌, ◌-◌, ◌^◌, IsTrue, IsSome, length}
 use Rattle.net_io.specs.Depot.{IsRead, ChangesFirst, SameHeld}
 use Rattle.net_io.specs.Faults.{SameCounts}
 use Rattle.net_io.proofs.reading.read_full.Given as goal
