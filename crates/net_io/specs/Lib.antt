@@ -4,4 +4,5 @@ pub mod Fault
 pub mod Faults
 pub mod Folder
 pub mod Memory
+pub mod Real
 pub mod Sink

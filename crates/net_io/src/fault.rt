@@ -17,6 +17,7 @@ pub enum IoFault {
     /// The outside refused the call, and counted it.
     #[error("the call failed")]
     Failed,
+    /// No memory was left for what the call keeps.
     #[error("out of memory")]
     OutOfMemory,
 }
@@ -28,6 +29,7 @@ pub enum WholeFault {
     TooLong,
     /// A read has failed, and was counted.
     Failed,
+    /// No memory was left for the file's octets.
     OutOfMemory,
 }
 

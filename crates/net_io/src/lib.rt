@@ -7,6 +7,7 @@ mod depot;
 mod failed;
 mod fault;
 mod folder;
+mod laws;
 mod memory_depot;
 mod memory_sink;
 mod piece;
@@ -19,6 +20,7 @@ mod writing;
 
 pub use depot::Depot;
 pub use fault::{IoFault, OutOfMemory, WholeFault};
+pub use laws::octets_read_are_within_the_file;
 pub use memory_depot::MemoryDepot;
 pub use memory_sink::MemorySink;
 pub use reading::{read_full, read_whole};
@@ -26,3 +28,6 @@ pub use real_depot::RealDepot;
 pub use real_sink::RealSink;
 pub use sink::Sink;
 pub use writing::write_all_to;
+
+#[cfg(test)]
+mod tests;

@@ -23,11 +23,14 @@ pub struct RealDepot<R: Files> {
     append_faults: u64,
 }
 
-impl<R: Files> RealDepot<R> {
+impl<R: Files + Drop> RealDepot<R> {
+    ghost use Rattle.net_io.specs.Real.{real_read_faults, real_create_faults, real_append_faults};
+
     /// The files that this runtime reaches, with no faults so far.
     pub fn new(files: R, alloc: Global) -> Result<RealDepot<R>, OutOfMemory>
-    where
-        R: Drop,
+        ensures reads { IfOk result (λ depot. real_read_faults depot ≡ 0) }
+        ensures creates { IfOk result (λ depot. real_create_faults depot ≡ 0) }
+        ensures appends { IfOk result (λ depot. real_append_faults depot ≡ 0) }
     {
         Ok(RealDepot {
             files,
@@ -57,15 +60,17 @@ fn append_piece<R: Files>(files: &R, name: &str, bytes: &[u8]) -> io::Result<usi
 }
 
 impl<R: Files + Drop> Depot for RealDepot<R> {
+    ghost use Rattle.net_io.specs.Real.{real_read_faults, real_create_faults, real_append_faults};
+
     ghost tells = { λ depot. false };
 
     ghost held = { λ depot name. None };
 
-    ghost read_faults = { λ depot name. depot.read_faults };
+    ghost read_faults = { λ depot name. real_read_faults depot };
 
-    ghost create_faults = { λ depot name. depot.create_faults };
+    ghost create_faults = { λ depot name. real_create_faults depot };
 
-    ghost append_faults = { λ depot name. depot.append_faults };
+    ghost append_faults = { λ depot name. real_append_faults depot };
 
     // It reads into a buffer of its own: what a failed read leaves in a buffer isn't known.
     fn read_at(&mut self, name: &str, at: u64, buf: &mut [u8]) -> Result<usize, IoFault> {

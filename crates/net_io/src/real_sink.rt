@@ -13,18 +13,24 @@ pub struct RealSink<R: Print> {
 }
 
 impl<R: Print> RealSink<R> {
+    ghost use Rattle.net_io.specs.Real.{real_faults};
+
     /// The standard output of this runtime, with no faults so far.
-    pub fn new(out: R) -> RealSink<R> {
+    pub fn new(out: R) -> RealSink<R>
+        ensures { real_faults result ≡ 0 }
+    {
         RealSink { out, faults: 0 }
     }
 }
 
 impl<R: Print> Sink for RealSink<R> {
+    ghost use Rattle.net_io.specs.Real.{real_faults};
+
     ghost tells = { λ sink. false };
 
     ghost written = { λ sink. [] };
 
-    ghost faults = { λ sink. sink.faults };
+    ghost faults = { real_faults };
 
     // A stream that takes nothing of some octets has failed.
     fn write(&mut self, bytes: &[u8]) -> Result<usize, IoFault> {
