@@ -1,6 +1,5 @@
 pub mod Depot
 pub mod Failed
-pub mod Fault
 pub mod Faults
 pub mod Folder
 pub mod Memory

@@ -29,3 +29,11 @@ memory_written sink = sink.written.items
 -- how many writes to the stream in memory have failed
 abbrev pub memory_faults : MemorySink → ℕ
 memory_faults sink = sink.faults
+
+-- the numbers of the calls that fail, all calls counted together from 1
+abbrev pub memory_fails : MemoryDepot → List ℕ
+memory_fails depot = depot.plan.fail.items
+
+-- the numbers of the writes that fail, from 1
+abbrev pub memory_write_fails : MemorySink → List ℕ
+memory_write_fails sink = sink.plan.fail.items

@@ -19,13 +19,14 @@ pub struct MemoryDepot {
 }
 
 impl MemoryDepot {
-    ghost use Rattle.net_io.specs.Memory.{memory_held, memory_read_faults, memory_create_faults, memory_append_faults};
+    ghost use Rattle.net_io.specs.Memory.{memory_held, memory_fails, memory_read_faults, memory_create_faults, memory_append_faults};
 
     /// An empty folder. The calls of `Depot` whose numbers stand in `fail` fail, where all are counted
     /// together from 1; a call moves at most `piece` octets.
     pub fn new(alloc: Global, fail: &[u32], piece: usize) -> Result<MemoryDepot, OutOfMemory>
         requires { 0 < piece }
         ensures empty { IfOk result (λ depot. (name : List ℕ) → memory_held depot name ≡ None) }
+        ensures fails { IfOk result (λ depot. memory_fails depot ≡ fail.now) }
         ensures reads { IfOk result (λ depot. (name : List ℕ) → memory_read_faults depot name ≡ 0) }
         ensures creates { IfOk result (λ depot. (name : List ℕ) → memory_create_faults depot name ≡ 0) }
         ensures appends { IfOk result (λ depot. (name : List ℕ) → memory_append_faults depot name ≡ 0) }

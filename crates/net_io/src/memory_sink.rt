@@ -14,13 +14,14 @@ pub struct MemorySink {
 }
 
 impl MemorySink {
-    ghost use Rattle.net_io.specs.Memory.{memory_written, memory_faults};
+    ghost use Rattle.net_io.specs.Memory.{memory_written, memory_write_fails, memory_faults};
 
     /// An empty stream. The writes whose numbers, from 1, stand in `fail` fail; a write takes at most
     /// `piece` octets.
     pub fn new(alloc: Global, fail: &[u32], piece: usize) -> Result<MemorySink, OutOfMemory>
         requires { 0 < piece }
         ensures empty { IfOk result (λ sink. memory_written sink ≡ []) }
+        ensures fails { IfOk result (λ sink. memory_write_fails sink ≡ fail.now) }
         ensures faults { IfOk result (λ sink. memory_faults sink ≡ 0) }
     {
         Ok(MemorySink {
