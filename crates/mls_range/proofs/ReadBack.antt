@@ -8,24 +8,14 @@ use Rattle.std.proofs.lemmas.List.Folds.{list_any-append}
 use Rattle.std.proofs.lemmas.List.Elements.{All-nil, All-cons, All-append}
 use Rattle.mls_label.specs.declared.label.Label.{Label}
 use Rattle.mls_label.specs.Cats.{has, IsCats, is_within}
-use Rattle.mls_label.specs.Runs.{runs_of}
+use Rattle.mls_label.specs.Runs.{runs_of, numbers_of}
 use Rattle.mls_label.proofs.Cats.{has-append, has-range_with_len, has_bounds, cats_where_is}
-use Rattle.mls_label.specs.Runs.{numbers_of, AreSpaced, AreRunsOf}
-use Rattle.mls_label.proofs.Runs.{runs_are}
+use Rattle.mls_label.proofs.Runs.{AreInOrder, cats_of_runs, runs_in_order}
 use Rattle.mls_range.specs.LabelText.{IsTerm, IsLabelText, label_text, term_has, cats_of_terms, terms_of_run}
 
 or_true : (b : Bool) → (b || true) ≡ true
 or_true true = refl
 or_true false = refl
-
--- each run ends where it begins or later
-abbrev AreInOrder : List (ℕ × ℕ) → Type 0
-AreInOrder [] = Unit {0}
-AreInOrder (r ∷ runs) = (r.0 ≤ r.1) × AreInOrder runs
-
-in_order : (low : ℕ) (runs : List (ℕ × ℕ)) → AreSpaced low runs → AreInOrder runs
-in_order low [] spaced = tt
-in_order low (r ∷ runs) spaced = (spaced.1, in_order (r.1 + 2) runs spaced.2)
 
 -- the terms of a run have its categories
 run_has : (r : ℕ × ℕ) (c : ℕ) → r.0 ≤ r.1 → term_has (terms_of_run r) c ≡ is_within r.0 r.1 c
@@ -75,13 +65,11 @@ pub reads_back : (label : Label) → label.level < 256 → IsCats label.cats →
 reads_back label level cats =
     let runs = runs_of label.cats in
     let terms = flat_map terms_of_run runs in
-    let are_runs = runs_are label.cats cats in
-    let is = are_runs.numbers in
-    let ordered = in_order 0 runs are_runs.spaced in
+    let is = cats_of_runs label.cats in
     record {
       terms = terms;
-      are = runs_terms runs ordered (λ c h. (has_bounds 0 65535 label.cats c cats (ap (λ x. has x c) (sym is) ∙ h)).1);
+      are = runs_terms runs (runs_in_order label.cats) (λ c h. (has_bounds 0 65535 label.cats c cats (ap (λ x. has x c) (sym is) ∙ h)).1);
       is = refl;
       level = level;
-      cats = cats_where_is label.cats (term_has terms) cats (λ c lt. ap (λ x. has x c) (sym is) ∙ runs_have runs c ordered);
+      cats = cats_where_is label.cats (term_has terms) cats (λ c lt. ap (λ x. has x c) (sym is) ∙ runs_have runs c (runs_in_order label.cats));
     }
