@@ -8,9 +8,9 @@ use Rattle.std.proofs.lemmas.List.Folds.{list_any-append}
 use Rattle.std.proofs.lemmas.List.Elements.{All-nil, All-cons, All-append}
 use Rattle.mls_label.specs.declared.label.Label.{Label}
 use Rattle.mls_label.specs.Cats.{has, IsCats, is_within}
-use Rattle.mls_label.specs.Runs.{runs_of}
+use Rattle.mls_label.specs.Runs.{runs_of, numbers_of}
 use Rattle.mls_label.proofs.Cats.{has-append, has-range_with_len, has_bounds, cats_where_is}
-use Rattle.mls_label.proofs.Runs.{numbers_of, AreInOrder, cats_of_runs, runs_in_order}
+use Rattle.mls_label.proofs.Runs.{AreInOrder, cats_of_runs, runs_in_order}
 use Rattle.mls_range.specs.LabelText.{IsTerm, IsLabelText, label_text, term_has, terms_of_run}
 
 or_true : (b : Bool) → (b || true) ≡ true

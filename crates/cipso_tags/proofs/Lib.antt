@@ -1,0 +1,10 @@
+pub mod Octets
+pub mod Words
+pub mod Bits
+pub mod Numbers
+pub mod Enumeration
+pub mod Ranges
+pub mod Headers
+pub mod Runs
+pub mod Fitting
+pub mod Members

@@ -1,0 +1,26 @@
+-- The first four octets of a tag, and bodies of a given length.
+use Rattle.std.specs.Prelude.{ℕ, ◌≡◌, ◌%◌, ◌≤◌, List, ◌∷◌, [], ◌++◌, length, drop}
+use Rattle.mls_label.specs.declared.label.Tag.{Tag}
+use Rattle.mls_label.specs.declared.label.Tag.TheVariants.{One, Two, Five}
+use Rattle.cipso_tags.specs.declared.header.Header.{Header}
+use Rattle.cipso_tags.specs.Tag.{type_of, HasLength}
+
+abbrev pub header_of : Tag → ℕ → ℕ → List ℕ
+header_of tag length level = type_of tag ∷ length ∷ 0 ∷ level ∷ []
+
+-- the lengths that the types have, whole tags counted
+abbrev pub IsSize : Tag → ℕ → Type 0
+IsSize One n = (4 ≤ n) × (n ≤ 34)
+IsSize Two n = (4 ≤ n) × (n ≤ 34) × (n % 2 ≡ 0)
+IsSize Five n = (4 ≤ n) × (n ≤ 32) × (n % 2 ≡ 0)
+
+-- the octets begin with this header, and there is a tag of its type and length
+pub record BeginsWith (bytes : List ℕ) (header : Header) : Type 0 where
+  pub is : bytes ≡ header_of header.tag header.length header.level ++ drop 4 bytes
+  pub long : 4 ≤ length bytes
+  pub there : HasLength header.tag header.length
+
+-- the members of n octets
+pub record IsSized (n : ℕ) (G : List ℕ → List ℕ → Type 0) (body cats : List ℕ) : Type 0 where
+  pub long : length body ≡ n
+  pub is : G body cats

@@ -1,0 +1,17 @@
+//! The tags of a CIPSO option (FIPS 188; CIPSO draft 2.2, section 3.4): a label's level and categories as a bitmap
+//! (type 1), as an enumeration (type 2) or as ranges (type 5). Each octet string begins with exactly one tag, or has
+//! one fault at the first octet that no tag has there.
+#![tactic(auto)]
+
+mod append;
+mod body;
+mod header;
+pub mod laws;
+mod octet;
+mod tag;
+mod write;
+
+pub use header::{has_length, tag_of_type};
+pub use octet::moved_stop;
+pub use tag::read_tag;
+pub use write::{append_tag, can_express, write_tag};
