@@ -20,8 +20,9 @@ pub fn a_text_has_one_label()
 
 /// A range's written form is a text of that range.
 pub fn written_range_reads_back()
-    ensures { (range : Ends) → range.low.level < 256 → range.high.level < 256 → IsCats range.low.cats
-        → IsCats range.high.cats → IsRangeText (range_text range) range }
+    ensures { (range : Ends) → range.low.level < 256 → range.high.level < 256
+        → IsCats range.low.cats → IsCats range.high.cats
+        → IsRangeText (range_text range) range }
 {}
 
 /// A text is the text of one range at most.

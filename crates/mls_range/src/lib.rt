@@ -2,18 +2,16 @@
 #![tactic(auto)]
 
 mod fault;
+mod label;
 pub mod laws;
 mod number;
 mod octet;
 mod range;
-mod reading;
 mod terms;
-mod writing;
 
 pub use fault::{TextFault, TextKind, TextStop};
-pub use range::Range;
-pub use reading::{read_label, read_range};
-pub use writing::{write_label, write_range};
+pub use label::{read_label, write_label};
+pub use range::{Range, read_range, write_range};
 
 #[cfg(test)]
 mod tests;

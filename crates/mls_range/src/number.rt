@@ -32,7 +32,8 @@ fn goes_on(count: usize, number: u32, octet: u8, low: u32, high: u32) -> bool
     requires small { number < 65536 }
     requires order { low ≤ high }
     requires bound { high < 65536 }
-    ensures { MatchBool result (GoesOn count number octet low high) (GoesOn count number octet low high → ⊥) }
+    ensures { MatchBool result
+        (GoesOn count number octet low high) (GoesOn count number octet low high → ⊥) }
 {
     let is_led_by_zero = if count == 0 {
         octet == b'0' && low > 0

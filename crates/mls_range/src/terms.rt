@@ -76,7 +76,8 @@ fn read_term(text: &[u8], start: usize, dash: bool) -> Result<Term, TextFault>
 /// Adds the categories of a term to the set. The fault of a set that can't have them stands where the term begins.
 fn add_term(cats: &mut CatSet, term: &Term, start: usize) -> Result<(), TextStop>
     requires { IsTerm (term.now.first, term.now.last) }
-    ensures ok { OnOk result (cats.new ≡ cats_where (λ c. has cats.old c || is_within term.now.first term.now.last c)) }
+    ensures ok { OnOk result
+        (cats.new ≡ cats_where (λ c. has cats.old c || is_within term.now.first term.now.last c)) }
     ensures few { OnOk result (length (runs_of cats.new) ≤ 1952) }
     ensures err { IfErr result (StopsRun cats.old term.now.first term.now.last start) }
 {

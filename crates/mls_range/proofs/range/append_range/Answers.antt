@@ -2,7 +2,7 @@ use Rattle.std.proofs.Common.{◌≡◌, ℕ, List, [], ◌∷◌, ◌++◌, ap,
 use Rattle.std.proofs.lemmas.Bool.{false≢true}
 use Rattle.mls_range.specs.LabelText.{label_text}
 use Rattle.mls_range.proofs.RangeTexts.{text_pair}
-use Rattle.mls_range.proofs.writing.append_range.Goals as goal
+use Rattle.mls_range.proofs.range.append_range.Goals as goal
 
 joined : (old a b c low high : List ℕ) → a ≡ old ++ low → b ≡ a ++ 45 ∷ [] → c ≡ b ++ high → c ≡ old ++ (low ++ 45 ∷ high)
 joined old a b c low high first dash last =

@@ -6,7 +6,7 @@ use Rattle.mls_label.specs.Runs.{runs_of}
 use Rattle.mls_range.specs.LabelText.{terms_of_run}
 use Rattle.mls_range.specs.Rest.{separated}
 use Rattle.mls_range.proofs.Written.{front_terms, next_separator, front_more, terms_text_is}
-use Rattle.mls_range.proofs.writing.append_label.Goals as goal
+use Rattle.mls_range.proofs.label.append_label.Goals as goal
 
 pub loop-i-preserved : goal.loop-i-preserved
 loop-i-preserved c =

@@ -3,7 +3,7 @@ use Rattle.std.proofs.lemmas.Bool.{false≢true}
 use Rattle.std.proofs.lemmas.Result.{err_from_is_err_and}
 use Rattle.mls_range.specs.Range.{Ends}
 use Rattle.mls_range.proofs.RangeTexts.{low_at, stops_low, stops_high, pair_read, roomy_read, unordered, roomy_lone}
-use Rattle.mls_range.proofs.reading.read_range.Goals as goal
+use Rattle.mls_range.proofs.range.read_range.Goals as goal
 
 on_ok : {T E P : Type 0} (r : Result T E) → P → OnOk r P
 on_ok (Ok x) p = p
