@@ -5,10 +5,15 @@ mod fault;
 pub mod laws;
 mod number;
 mod octet;
+mod range;
 mod reading;
 mod terms;
 mod writing;
 
 pub use fault::{TextFault, TextKind, TextStop};
-pub use reading::read_label;
-pub use writing::write_label;
+pub use range::Range;
+pub use reading::{read_label, read_range};
+pub use writing::{write_label, write_range};
+
+#[cfg(test)]
+mod tests;

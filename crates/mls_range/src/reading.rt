@@ -1,12 +1,16 @@
-//! Labels, read from their texts.
+//! Labels and ranges, read from their texts.
 
 ghost use Rattle.std.specs.Prelude.{◌≡◌, ◌≤◌, false, length, IfOk, IfErr, OnOk};
+ghost use Rattle.mls_label.specs.Label.{Dominates};
 ghost use Rattle.mls_range.specs.Crowd.{IsRoomy};
 ghost use Rattle.mls_range.specs.LabelText.{IsLabelText};
+ghost use Rattle.mls_range.specs.Range.{Ends};
+ghost use Rattle.mls_range.specs.RangeText.{IsRangeText, IsRoomyRange, StopsRange};
 ghost use Rattle.mls_range.specs.Rest.{ReadsCats, ReadsPart, StopsCats, StopsPart};
 ghost use Rattle.mls_range.specs.TextFault.{StopsLabel};
 
-use crate::fault::TextStop;
+use crate::Range;
+use crate::fault::{TextFault, TextKind, TextStop};
 use crate::number::read_number;
 use crate::octet::{is_label_end, read_octet};
 use crate::terms::read_terms;
@@ -27,8 +31,45 @@ pub fn read_label(alloc: Global, text: &[u8]) -> Result<Label, TextStop>
     Ok(label)
 }
 
+/// Reads a whole text as a range: one label, which is both ends, or two labels joined by a dash. The high label has to
+/// dominate the low one.
+pub fn read_range(alloc: Global, text: &[u8]) -> Result<Range, TextStop>
+    ensures ok { IfOk result (IsRangeText text.now) }
+    ensures ordered { IfOk result (λ range. Dominates range.high range.low) }
+    ensures roomy { OnOk result (IsRoomyRange text.now) }
+    ensures err { IfErr result (StopsRange text.now) }
+{
+    let (low, end) = read_part(alloc, text, 0, true)?;
+    if end == text.len() {
+        return lone_range(low);
+    }
+    let start = end + 1;
+    let (high, _end) = read_part(alloc, text, start, false)?;
+    if !high.dominates(&low) {
+        return Err(TextStop::Fault(TextFault {
+            octet: start,
+            kind: TextKind::NotOrdered,
+        }));
+    }
+    Ok(Range { low, high })
+}
+
+/// The range of which both ends are the label.
+fn lone_range(label: Label) -> Result<Range, TextStop>
+    ensures ok { IfOk result (λ range. range ≡ record { low = label; high = label }) }
+    ensures err { IfErr result (λ stop. stop ≡ TextStop.OutOfMemory) }
+{
+    let high = label.copy()?;
+    Ok(Range { low: label, high })
+}
+
 /// Reads a label that begins at `start`, up to the text's end or, with `dash`, up to a dash. Gives it with its end.
-pub(crate) fn read_part(alloc: Global, text: &[u8], start: usize, dash: bool) -> Result<(Label, usize), TextStop>
+pub(crate) fn read_part(
+    alloc: Global,
+    text: &[u8],
+    start: usize,
+    dash: bool,
+) -> Result<(Label, usize), TextStop>
     requires { start ≤ length text.now }
     ensures ok { IfOk result (λ read. ReadsPart dash text.now start read.0 read.1) }
     ensures err { IfErr result (StopsPart dash text.now start) }
@@ -44,7 +85,12 @@ pub(crate) fn read_part(alloc: Global, text: &[u8], start: usize, dash: bool) ->
 }
 
 /// Reads what stands behind a level: a colon and terms, or nothing.
-fn read_cats(alloc: Global, text: &[u8], start: usize, dash: bool) -> Result<(CatSet, usize), TextStop>
+fn read_cats(
+    alloc: Global,
+    text: &[u8],
+    start: usize,
+    dash: bool,
+) -> Result<(CatSet, usize), TextStop>
     requires { start ≤ length text.now }
     ensures ok { IfOk result (λ read. ReadsCats dash text.now start read.0 read.1) }
     ensures err { IfErr result (StopsCats dash text.now start) }

@@ -1,9 +1,11 @@
-//! The one written form of a label.
+//! The one written form of a label, and of a range.
 
 ghost use Rattle.std.specs.Prelude.{◌≡◌, [], ◌∷◌, ◌++◌, ◌≤◌, OnOk, OnErr};
 ghost use Rattle.mls_range.specs.LabelText.{label_text, terms_of_run};
+ghost use Rattle.mls_range.specs.RangeText.{range_text};
 ghost use Rattle.mls_range.specs.Rest.{Extends, separated};
 
+use crate::Range;
 use decimal_text::write_decimal;
 use mls_label::{Label, OutOfMemory};
 
@@ -21,8 +23,35 @@ pub fn write_label(label: &Label, out: &mut Vec<u8>) -> Result<(), OutOfMemory>
     written
 }
 
+/// Appends the range's one written form: one label where both ends are the same, else the low one, a dash and the high
+/// one. After an error `out` is as it was.
+pub fn write_range(range: &Range, out: &mut Vec<u8>) -> Result<(), OutOfMemory>
+    ensures ok { OnOk result (out.new.items ≡ out.old.items ++ range_text range.now) }
+    ensures err { OnErr result (out.new.items ≡ out.old.items) }
+{
+    let before = out.len();
+    let written = append_range(range, out);
+    if written.is_err() {
+        out.truncate(before);
+    }
+    written
+}
+
+/// Appends the range's text, or a part of it where memory runs out.
+fn append_range(range: &Range, out: &mut Vec<u8>) -> Result<(), OutOfMemory>
+    ensures ok { OnOk result (out.new.items ≡ out.old.items ++ range_text range.now) }
+    ensures err { OnErr result (Extends out.old.items out.new.items) }
+{
+    append_label(range.low(), out)?;
+    if !range.high().same(range.low()) {
+        out.push(b'-')?;
+        append_label(range.high(), out)?;
+    }
+    Ok(())
+}
+
 /// Appends the label's text, or a part of it where memory runs out.
-pub(crate) fn append_label(label: &Label, out: &mut Vec<u8>) -> Result<(), OutOfMemory>
+fn append_label(label: &Label, out: &mut Vec<u8>) -> Result<(), OutOfMemory>
     ensures ok { OnOk result (out.new.items ≡ out.old.items ++ label_text label.now) }
     ensures err { OnErr result (Extends out.old.items out.new.items) }
 {
