@@ -8,9 +8,9 @@ use Rattle.mls_label.specs.declared.label.Tag.{Tag}
 use Rattle.mls_label.specs.declared.label.Tag.TheVariants.{One, Two, Five}
 use Rattle.mls_label.specs.declared.label.Label.{Label}
 use Rattle.mls_label.specs.Cats.{has, Ascends, IsCats, is_within}
-use Rattle.mls_label.specs.Runs.{join_front, runs_of}
+use Rattle.mls_label.specs.Runs.{join_front, runs_of, numbers_of}
 use Rattle.mls_label.proofs.Cats.{cats_where_is, has-append, has-range_with_len}
-use Rattle.mls_label.proofs.Runs.{numbers_of, cats_of_runs}
+use Rattle.mls_label.proofs.Runs.{cats_of_runs}
 use Rattle.category_bitmap.specs.Bitmap.{octets_needed}
 use Rattle.category_bitmap.proofs.Written.{length-bitmap_of, bitmap_octets, written_reads_back}
 use Rattle.cipso_tags.specs.Body.{Descends, covers, IsBody}

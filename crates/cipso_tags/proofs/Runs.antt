@@ -4,8 +4,8 @@ use Rattle.std.specs.List.{range_with_len}
 use Rattle.std.proofs.lemmas.Bool.{eq-eqb, ne_eqb}
 use Rattle.std.proofs.lemmas.List.{append-nil, length-drop, drop_all}
 use Rattle.std.proofs.lemmas.List.FromFn.{length-range_with_len}
-use Rattle.mls_label.specs.Runs.{runs_of}
-use Rattle.mls_label.proofs.Runs.{numbers_of, cats_of_runs}
+use Rattle.mls_label.specs.Runs.{runs_of, numbers_of}
+use Rattle.mls_label.proofs.Runs.{cats_of_runs}
 use Rattle.category_bitmap.proofs.Octets.{range_split}
 use Rattle.cipso_tags.specs.Words.{word, words}
 use Rattle.cipso_tags.specs.Text.{ends_down, range_numbers}

@@ -4,7 +4,7 @@ use Rattle.std.specs.List.{range_with_len}
 use Rattle.std.proofs.lemmas.Bool.{cases_lt, cases_order, cases_eq, eq-eqb, ne_eqb, false≢true, true≢false, and_from, and_right}
 use Rattle.std.proofs.lemmas.Bool.Decides.{nat_tests}
 use Rattle.std.proofs.lemmas.List.Folds.{list_any-append}
-use Rattle.mls_label.specs.Cats.{has, Ascends, IsCats, cats_where}
+use Rattle.mls_label.specs.Cats.{has, Ascends, IsCats, IsSubset, cats_where}
 
 -- ---- what is a member
 
@@ -123,6 +123,16 @@ ascends_same low high (x ∷ xs) (y ∷ ys) a b same =
 
 pub cats_same : (a b : List ℕ) → IsCats a → IsCats b → ((c : ℕ) → c < 65535 → has a c ≡ has b c) → a ≡ b
 cats_same a b is is2 same = ascends_same 0 65535 a b is is2 (λ c le lt. same c lt)
+
+agree : (x y : Bool) → (x ≡ true → y ≡ true) → (y ≡ true → x ≡ true) → x ≡ y
+agree true true f g = refl
+agree true false f g = sym (f refl)
+agree false true f g = g refl
+agree false false f g = refl
+
+-- two sets, each within the other, are one
+pub subset_both : (a b : List ℕ) → IsCats a → IsCats b → IsSubset a b → IsSubset b a → a ≡ b
+subset_both a b is is2 f g = cats_same a b is is2 (λ c lt. agree (has a c) (has b c) (f c) (g c))
 
 -- ---- the categories that pass a test
 

@@ -5,17 +5,12 @@ use Rattle.std.proofs.lemmas.Bool.{cases_eq, eq-eqb, ne_eqb}
 use Rattle.std.proofs.lemmas.Bool.Decides.{nat_tests}
 use Rattle.std.proofs.lemmas.List.{length-map}
 use Rattle.mls_label.specs.declared.cat_set.Run.{Run}
-use Rattle.mls_label.specs.Cats.{has, Ascends, is_within}
-use Rattle.mls_label.specs.Runs.{join_front, runs_of}
+use Rattle.mls_label.specs.Cats.{has, IsCats, Ascends, is_within}
+use Rattle.mls_label.specs.Runs.{join_front, runs_of, numbers_of, AreSpaced, AreRunsOf}
 use Rattle.mls_label.specs.Kept.{cats_of, AreApart}
 use Rattle.mls_label.proofs.Cats.{has-append, has-range_with_len, ascends_range, ascends-append, ascends_less}
 
 -- ---- plain lists
-
--- the numbers of runs that are shown as their ends
-abbrev pub numbers_of : List (ℕ × ℕ) → List ℕ
-numbers_of [] = []
-numbers_of (r ∷ runs) = range_with_len r.0 (r.1 + 1 - r.0) ++ numbers_of runs
 
 abbrev pub AreInOrder : List (ℕ × ℕ) → Type 0
 AreInOrder [] = Unit {0}
@@ -59,6 +54,26 @@ runs_in_order cats = (runs_numbers cats).1
 -- sets with the same runs are the same
 pub runs_of-same : (a b : List ℕ) → runs_of a ≡ runs_of b → a ≡ b
 runs_of-same a b e = sym (cats_of_runs a) ∙ ap numbers_of e ∙ cats_of_runs b
+
+spaced_join : (c : ℕ) (runs : List (ℕ × ℕ)) → AreSpaced (c + 1) runs → AreSpaced c (join_front c runs)
+spaced_join c [] s = (omega arith, omega arith, tt)
+spaced_join c (r ∷ runs) s =
+    elim (cases_eq r.0 (c + 1)) [
+      | inl e ↦ rw (eq-eqb r.0 (c + 1) e) (omega arith, omega (arith, s.1), s.2)
+      | inr ne ↦ rw (ne_eqb r.0 (c + 1) ne) (omega arith, omega arith, (omega (arith, s.0), s.1, s.2))
+    ]
+
+spaced_less : (lower low : ℕ) (runs : List (ℕ × ℕ)) → lower ≤ low → AreSpaced low runs → AreSpaced lower runs
+spaced_less lower low [] le s = tt
+spaced_less lower low (r ∷ runs) le s = (omega (arith, s.0), s.1, s.2)
+
+spaced_runs : (low high : ℕ) (cats : List ℕ) → Ascends low high cats → AreSpaced low (runs_of cats)
+spaced_runs low high [] a = tt
+spaced_runs low high (c ∷ cats) a =
+    spaced_less low c (join_front c (runs_of cats)) a.0 (spaced_join c (runs_of cats) (spaced_runs (c + 1) high cats a.2))
+
+pub runs_are : (cats : List ℕ) → IsCats cats → AreRunsOf (runs_of cats) cats
+runs_are cats is = record { numbers = cats_of_runs cats; spaced = spaced_runs 0 65535 cats is }
 
 -- ---- the runs that are kept
 

@@ -1,6 +1,6 @@
 //! A set of categories, kept as its maximal runs in ascending order.
 
-ghost use Rattle.std.specs.Prelude.{◌≡◌, ℕ, ◌+◌, ◌<◌, ◌≤◌, ◌||◌, ◌↔◌, [], List, length, IsTrue, IfOk, MatchOption, OnOk, OnErr, IsErrOf, slice_get};
+ghost use Rattle.std.specs.Prelude.{◌≡◌, ℕ, ◌+◌, ◌<◌, ◌≤◌, ◌||◌, ◌↔◌, [], length, IsTrue, IfOk, MatchOption, OnOk, OnErr, IsErrOf, slice_get};
 ghost use Rattle.mls_label.specs.Cats.{has, is_within, cats_where, IsCats, IsSubset};
 ghost use Rattle.mls_label.specs.Runs.{runs_of};
 

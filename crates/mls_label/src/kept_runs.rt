@@ -1,16 +1,15 @@
 //! The runs behind a set: where a run belongs among them, and how it takes the place of those that it touches.
 
-ghost use Rattle.std.specs.Prelude.{◌≡◌, ◌+◌, ◌<◌, ◌≤◌, List, [], ◌∷◌, length, fold, vec_len, OnOk, OnErr, IsErrOf};
+ghost use Rattle.std.specs.Prelude.{◌≡◌, ℕ, ◌+◌, ◌<◌, ◌≤◌, ◌||◌, ◌↔◌, [], ◌∷◌, ◌++◌, length, take, drop, fold, vec_len, IsTrue, MatchOption, OnOk, OnErr, IsErrOf};
 ghost use Rattle.std.specs.List.{AllWithin, splice};
-ghost use Rattle.std.specs.Prelude.{ℕ, ◌||◌, ◌↔◌, IsTrue, MatchOption};
 ghost use Rattle.mls_label.specs.Cats.{has, is_within, cats_where, IsSubset};
 ghost use Rattle.mls_label.specs.Runs.{runs_of};
 ghost use Rattle.mls_label.specs.Kept.{cats_of, AreApart, IsKept, IsPlace, hull};
 
 use crate::cat_set::{MOST_RUNS, Run, SetStop};
 
-/// How many of the runs end below `bound`.
-pub fn end_below(runs: &[Run], bound: u16) -> usize
+// How many of the runs end below `bound`.
+fn end_below(runs: &[Run], bound: u16) -> usize
     requires { AreApart 0 runs.now }
     ensures within { result ≤ length runs.now }
     ensures below { AllWithin (λ (r : Run). r.last < bound) runs.now 0 result }
@@ -19,8 +18,8 @@ pub fn end_below(runs: &[Run], bound: u16) -> usize
     runs.partition_point(|run| run.last < bound)
 }
 
-/// How many of the runs begin at `bound` or below.
-pub fn begin_by(runs: &[Run], bound: u16) -> usize
+// How many of the runs begin at `bound` or below.
+fn begin_by(runs: &[Run], bound: u16) -> usize
     requires { AreApart 0 runs.now }
     ensures within { result ≤ length runs.now }
     ensures by_bound { AllWithin (λ (r : Run). r.first ≤ bound) runs.now 0 result }
@@ -29,7 +28,7 @@ pub fn begin_by(runs: &[Run], bound: u16) -> usize
     runs.partition_point(|run| run.first <= bound)
 }
 
-/// The least run that holds `run` and all of `runs`.
+// The least run that holds `run` and all of `runs`.
 fn hull_with(runs: &[Run], run: Run) -> Run
     ensures { result ≡ fold hull run runs.now }
 {
@@ -42,7 +41,7 @@ fn hull_with(runs: &[Run], run: Run) -> Run
     )
 }
 
-/// Where the run belongs: it touches those from the first of the two places to the second.
+// Where the run belongs: it touches those from the first of the two places to the second.
 fn place_of(runs: &[Run], run: Run) -> (usize, usize)
     requires apart { AreApart 0 runs.now }
     requires order { run.first ≤ run.last }
@@ -101,9 +100,21 @@ fn replace(runs: &mut Vec<Run>, start: usize, end: usize, run: Run)
     ensures items { runs.new.items ≡ splice runs.old.items start end (run ∷ []) }
     ensures len { vec_len runs.new ≤ vec_len runs.old }
 {
-    let left = runs.len() - (end - start - 1);
     runs[start] = run;
-    runs.copy_within(end.., start + 1);
+    // Mostly one run grows, and those behind it stay where they are.
+    if start + 1 < end {
+        remove(runs, start + 1, end);
+    }
+}
+
+fn remove(runs: &mut Vec<Run>, start: usize, end: usize)
+    requires order { start ≤ end }
+    requires within { end ≤ vec_len runs.old }
+    ensures items { runs.new.items ≡ take start runs.old.items ++ drop end runs.old.items }
+    ensures len { vec_len runs.new ≤ vec_len runs.old }
+{
+    let left = runs.len() - (end - start);
+    runs.copy_within(end.., start);
     runs.truncate(left);
 }
 

@@ -5,6 +5,9 @@
 mod cat_set;
 mod kept_runs;
 mod label;
+mod laws;
+#[cfg(test)]
+mod tests;
 
 pub use cat_set::{CatSet, SetStop};
 pub use label::{Label, OutOfMemory, Tag};

@@ -1,5 +1,5 @@
 use Rattle.std.proofs.Common.{arith}
-use Rattle.mls_label.proofs.Inside.{skip_apart, skip_step, fail_step, end_step, all_inside, answer_no, answer_yes}
+use Rattle.mls_label.proofs.Inside.{skip_apart, skip_step, take_step, fail_step, end_step, all_inside, answer_no, answer_yes}
 use Rattle.mls_label.proofs.kept_runs.is_inside.Goals.{else-cover-run-2-via-then-cover-run-2+else-run-cover, else-cover-run-2-via-else-cover-run-2}
 use Rattle.mls_label.proofs.kept_runs.is_inside.Goals as goal
 
@@ -15,6 +15,16 @@ loop-inner-preserved-then-cover-run c =
     record {
       inner = l.invariant.inner;
       outer = skip_apart l.outer.now l.invariant.outer;
+      same = (λ h. l.invariant.same.0 (step.0 h), λ h. step.1 (l.invariant.same.1 h));
+    }
+
+pub loop-inner-preserved : goal.loop-inner-preserved
+loop-inner-preserved c =
+    let l = c.loop-inner in
+    let step = take_step l.inner.now l.outer.now _ _ c.in-len1-up.len_at_least c.in-len1-up-outer.len_at_least c.if-cover-run-2.true c.if-run-cover.true in
+    record {
+      inner = skip_apart l.inner.now l.invariant.inner;
+      outer = l.invariant.outer;
       same = (λ h. l.invariant.same.0 (step.0 h), λ h. step.1 (l.invariant.same.1 h));
     }
 

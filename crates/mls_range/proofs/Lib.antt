@@ -1,0 +1,12 @@
+pub mod Digits
+pub mod Places
+pub mod Numbers
+pub mod Rests
+pub mod TermRests
+pub mod Written
+pub mod TermLists
+pub mod Crowds
+pub mod Labels
+pub mod Wholes
+pub mod Unique
+pub mod ReadBack

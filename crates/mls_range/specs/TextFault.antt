@@ -1,0 +1,22 @@
+-- Why a text is refused: the first fault of its grammar, or the term that is too much, whichever stands first.
+use Rattle.std.specs.Prelude.{ℕ, List, false}
+use Rattle.octet_grammar.specs.Fault.{IsFault}
+use Rattle.mls_range.specs.declared.fault.TextKind.{TextKind}
+use Rattle.mls_range.specs.declared.fault.TextKind.TheVariants.{Grammar, End, TooManyRuns, NotOrdered}
+use Rattle.mls_range.specs.declared.fault.TextStop.{TextStop}
+use Rattle.mls_range.specs.declared.fault.TextStop.TheVariants.{Fault, OutOfMemory}
+use Rattle.mls_range.specs.LabelText.{IsLabelText}
+use Rattle.mls_range.specs.Crowd.{CrowdsLabel, IsRoomy}
+use Rattle.mls_range.specs.Place.{octet_fault, end_fault}
+
+-- the fault of a text that is read as a label
+abbrev pub FailsLabel : List ℕ → ℕ → TextKind → Type 0
+FailsLabel text octet Grammar = IsFault IsLabelText text (octet_fault octet) × IsRoomy false text
+FailsLabel text octet End = IsFault IsLabelText text (end_fault octet) × IsRoomy false text
+FailsLabel text octet TooManyRuns = CrowdsLabel false text octet
+FailsLabel text octet NotOrdered = ⊥
+
+-- the same of a call that takes memory, which may run out
+abbrev pub StopsLabel : List ℕ → TextStop → Type 0
+StopsLabel text (Fault fault) = FailsLabel text fault.octet fault.kind
+StopsLabel text OutOfMemory = Unit {0}

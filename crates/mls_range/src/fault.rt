@@ -1,0 +1,39 @@
+ghost use Rattle.std.specs.Prelude.{◌≡◌};
+
+/// What is wrong with a text.
+#[derive(Clone, Copy, Debug, PartialEq, Eq)]
+pub enum TextKind {
+    /// The octet doesn't fit: no text of the form begins with the octets up to it.
+    Grammar,
+    /// The text ends early: it begins a text of the form and is none.
+    End,
+    /// At the first octet of a term: with its categories the set needs more than 1,952 runs.
+    TooManyRuns,
+    /// At the first octet of a range's high label: it doesn't dominate the low one.
+    NotOrdered,
+}
+
+/// The first fault of a text.
+#[derive(Clone, Copy, Debug, PartialEq, Eq)]
+pub struct TextFault {
+    /// The place, counted in octets from 0; for `End` it is the text's length.
+    pub octet: usize,
+    pub kind: TextKind,
+}
+
+/// Why a text can't be read.
+#[derive(Clone, Copy, Debug, PartialEq, Eq)]
+pub enum TextStop {
+    Fault(TextFault),
+    OutOfMemory,
+}
+
+impl From<TextFault> for TextStop {
+    ghost use Rattle.mls_range.specs.declared.fault.TextStop.TheVariants.{Fault};
+
+    ghost from_gives = { λ fault stop. stop ≡ Fault fault };
+
+    fn from(fault: TextFault) -> TextStop {
+        TextStop::Fault(fault)
+    }
+}

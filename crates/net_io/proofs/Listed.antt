@@ -1,0 +1,48 @@
+-- What one failed call more does to the numbers of faults.
+use Rattle.std.proofs.Common.{◌≡◌, ℕ, ◌+◌, true, cond, List, [], ◌∷◌, ◌++◌, refl, sym, ◌∙◌, ap, subst, arith, inl, bytes_eq, string_bytes, Err}
+use Rattle.std.proofs.lemmas.List.Sums.{sum_by-append}
+use Rattle.std.proofs.lemmas.Slice.Eq.{bytes_eq-Decides}
+use Rattle.net_io.specs.Failed.{is_failed, is_same_call, failed_in, Lists}
+use Rattle.net_io.specs.Faults.{CountsByName}
+use Rattle.net_io.specs.declared.failed.FailedCall.{FailedCall}
+use Rattle.net_io.specs.declared.failed.DepotCall.{DepotCall}
+use Rattle.net_io.specs.declared.failed.DepotCall.TheVariants.{Read, Create, Append}
+use Rattle.net_io.specs.declared.fault.IoFault.{IoFault}
+use Rattle.net_io.specs.declared.fault.IoFault.TheVariants.{Failed, OutOfMemory}
+
+is_same_call-same : (call : DepotCall) → is_same_call call call ≡ true
+is_same_call-same Read = refl
+is_same_call-same Create = refl
+is_same_call-same Append = refl
+
+-- a number with one call more in the list
+failed_in-more : (failed : List FailedCall) (entry : FailedCall) (call : DepotCall) (name : List ℕ)
+    → failed_in (failed ++ entry ∷ []) call name ≡ failed_in failed call name + cond (is_failed call name entry) 1 0
+failed_in-more failed entry call name = grind (arith, sum_by-append (λ e. cond (is_failed call name e) 1 0) failed (entry ∷ []))
+
+is_failed-entry : (call : DepotCall) (name : List ℕ) (entry : FailedCall) → entry.call ≡ call → string_bytes entry.name ≡ name → is_failed call name entry ≡ true
+is_failed-entry call name entry kind on =
+    let named : bytes_eq (string_bytes entry.name) name ≡ true = (bytes_eq-Decides (string_bytes entry.name) name).1 on in
+    let same : is_same_call call entry.call ≡ true = subst (λ k. is_same_call call k ≡ true) (sym kind) (is_same_call-same call) in
+    rw (same, named) refl
+
+-- the numbers of a call's own kind after its fault was listed, or after no memory was left to list it
+pub counts_fault : {T : Type 0} (fault : IoFault) (call : DepotCall) (name : List ℕ) (old new : List FailedCall)
+    → (fault ≡ Failed → Lists call name old new) → (fault ≡ OutOfMemory → new ≡ old)
+    → CountsByName {T = T} Failed (Err fault) name (failed_in old call) (failed_in new call)
+counts_fault Failed call name old new listed none =
+    let lists : Lists call name old new = listed refl in
+    let more : (other : List ℕ) → failed_in new call other ≡ failed_in old call other + cond (is_failed call other lists.entry) 1 0 =
+    λ other. ap (λ list. failed_in list call other) lists.last ∙ failed_in-more old lists.entry call other in
+    let one : ◌≡◌ {A = ℕ} (cond (is_failed call name lists.entry) 1 0) 1 = ap (λ b. cond {A = ℕ} b 1 0) (is_failed-entry call name lists.entry lists.kind lists.on) in
+    record {
+      no_less = λ other. omega (arith, more other);
+      ok = tt;
+      cause = λ e. inl (omega (arith, more name, one));
+    }
+counts_fault OutOfMemory call name old new listed none =
+    record {
+      no_less = λ other. omega (arith, ap (λ list. failed_in list call other) (none refl));
+      ok = tt;
+      cause = λ e. cc;
+    }

@@ -1,0 +1,31 @@
+-- Numbers of faults: when they move, and which answer needs that they did.
+use Rattle.std.specs.Prelude.{◌≡◌, ◌⊎◌, ◌<◌, ◌≤◌, ◌-◌, ◌^◌, ℕ, List, Result, OnOk, IsErrOf}
+use Rattle.net_io.specs.declared.fault.IoFault.{IoFault}
+use Rattle.net_io.specs.declared.fault.IoFault.TheVariants.{Failed as IoFailed, OutOfMemory as IoOutOfMemory}
+use Rattle.net_io.specs.declared.fault.WholeFault.{WholeFault}
+use Rattle.net_io.specs.declared.fault.WholeFault.TheVariants.{Failed as WholeFailed, OutOfMemory as WholeOutOfMemory}
+
+-- A number rose over a call: it is more than at the call's start, or stands at the end of its type.
+abbrev pub Rose : ℕ → ℕ → Type 0
+Rose old new = (old < new) ⊎ (new ≡ 2 ^ 64 - 1)
+
+-- The number of a stream's faults over one call: it never falls, no Ok moves it, and the call has Failed only where it rose.
+pub record Counts {T E : Type 0} (failed : E) (result : Result T E) (old new : ℕ) : Type 0 where
+  pub no_less : old ≤ new
+  pub ok : OnOk result (new ≡ old)
+  pub cause : IsErrOf result failed → Rose old new
+
+-- the numbers of one kind of call, one for each name, stand where they stood
+abbrev pub SameCounts : (List ℕ → ℕ) → (List ℕ → ℕ) → Type 0
+SameCounts old new = (name : List ℕ) → new name ≡ old name
+
+-- The numbers of one kind over one call on a name: none falls, no Ok moves one, and the call has Failed only where that of the name rose.
+pub record CountsByName {T E : Type 0} (failed : E) (result : Result T E) (name : List ℕ) (old new : List ℕ → ℕ) : Type 0 where
+  pub no_less : (other : List ℕ) → old other ≤ new other
+  pub ok : OnOk result (SameCounts old new)
+  pub cause : IsErrOf result failed → Rose (old name) (new name)
+
+-- a fault of one read, as one of reading a whole file
+abbrev pub whole_fault : IoFault → WholeFault
+whole_fault IoFailed = WholeFailed
+whole_fault IoOutOfMemory = WholeOutOfMemory

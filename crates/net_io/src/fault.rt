@@ -1,0 +1,81 @@
+//! Why a call on the outside gives no answer.
+ghost use Rattle.std.specs.Prelude.{◌≡◌};
+ghost use Rattle.net_io.specs.declared.fault.IoFault.TheVariants.{OutOfMemory as IoOutOfMemory};
+ghost use Rattle.net_io.specs.declared.fault.WholeFault.TheVariants.{OutOfMemory as WholeOutOfMemory};
+ghost use Rattle.net_io.specs.Faults.{whole_fault};
+
+use std::alloc::{AllocError, AllocFailed};
+use thiserror::Error;
+
+/// No memory was left for what the call keeps.
+#[derive(Clone, Copy, Debug, PartialEq, Eq)]
+pub struct OutOfMemory;
+
+/// Why a read, a write or the making of a file has failed.
+#[derive(Clone, Copy, Debug, PartialEq, Eq, Error)]
+pub enum IoFault {
+    /// The outside refused the call, and counted it.
+    #[error("the call failed")]
+    Failed,
+    /// No memory was left for what the call keeps.
+    #[error("out of memory")]
+    OutOfMemory,
+}
+
+/// Why a file wasn't read whole.
+#[derive(Clone, Copy, Debug, PartialEq, Eq)]
+pub enum WholeFault {
+    /// The file has more octets than the caller allows.
+    TooLong,
+    /// A read has failed, and was counted.
+    Failed,
+    /// No memory was left for the file's octets.
+    OutOfMemory,
+}
+
+impl From<AllocError> for OutOfMemory {
+    fn from(_: AllocError) -> Self {
+        OutOfMemory
+    }
+}
+
+impl<T: Drop> From<AllocFailed<T>> for OutOfMemory {
+    fn from(_: AllocFailed<T>) -> Self {
+        OutOfMemory
+    }
+}
+
+impl From<AllocError> for IoFault {
+    ghost from_gives = { λ _ fault. fault ≡ IoOutOfMemory };
+
+    fn from(_: AllocError) -> Self {
+        IoFault::OutOfMemory
+    }
+}
+
+impl From<OutOfMemory> for IoFault {
+    ghost from_gives = { λ _ fault. fault ≡ IoOutOfMemory };
+
+    fn from(_: OutOfMemory) -> Self {
+        IoFault::OutOfMemory
+    }
+}
+
+impl From<AllocError> for WholeFault {
+    ghost from_gives = { λ _ fault. fault ≡ WholeOutOfMemory };
+
+    fn from(_: AllocError) -> Self {
+        WholeFault::OutOfMemory
+    }
+}
+
+impl From<IoFault> for WholeFault {
+    ghost from_gives = { λ cause fault. fault ≡ whole_fault cause };
+
+    fn from(cause: IoFault) -> Self {
+        match cause {
+            IoFault::Failed => WholeFault::Failed,
+            IoFault::OutOfMemory => WholeFault::OutOfMemory,
+        }
+    }
+}

@@ -1,0 +1,45 @@
+//! Standard output. No clause tells what reaches it: this is the trusted edge.
+ghost use Rattle.std.specs.Prelude.{◌≡◌, [], false};
+
+use crate::{IoFault, Sink};
+use std::io::Print;
+
+/// Standard output, by one system call for each write and with no buffer: what was answered Ok has left the
+/// program. What was written isn't told.
+#[derive(Drop)]
+pub struct RealSink<R: Print> {
+    out: R,
+    faults: u64,
+}
+
+impl<R: Print> RealSink<R> {
+    ghost use Rattle.net_io.specs.Real.{real_faults};
+
+    /// The standard output of this runtime, with no faults so far.
+    pub fn new(out: R) -> RealSink<R>
+        ensures { real_faults result ≡ 0 }
+    {
+        RealSink { out, faults: 0 }
+    }
+}
+
+impl<R: Print> Sink for RealSink<R> {
+    ghost use Rattle.net_io.specs.Real.{real_faults};
+
+    ghost tells = { λ sink. false };
+
+    ghost written = { λ sink. [] };
+
+    ghost faults = { real_faults };
+
+    // A stream that takes nothing of some octets has failed.
+    fn write(&mut self, bytes: &[u8]) -> Result<usize, IoFault> {
+        match self.out.write_some(bytes) {
+            Ok(n) if n > 0 || bytes.is_empty() => Ok(n),
+            _ => {
+                self.faults = self.faults.saturating_add(1);
+                Err(IoFault::Failed)
+            }
+        }
+    }
+}

@@ -1,0 +1,4 @@
+pub mod Area
+pub mod Commands
+pub mod Endings
+pub mod Calls

@@ -1,0 +1,12 @@
+use Rattle.std.proofs.Common.{◌≡◌, refl, subst}
+use Rattle.netlabel_run.proofs.Commands.{no_level}
+use Rattle.netlabel_run.proofs.words.read_judge.Goals as goal
+
+pub returns-in-Ok-clause-ok : goal.returns-in-Ok-clause-ok
+returns-in-Ok-clause-ok c =
+    (c.in-Some.ensures.some, rw (← c.as_bytes.ensures.value) (record { reads = c.in-Ok.ensures.ok; roomy = c.in-Ok.ensures.roomy }), c.if-not-is_file_name.ensures.0 refl, refl)
+
+pub returns-in-Err-Fault-clause-no_form : goal.returns-in-Err-Fault-clause-no_form
+returns-in-Err-Fault-clause-no_form c _ doi level is_doi is_level is_name =
+    let refused = rw c.in-Err-Fault.field-0-is at c.in-Err-Fault.ensures.err in
+    no_level c.args.level.now c.in-Err-Fault.field-0-0.octet c.in-Err-Fault.field-0-0.kind level (rw c.as_bytes.ensures.value at refused) is_level

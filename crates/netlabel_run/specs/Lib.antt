@@ -1,0 +1,9 @@
+pub mod Words
+pub mod Command
+pub mod Header
+pub mod Option
+pub mod Verdict
+pub mod Report
+pub mod Ending
+pub mod Prints
+pub mod Call

@@ -1,0 +1,42 @@
+//! The program: judges labelled packets. Words of a command line, a folder of named files and a stream out go in; a
+//! status and a report come out. All that the program does is the one call `netlabel`, and its contract says what.
+#![tactic(auto)]
+
+mod ending;
+mod header;
+mod judge;
+mod option;
+mod outcome;
+mod report;
+#[cfg(test)]
+mod tests;
+mod top;
+mod words;
+
+use net_io::{RealDepot, RealSink};
+use std::alloc::AllocError;
+use std::process::ExitCode;
+use std::{env, io};
+use top::netlabel;
+
+/// The status where memory ran out before the call.
+const OUT_OF_MEMORY: u8 = 6;
+
+/// Makes the real folder and the real stream out, makes the call, and ends with its status.
+fn main(rt: HostRuntime) -> ExitCode {
+    ExitCode::from(call(rt).unwrap_or(OUT_OF_MEMORY))
+}
+
+/// Calls the program with the words of the command line.
+fn call(rt: HostRuntime) -> io::Result<u8> {
+    let alloc = rt.alloc();
+    let mut words = Vec::new(alloc);
+    for word in env::args(&rt)?.skip(1) {
+        words.push(word)?;
+    }
+    let Ok(mut depot) = RealDepot::new(rt.clone()?, alloc) else {
+        return Ok(OUT_OF_MEMORY);
+    };
+    let mut sink = RealSink::new(rt);
+    Ok(netlabel(alloc, &words, &mut depot, &mut sink).status)
+}
