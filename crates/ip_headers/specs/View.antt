@@ -1,0 +1,1 @@
+-- How the fields of a `Packet4` and a `Packet6` give the packet that contracts see.

@@ -1,0 +1,12 @@
+//! The headers of IPv4 (RFC 791) and IPv6 (RFC 8200, with its Hop-by-Hop Options header): a packet is
+//! read without memory, and written again with another label option and other hops. The label option
+//! (CIPSO in IPv4, CALIPSO in IPv6) is any octets here: its content is not read.
+#![tactic(auto)]
+
+mod cause;
+mod fault;
+mod version;
+
+pub use cause::Cause;
+pub use fault::{HeadFault, HeadKind};
+pub use version::Version;
