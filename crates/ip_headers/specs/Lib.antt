@@ -5,4 +5,4 @@ pub mod Header4
 pub mod Header6
 pub mod Reading
 pub mod Written
-pub mod View
+pub mod Walk

@@ -53,6 +53,24 @@ pub record IsBroken (version : Version) (rest : List ℕ) : Type 0 where
   pub paired : is_single version (type_of rest) ≡ false
   pub wrong : (length rest ≡ 1) ⊎ (announced version rest < 2) ⊎ (length rest < announced version rest)
 
+-- CIPSO in version 4 (FIPS 188), CALIPSO in version 6 (RFC 5570)
+abbrev pub label_type : Version → ℕ
+label_type V4 = 134
+label_type V6 = 7
+
+abbrev pub is_label_type : Version → ℕ → Bool
+is_label_type version type = type == label_type version
+
+-- the Jumbo Payload option of version 6 (RFC 2675)
+abbrev pub is_jumbo_type : Version → ℕ → Bool
+is_jumbo_type V4 type = false
+is_jumbo_type V6 type = type == 194
+
+
+-- all but padding, which has the types 0 and 1 in both versions, and label options
+abbrev pub is_other_type : Version → ℕ → Bool
+is_other_type version type = not (type == 0 || type == 1 || is_label_type version type)
+
 -- an option and its place: that of its type octet
 pub record Placed : Type 0 where
   pub place : ℕ
@@ -63,22 +81,14 @@ abbrev pub placed_from : ℕ → List (List ℕ) → List Placed
 placed_from place [] = []
 placed_from place (option ∷ options) = record { place = place; octets = option } ∷ placed_from (place + length option) options
 
--- CIPSO in version 4 (FIPS 188), CALIPSO in version 6 (RFC 5570)
-abbrev pub label_type : Version → ℕ
-label_type V4 = 134
-label_type V6 = 7
-
 abbrev pub is_label : Version → Placed → Bool
-is_label version option = type_of option.octets == label_type version
+is_label version option = is_label_type version (type_of option.octets)
 
--- the Jumbo Payload option of version 6 (RFC 2675)
 abbrev pub is_jumbo : Version → Placed → Bool
-is_jumbo V4 option = false
-is_jumbo V6 option = type_of option.octets == 194
+is_jumbo version option = is_jumbo_type version (type_of option.octets)
 
--- all but padding, which has the types 0 and 1 in both versions, and label options
 abbrev pub is_other : Version → Placed → Bool
-is_other version option = not (type_of option.octets == 0 || type_of option.octets == 1 || is_label version option)
+is_other version option = is_other_type version (type_of option.octets)
 
 -- An option keeps its place modulo this number when a header is written again: 8 in version 6, where an
 -- option may ask for it (RFC 8200, section 4.2). In version 4 each place serves.
@@ -97,3 +107,8 @@ labels_of version options = filter (is_label version) options
 -- the options that are neither padding nor labels, in order
 abbrev pub others_of : Version → List Placed → List Placed
 others_of version options = map (aligned version) (filter (is_other version) options)
+
+-- whether a list has an element
+abbrev pub has_any : List Placed → Bool
+has_any [] = false
+has_any (option ∷ options) = true

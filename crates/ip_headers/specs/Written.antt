@@ -4,7 +4,7 @@ use Rattle.std.specs.Option.{option_map}
 use Rattle.ip_headers.specs.declared.version.Version.{Version}
 use Rattle.ip_headers.specs.declared.version.Version.TheVariants.{V4, V6}
 use Rattle.ip_headers.specs.Sum.{be16, ones_sum}
-use Rattle.ip_headers.specs.Option.{Placed, IsOption, type_of, label_type, is_label, is_other, is_jumbo, alignment}
+use Rattle.ip_headers.specs.Option.{Placed, IsOption, type_of, label_type, is_label, is_other, is_jumbo, alignment, has_any}
 use Rattle.ip_headers.specs.Packet.{ParsedPacket}
 use Rattle.ip_headers.specs.Reading.{first_place}
 
@@ -64,7 +64,7 @@ checksum4 p = 65535 - ones_sum (header4 p 0)
 
 -- whether a packet of version 6 has an option that is kept
 abbrev pub has_options : ParsedPacket → Bool
-has_options p = is_some p.label || not (length p.others == 0)
+has_options p = is_some p.label || has_any p.others
 
 -- the Hop-by-Hop header, none without an option
 unfoldable pub hop_by_hop : ParsedPacket → List ℕ

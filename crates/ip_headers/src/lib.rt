@@ -5,7 +5,11 @@
 
 mod cause;
 mod fault;
+mod kind;
+mod options;
+mod sum;
 mod version;
+mod walk;
 
 pub use cause::Cause;
 pub use fault::{HeadFault, HeadKind};

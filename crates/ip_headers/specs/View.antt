@@ -1,1 +1,0 @@
--- How the fields of a `Packet4` and a `Packet6` give the packet that contracts see.
