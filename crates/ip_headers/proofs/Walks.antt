@@ -81,13 +81,13 @@ Finds-push version options found new at option bl bs bj bo f il is ij io label_i
     let seen : is_some found.label ≡ is_some (slice_get ls 0) = sym (is_some-map (λ (x : ℕ × Bor (List ℕ)). let q : Placed = record { place = x.0; octets = x.1.now } in q) found.label) ∙ ap (λ (o : Option Placed). is_some o) f.label in
     record {
       label = rw label_is (option_map-or (λ (x : ℕ × Bor (List ℕ)). let q : Placed = record { place = x.0; octets = x.1.now } in q) found.label bl (at, option)
-        ∙ rw (f.label, il) (sym (get-0-push ls (is_label version p) p) ∙ ap (λ (x : List Placed). slice_get x 0) (sym (filter-append (is_label version) options (p ∷ [])))));
+          ∙ rw (f.label, il) (sym (get-0-push ls (is_label version p) p) ∙ ap (λ (x : List Placed). slice_get x 0) (sym (filter-append (is_label version) options (p ∷ [])))));
       second = rw (second_is, f.second, is, seen, il) (sym (option_map-or place_of (slice_get ls 1) (is_label version p && is_some (slice_get ls 0)) p)
-        ∙ ap (option_map place_of) (sym (get-1-push ls (is_label version p) p) ∙ ap (λ (x : List Placed). slice_get x 1) (sym (filter-append (is_label version) options (p ∷ [])))));
+          ∙ ap (option_map place_of) (sym (get-1-push ls (is_label version p) p) ∙ ap (λ (x : List Placed). slice_get x 1) (sym (filter-append (is_label version) options (p ∷ [])))));
       jumbo = rw (jumbo_is, f.jumbo, ij) (sym (option_map-or place_of (slice_get js 0) (is_jumbo version p) p)
-        ∙ ap (option_map place_of) (sym (get-0-push js (is_jumbo version p) p) ∙ ap (λ (x : List Placed). slice_get x 0) (sym (filter-append (is_jumbo version) options (p ∷ [])))));
+          ∙ ap (option_map place_of) (sym (get-0-push js (is_jumbo version p) p) ∙ ap (λ (x : List Placed). slice_get x 0) (sym (filter-append (is_jumbo version) options (p ∷ [])))));
       others = rw (others_is, f.others, io) (sym (any-push (aligned version) (filter (is_other version) options) (is_other version p) p)
-        ∙ ap (λ (x : List Placed). has_any (map (aligned version) x)) (sym (filter-append (is_other version) options (p ∷ []))));
+          ∙ ap (λ (x : List Placed). has_any (map (aligned version) x)) (sym (filter-append (is_other version) options (p ∷ []))));
     }
 
 pub IsSoFar-more : (version : Version) (area : List ℕ) (first : ℕ) (found : Found) (at : ℕ) (rest : List ℕ) (size : ℕ) (option after : List ℕ) (new : Found)

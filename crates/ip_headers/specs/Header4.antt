@@ -39,7 +39,6 @@ head4 octets = take (header_length octets) octets
 abbrev pub payload4 : List ℕ → List ℕ
 payload4 octets = slice_range octets (header_length octets) (total_length octets)
 
-
 -- what the header's octets say, with these options and this payload
 abbrev pub parsed4 : List ℕ → Option Placed → List Placed → List ℕ → ParsedPacket
 parsed4 head label others payload = record {

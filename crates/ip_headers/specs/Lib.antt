@@ -6,3 +6,5 @@ pub mod Header6
 pub mod Reading
 pub mod Written
 pub mod Walk
+pub mod View
+pub mod View4

@@ -66,7 +66,6 @@ abbrev pub is_jumbo_type : Version → ℕ → Bool
 is_jumbo_type V4 type = false
 is_jumbo_type V6 type = type == 194
 
-
 -- all but padding, which has the types 0 and 1 in both versions, and label options
 abbrev pub is_other_type : Version → ℕ → Bool
 is_other_type version type = not (type == 0 || type == 1 || is_label_type version type)

@@ -1,3 +1,5 @@
+ghost use Rattle.std.specs.Prelude.{◌≡◌};
+
 /// Why octets are no packet: the first test that fails.
 #[derive(Clone, Copy, Debug, Drop, PartialEq, Eq)]
 pub struct HeadFault {
@@ -25,4 +27,11 @@ pub enum HeadKind {
     Jumbo,
     /// A second label option.
     SecondLabel,
+}
+
+/// A fault at this octet.
+pub(crate) fn fault(octet: usize, kind: HeadKind) -> HeadFault
+    ensures { result ≡ record { octet = octet; kind = kind } }
+{
+    HeadFault { octet, kind }
 }

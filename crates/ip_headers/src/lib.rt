@@ -7,10 +7,12 @@ mod cause;
 mod fault;
 mod kind;
 mod options;
+mod packet4;
 mod sum;
 mod version;
 mod walk;
 
 pub use cause::Cause;
 pub use fault::{HeadFault, HeadKind};
+pub use packet4::Packet4;
 pub use version::Version;

@@ -3,7 +3,7 @@ use Rattle.std.specs.List.{concat}
 use Rattle.ip_headers.specs.Option.{AreOptions, placed_from}
 use Rattle.ip_headers.specs.Walk.{Finds}
 use Rattle.ip_headers.proofs.Walks.{IsSoFar}
-use Rattle.ip_headers.proofs.walk.walk.Given as goal
+use Rattle.ip_headers.proofs.walk.walk_from.Given as goal
 
 abbrev pub invariant-loop-found : goal.invariant-loop-found
 invariant-loop-found l = IsSoFar l.version l.area l.first l.found l.at l.rest

@@ -1,0 +1,51 @@
+-- How the fields of a packet's view give the parsed packet that contracts see. No public clause cites these
+-- words.
+use Rattle.std.specs.Prelude.{◌≡◌, ℕ, zero, suc, ◌+◌, ◌≤◌, Bool, true, false, List, [], ◌∷◌, length, take, drop, Option, None, slice_get, if◌then◌else◌}
+use Rattle.ip_headers.specs.declared.version.Version.{Version}
+use Rattle.ip_headers.specs.declared.version.Version.TheVariants.{V4, V6}
+use Rattle.ip_headers.specs.Option.{Placed, AreOptions, Ends, placed_from, is_end, type_of, announced, labels_of, others_of, has_any}
+use Rattle.ip_headers.specs.Reading.{first_place, fixed_fault, head_of, payload_of, parsed}
+use Rattle.ip_headers.specs.Packet.{ParsedPacket}
+
+-- whether a list of options ends here
+abbrev pub stops : Version → List ℕ → Bool
+stops version [] = true
+stops version (type ∷ octets) = is_end version type
+
+-- at most so many options, as their length octets cut the octets
+unfoldable pub options_within : ℕ → Version → List ℕ → List (List ℕ)
+options_within zero version octets = []
+options_within (suc n) version octets =
+    if stops version octets then [] else take (announced version octets) octets ∷ options_within n version (drop (announced version octets) octets)
+
+-- the options of these octets with their places
+abbrev pub options_in : Version → List ℕ → List Placed
+options_in version head = placed_from (first_place version) (options_within (length (drop (first_place version) head)) version (drop (first_place version) head))
+
+-- the packet with this head and payload
+abbrev pub view_of : Version → List ℕ → List ℕ → ParsedPacket
+view_of version head payload = parsed version head (options_in version head) payload
+
+-- the length of a head without options, at least
+abbrev pub least_head : Version → ℕ
+least_head V4 = 20
+least_head V6 = 40
+
+-- what holds of the fields of a view
+pub record Holds (version : Version) (head payload : List ℕ) (label : Option Placed) (has_others : Bool) : Type 0 where
+  pub long : least_head version ≤ length head
+  pub small : length head + length payload ≤ 65575
+  pub options : List (List ℕ)
+  pub rest : List ℕ
+  pub walk : AreOptions version (drop (first_place version) head) options rest
+  pub ends : Ends version rest
+  pub first : label ≡ slice_get (labels_of version (placed_from (first_place version) options)) 0
+  pub others : has_others ≡ has_any (others_of version (placed_from (first_place version) options))
+
+-- the head and the payload of octets whose fixed fields are right
+pub record IsParts (version : Version) (octets head payload : List ℕ) : Type 0 where
+  pub fixed : fixed_fault version octets ≡ None
+  pub head_is : head ≡ head_of version octets
+  pub payload_is : payload ≡ payload_of version octets
+  pub long : least_head version ≤ length head
+  pub small : length head + length payload ≤ 65575
