@@ -94,3 +94,21 @@ list_none4 options found f e = rw (no_jumbo4 options, second_from V4 options fou
 pub list_some4 : (options : List Placed) (found : Found) (octet : ℕ) (fault : HeadFault) → Finds V4 options found → found.second ≡ Some octet → fault ≡ record { octet = octet; kind = SecondLabel }
     → list_fault V4 options ≡ Some fault
 list_some4 options found octet fault f e is = rw (no_jumbo4 options, second_from V4 options found f, e, is) refl
+
+pub list_none6 : (options : List Placed) (found : Found) → Finds V6 options found → found.jumbo ≡ None → found.second ≡ None → list_fault V6 options ≡ None
+list_none6 options found f j e = rw (jumbo_from V6 options found f, second_from V6 options found f, j, e) refl
+
+pub list_some6 : (options : List Placed) (found : Found) (octet : ℕ) (fault : HeadFault) → Finds V6 options found → found.jumbo ≡ None → found.second ≡ Some octet
+    → fault ≡ record { octet = octet; kind = SecondLabel } → list_fault V6 options ≡ Some fault
+list_some6 options found octet fault f j e is = rw (jumbo_from V6 options found f, second_from V6 options found f, j, e, is) refl
+
+pub jumbo_none6 : (options : List Placed) (found : Found) → Finds V6 options found → found.jumbo ≡ None → jumbo_fault V6 options ≡ None
+jumbo_none6 options found f j = rw (jumbo_from V6 options found f, j) refl
+
+pub jumbo_some6 : (options : List Placed) (found : Found) (octet : ℕ) (fault : HeadFault) → Finds V6 options found → found.jumbo ≡ Some octet → fault ≡ record { octet = octet; kind = Jumbo }
+    → jumbo_fault V6 options ≡ Some fault
+jumbo_some6 options found octet fault f j is = rw (jumbo_from V6 options found f, j, is) refl
+
+pub list_jumbo6 : (options : List Placed) (found : Found) (octet : ℕ) (fault : HeadFault) → Finds V6 options found → found.jumbo ≡ Some octet → fault ≡ record { octet = octet; kind = Jumbo }
+    → list_fault V6 options ≡ Some fault
+list_jumbo6 options found octet fault f j is = rw (jumbo_some6 options found octet fault f j is) refl

@@ -8,3 +8,4 @@ pub mod Written
 pub mod Walk
 pub mod View
 pub mod View4
+pub mod View6

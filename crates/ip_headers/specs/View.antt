@@ -4,6 +4,7 @@ use Rattle.std.specs.Prelude.{◌≡◌, ℕ, zero, suc, ◌+◌, ◌≤◌, Boo
 use Rattle.ip_headers.specs.declared.version.Version.{Version}
 use Rattle.ip_headers.specs.declared.version.Version.TheVariants.{V4, V6}
 use Rattle.ip_headers.specs.Option.{Placed, AreOptions, Ends, placed_from, is_end, type_of, announced, labels_of, others_of, has_any}
+use Rattle.ip_headers.specs.Header6.{has_hop_by_hop}
 use Rattle.ip_headers.specs.Reading.{first_place, fixed_fault, head_of, payload_of, parsed}
 use Rattle.ip_headers.specs.Packet.{ParsedPacket}
 
@@ -26,14 +27,15 @@ options_in version head = placed_from (first_place version) (options_within (len
 abbrev pub view_of : Version → List ℕ → List ℕ → ParsedPacket
 view_of version head payload = parsed version head (options_in version head) payload
 
--- the length of a head without options, at least
-abbrev pub least_head : Version → ℕ
-least_head V4 = 20
-least_head V6 = 40
+-- how long a head is at least: in version 6 with the first eight octets of a Hop-by-Hop header, where one
+-- follows
+abbrev pub least_head : Version → List ℕ → ℕ
+least_head V4 head = 20
+least_head V6 head = if has_hop_by_hop head then 48 else 40
 
 -- what holds of the fields of a view
 pub record Holds (version : Version) (head payload : List ℕ) (label : Option Placed) (has_others : Bool) : Type 0 where
-  pub long : least_head version ≤ length head
+  pub long : least_head version head ≤ length head
   pub small : length head + length payload ≤ 65575
   pub options : List (List ℕ)
   pub rest : List ℕ
@@ -47,5 +49,5 @@ pub record IsParts (version : Version) (octets head payload : List ℕ) : Type 0
   pub fixed : fixed_fault version octets ≡ None
   pub head_is : head ≡ head_of version octets
   pub payload_is : payload ≡ payload_of version octets
-  pub long : least_head version ≤ length head
+  pub long : least_head version head ≤ length head
   pub small : length head + length payload ≤ 65575

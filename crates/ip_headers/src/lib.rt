@@ -8,11 +8,13 @@ mod fault;
 mod kind;
 mod options;
 mod packet4;
+mod packet6;
 mod sum;
 mod version;
 mod walk;
 
 pub use cause::Cause;
 pub use fault::{HeadFault, HeadKind};
-pub use packet4::Packet4;
+pub use packet4::{Packet4, front4, read4};
+pub use packet6::{Packet6, front6, read6};
 pub use version::Version;
