@@ -1,3 +1,4 @@
 pub mod Walks
 pub mod Views
 pub mod Readings
+pub mod Layouts

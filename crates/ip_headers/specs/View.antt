@@ -33,6 +33,13 @@ abbrev pub least_head : Version → List ℕ → ℕ
 least_head V4 head = 20
 least_head V6 head = if has_hop_by_hop head then 48 else 40
 
+-- the list of options of a head is whole
+pub record HasOptions (version : Version) (head : List ℕ) : Type 0 where
+  pub options : List (List ℕ)
+  pub rest : List ℕ
+  pub walk : AreOptions version (drop (first_place version) head) options rest
+  pub ends : Ends version rest
+
 -- what holds of the fields of a view
 pub record Holds (version : Version) (head payload : List ℕ) (label : Option Placed) (has_others : Bool) : Type 0 where
   pub long : least_head version head ≤ length head

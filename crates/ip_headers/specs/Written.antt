@@ -4,7 +4,7 @@ use Rattle.std.specs.Option.{option_map}
 use Rattle.ip_headers.specs.declared.version.Version.{Version}
 use Rattle.ip_headers.specs.declared.version.Version.TheVariants.{V4, V6}
 use Rattle.ip_headers.specs.Sum.{be16, ones_sum}
-use Rattle.ip_headers.specs.Option.{Placed, IsOption, type_of, label_type, is_label, is_other, is_jumbo, alignment, has_any}
+use Rattle.ip_headers.specs.Option.{Placed, IsOption, type_of, label_type, uncounted, is_label, is_other, is_jumbo, alignment, has_any}
 use Rattle.ip_headers.specs.Packet.{ParsedPacket}
 use Rattle.ip_headers.specs.Reading.{first_place}
 
@@ -50,13 +50,17 @@ kept_options p = label_octets p.label ++ packed p.version (first_place p.version
 abbrev pub option_area : ParsedPacket → List ℕ
 option_area p = filled p.version (first_place p.version) (kept_options p)
 
--- the header of version 4, with this checksum
-abbrev pub header4 : ParsedPacket → ℕ → List ℕ
-header4 p checksum =
-    (64 + (20 + length (option_area p)) / 4) ∷ p.class ∷ be16 (20 + length (option_area p) + length p.payload)
+-- the fixed fields of version 4, with so many octets of options and this checksum
+abbrev pub fixed4 : ParsedPacket → ℕ → ℕ → List ℕ
+fixed4 p size checksum =
+    (64 + (20 + size) / 4) ∷ p.class ∷ be16 (20 + size + length p.payload)
     ++ be16 p.identification ++ be16 p.flags_offset
     ++ (p.hops ∷ p.protocol ∷ be16 checksum)
-    ++ p.source ++ p.destination ++ option_area p
+    ++ p.source ++ p.destination
+
+-- the header of version 4, with this checksum
+abbrev pub header4 : ParsedPacket → ℕ → List ℕ
+header4 p checksum = fixed4 p (length (option_area p)) checksum ++ option_area p
 
 -- the one's complement of the one's complement sum of the header with a checksum of 0
 abbrev pub checksum4 : ParsedPacket → ℕ
@@ -70,13 +74,16 @@ has_options p = is_some p.label || has_any p.others
 unfoldable pub hop_by_hop : ParsedPacket → List ℕ
 hop_by_hop p = if has_options p then p.protocol ∷ ((2 + length (option_area p)) / 8 - 1) ∷ option_area p else []
 
--- the header of version 6
-abbrev pub header6 : ParsedPacket → List ℕ
-header6 p =
+-- the header of version 6, with so many octets of a Hop-by-Hop header behind it
+abbrev pub fixed6 : ParsedPacket → ℕ → List ℕ
+fixed6 p size =
     (96 + p.class / 16) ∷ (16 * (p.class % 16) + p.flow_label / 65536) ∷ be16 (p.flow_label % 65536)
-    ++ be16 (length (hop_by_hop p) + length p.payload)
+    ++ be16 (size + length p.payload)
     ++ ((if has_options p then 0 else p.protocol) ∷ p.hops ∷ [])
     ++ p.source ++ p.destination
+
+abbrev pub header6 : ParsedPacket → List ℕ
+header6 p = fixed6 p (length (hop_by_hop p))
 
 -- the octets of a packet
 abbrev pub octets_of : Version → ParsedPacket → List ℕ
@@ -114,8 +121,9 @@ relabelled p option hops = record p { label = option_map (λ o. record { place =
 
 -- a label option as it may be written: its type and its length octet are right
 pub record IsLabelOption (version : Version) (option : List ℕ) : Type 0 where
-  pub is : IsOption version option
+  pub long : 2 ≤ length option
   pub type : type_of option ≡ label_type version
+  pub exact : slice_index option 1 + uncounted version ≡ length option
 
 -- the fields of one version fit, and those of the other are 0
 abbrev pub FitsFields : Version → ParsedPacket → Type 0

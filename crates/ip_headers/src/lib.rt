@@ -6,6 +6,7 @@
 mod cause;
 mod fault;
 mod kind;
+mod layout;
 mod options;
 mod packet4;
 mod packet6;
