@@ -2,3 +2,4 @@ pub mod Walks
 pub mod Views
 pub mod Readings
 pub mod Layouts
+pub mod Writing

@@ -119,9 +119,15 @@ rebuilt_length p = length_of p.version p
 abbrev pub relabelled : ParsedPacket → Option (List ℕ) → ℕ → ParsedPacket
 relabelled p option hops = record p { label = option_map (λ o. record { place = first_place p.version; octets = o }) option; hops = hops }
 
+-- the longest label option: 40 octets of CIPSO (FIPS 188), 254 of CALIPSO (RFC 5570)
+abbrev pub label_limit : Version → ℕ
+label_limit V4 = 40
+label_limit V6 = 254
+
 -- a label option as it may be written: its type and its length octet are right
 pub record IsLabelOption (version : Version) (option : List ℕ) : Type 0 where
   pub long : 2 ≤ length option
+  pub short : length option ≤ label_limit version
   pub type : type_of option ≡ label_type version
   pub exact : slice_index option 1 + uncounted version ≡ length option
 
@@ -155,3 +161,8 @@ hides_payload V6 p = p.protocol == 0 && not (has_options p)
 -- what a packet is when it was written: its label option is the first option
 abbrev pub next_packet : ParsedPacket → ParsedPacket
 next_packet p = record p { label = option_map (λ o. record { place = first_place p.version; octets = o.octets }) p.label }
+
+-- the octets of a label option that may be left out
+abbrev pub octets_or_none : Option (List ℕ) → List ℕ
+octets_or_none None = []
+octets_or_none (Some octets) = octets

@@ -4,6 +4,7 @@
 ghost use Rattle.std.specs.Prelude.{◌≡◌, ℕ, ◌+◌, ◌*◌, ◌^◌, ◌<◌, ◌≤◌, List, [], ◌∷◌, ◌++◌, length, OnOk};
 ghost use Rattle.ip_headers.specs.declared.version.Version.TheVariants.{V6};
 ghost use Rattle.ip_headers.specs.Option.{alignment, others_of};
+ghost use Rattle.ip_headers.specs.Reading.{first_place};
 ghost use Rattle.ip_headers.specs.Written.{gap_to, padding, packed, unit_of};
 ghost use Rattle.ip_headers.specs.View.{options_in, HasOptions};
 
@@ -101,7 +102,7 @@ fn push_option(
 /// Where the options that are kept end, if the first free octet is this one.
 pub fn kept_end(version: Version, head: &[u8], free: usize) -> usize
     requires options { HasOptions version head.now }
-    requires small { length head.now < 2 ^ 16 }
+    requires small { length head.now < 2 ^ 17 }
     requires within { free < 2 ^ 16 }
     ensures value { result ≡ free + length (packed version free (others_of version (options_in version head.now))) }
 {
@@ -120,7 +121,7 @@ pub fn kept_end(version: Version, head: &[u8], free: usize) -> usize
 /// Writes the options that are kept at the end of a packet.
 pub fn push_kept(version: Version, head: &[u8], out: &mut Vec<u8>) -> Result<(), AllocError>
     requires options { HasOptions version head.now }
-    requires small { length head.now < 2 ^ 16 }
+    requires small { length head.now < 2 ^ 17 }
     ensures { OnOk result (out.new.items ≡ out.old.items ++ packed version (length out.old.items) (others_of version (options_in version head.now))) }
 {
     let mut at = first_place(version);
@@ -132,4 +133,23 @@ pub fn push_kept(version: Version, head: &[u8], out: &mut Vec<u8>) -> Result<(),
         rest = after;
     }
     Ok(())
+}
+
+/// How long the options are, with a label option of this length and no padding after them.
+pub fn kept_size(version: Version, head: &[u8], label: usize) -> usize
+    requires options { HasOptions version head.now }
+    requires small { length head.now < 2 ^ 17 }
+    requires within { label < 2 ^ 15 }
+    ensures { result ≡ label + length (packed version (first_place version + label) (others_of version (options_in version head.now))) }
+{
+    let first = first_place(version);
+    kept_end(version, head, first + label) - first
+}
+
+/// How long they are with the padding after them.
+pub fn filled_size(version: Version, kept: usize) -> usize
+    requires { kept < 2 ^ 32 }
+    ensures { result ≡ kept + gap_to (unit_of version) 0 (first_place version + kept) }
+{
+    kept + gap_to(unit_of(version), 0, first_place(version) + kept)
 }

@@ -6,16 +6,20 @@
 mod cause;
 mod fault;
 mod kind;
+mod label;
 mod layout;
 mod options;
 mod packet4;
 mod packet6;
+mod rebuild;
 mod sum;
 mod version;
 mod walk;
+mod write4;
 
 pub use cause::Cause;
 pub use fault::{HeadFault, HeadKind};
 pub use packet4::{Packet4, front4, read4};
 pub use packet6::{Packet6, front6, read6};
+pub use rebuild::Rebuild;
 pub use version::Version;

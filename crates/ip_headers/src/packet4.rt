@@ -9,18 +9,23 @@
 //     destination
 //     options, to IHL x 4 octets, and then the payload
 
-ghost use Rattle.std.specs.Prelude.{◌≡◌, ◌↔◌, ◌<◌, length, IsTrue, IfOk, IfErr, None, Some};
-ghost use Rattle.std.specs.Option.{option_map};
+ghost use Rattle.std.specs.Prelude.{◌≡◌, ◌↔◌, ◌<◌, ◌≤◌, [], length, IsTrue, IfOk, IfErr, OnOk, OnErr, None, Some};
+ghost use Rattle.std.specs.Option.{ForSome, option_copied, option_map};
 ghost use Rattle.ip_headers.specs.declared.version.Version.TheVariants.{V4};
 ghost use Rattle.ip_headers.specs.Header4.{fixed_fault4};
 ghost use Rattle.ip_headers.specs.Reading.{IsPacket, IsHeadFault, IsFront, IsFrontFault};
 ghost use Rattle.ip_headers.specs.View.{IsParts};
+ghost use Rattle.ip_headers.specs.Written.{IsLabelOption, packet_octets, relabelled, rebuilt_room, rebuilt_length};
 
 use crate::fault::{HeadFault, HeadKind, fault};
+use crate::label::label_size;
+use crate::layout::{filled_size, kept_size};
 use crate::options::Found;
+use crate::rebuild::Rebuild;
 use crate::sum::{ones_sum, word_at};
 use crate::version::Version;
 use crate::walk::walk;
+use crate::write4::write4;
 use std::marker::Model;
 
 /// A packet of IPv4, borrowed from its octets. Contracts see what it says: a `ParsedPacket`.
@@ -193,4 +198,38 @@ pub fn front4(bytes: &[u8]) -> Result<Packet4<'_>, HeadFault>
         label,
         has_others,
     })
+}
+
+/// Writes the packet with this label option, or none, and these hops: `out` becomes exactly that packet.
+/// Padding goes; each other option stays, in its order.
+///
+/// NoRoom comes where the options pass 40 octets, else TooLong where the total length passes 65,535. After
+/// an error `out` is empty.
+pub fn rebuild4(
+    view: &Packet4,
+    option: Option<&[u8]>,
+    hops: u8,
+    out: &mut Vec<u8>,
+) -> Result<(), Rebuild>
+    requires { ForSome option (λ o. IsLabelOption V4 o.now) }
+    ensures ok { OnOk result (out.new.items ≡ packet_octets (relabelled view.now (option_copied option.entry) hops)) }
+    ensures no_room { (result ≡ Err Rebuild.NoRoom) ↔ (40 < rebuilt_room (relabelled view.now (option_copied option.entry) hops)) }
+    ensures too_long { (result ≡ Err Rebuild.TooLong) ↔ ((rebuilt_room (relabelled view.now (option_copied option.entry) hops) ≤ 40)
+        × (65535 < rebuilt_length (relabelled view.now (option_copied option.entry) hops))) }
+    ensures err { OnErr result (out.new.items ≡ []) }
+{
+    out.clear();
+    let kept = kept_size(Version::V4, view.head, label_size(option));
+    if kept > 40 {
+        return Err(Rebuild::NoRoom);
+    }
+    let size = filled_size(Version::V4, kept);
+    if 20 + size + view.payload.len() > 65535 {
+        return Err(Rebuild::TooLong);
+    }
+    if write4(view.head, view.payload, option, size, hops, out).is_err() {
+        out.clear();
+        return Err(Rebuild::OutOfMemory);
+    }
+    Ok(())
 }

@@ -1,0 +1,93 @@
+-- A packet written again, part by part.
+use Rattle.std.proofs.Common.{◌≡◌, ℕ, zero, suc, ◌+◌, ◌-◌, ◌*◌, ◌/◌, ◌%◌, ◌<◌, ◌≤◌, Bool, true, false, cond, List, [], ◌∷◌, ◌++◌, length, take, drop, set, Option, Some, None, refl, sym, ap, subst, ◌∙◌, append_assoc, arith, length-append}
+use Rattle.std.specs.Prelude.{slice_set}
+use Rattle.std.specs.Borrow.{Bor}
+use Rattle.std.specs.Option.{option_map, option_copied, ForSome}
+use Rattle.ip_headers.specs.declared.version.Version.{Version}
+use Rattle.ip_headers.specs.declared.version.Version.TheVariants.{V4, V6}
+use Rattle.ip_headers.specs.Sum.{be16, ones_sum}
+use Rattle.ip_headers.specs.Option.{Placed, others_of}
+use Rattle.ip_headers.specs.Packet.{ParsedPacket}
+use Rattle.ip_headers.specs.Reading.{first_place}
+use Rattle.ip_headers.specs.View.{options_in, view_of}
+use Rattle.ip_headers.specs.Written.{gap_to, padding, packed, unit_of, filled, label_octets, octets_or_none, kept_options, option_area, fixed4, header4, checksum4, packet_octets, relabelled, rebuilt_room, rebuilt_length, IsLabelOption}
+use Rattle.ip_headers.proofs.Layouts.{length-padding}
+
+pub label_small : (version : Version) (option : Option (Bor (List ℕ))) → ForSome option (λ o. IsLabelOption version o.now) → length (octets_or_none (option_copied option)) ≤ 254
+label_small version None h = omega arith
+label_small V4 (Some o) h = omega (arith, (h o refl).short)
+label_small V6 (Some o) h = (h o refl).short
+
+pub label_octets-is : (place : ℕ) (option : Option (List ℕ)) → label_octets (option_map (λ o. let p : Placed = record { place = place; octets = o } in p) option) ≡ octets_or_none option
+label_octets-is place None = refl
+label_octets-is place (Some o) = refl
+
+-- what stands before the options, then the label, the kept options and the padding, in as many writes
+pub area_from : (version : Version) (front label labelled kept out : List ℕ) (others : List Placed) → length front ≡ first_place version
+    → labelled ≡ front ++ label → kept ≡ labelled ++ packed version (length labelled) others → out ≡ kept ++ padding version (gap_to (unit_of version) 0 (length kept))
+    → out ≡ front ++ filled version (first_place version) (label ++ packed version (first_place version + length label) others)
+area_from version front label labelled kept out others long labelled_is kept_is out_is =
+    let first = first_place version in
+    let k1 : length labelled ≡ first + length label = ap length labelled_is ∙ length-append front label ∙ ap (λ (n : ℕ). n + length label) long in
+    let packed_label = packed version (first + length label) others in
+    let kept2 : kept ≡ front ++ (label ++ packed_label) = kept_is ∙ (λ i. labelled_is i ++ packed version (k1 i) others) ∙ append_assoc front label packed_label in
+    let k2 : length kept ≡ first + length (label ++ packed_label) = ap length kept2 ∙ length-append front (label ++ packed_label) ∙ ap (λ (n : ℕ). n + length (label ++ packed_label)) long in
+    out_is ∙ (λ i. kept2 i ++ padding version (gap_to (unit_of version) 0 (k2 i))) ∙ append_assoc front (label ++ packed_label) (padding version (gap_to (unit_of version) 0 (first + length (label ++ packed_label))))
+
+-- ---- version 4
+
+module _ (head payload : List ℕ) (option : Option (List ℕ)) (hops : ℕ) where
+  area4-is : option_area (relabelled (view_of V4 head payload) option hops) ≡ filled V4 20 (octets_or_none option ++ packed V4 (20 + length (octets_or_none option)) (others_of V4 (options_in V4 head)))
+  unfolding kept_options
+  area4-is = ap (λ (l : List ℕ). filled V4 20 (l ++ packed V4 (20 + length l) (others_of V4 (options_in V4 head)))) (label_octets-is 20 option)
+
+  -- the numbers that decide whether the packet may be written
+  pub room4-is : (label kept : ℕ) → label ≡ length (octets_or_none option) → kept ≡ label + length (packed V4 (20 + label) (others_of V4 (options_in V4 head)))
+      → rebuilt_room (relabelled (view_of V4 head payload) option hops) ≡ kept
+  unfolding rebuilt_room kept_options
+  room4-is label kept label_is kept_is =
+      let others = others_of V4 (options_in V4 head) in
+      ap (λ (l : List ℕ). length (l ++ packed V4 (20 + length l) others)) (label_octets-is 20 option) ∙ length-append (octets_or_none option) (packed V4 (20 + length (octets_or_none option)) others)
+      ∙ ap (λ (n : ℕ). n + length (packed V4 (20 + n) others)) (sym label_is) ∙ sym kept_is
+
+  pub area4-size : (label kept size : ℕ) → label ≡ length (octets_or_none option) → kept ≡ label + length (packed V4 (20 + label) (others_of V4 (options_in V4 head)))
+      → size ≡ kept + gap_to 4 0 (20 + kept) → size ≡ length (option_area (relabelled (view_of V4 head payload) option hops))
+  unfolding rebuilt_room
+  area4-size label kept size label_is kept_is size_is =
+      let room = room4-is label kept label_is kept_is in
+      let options = kept_options (relabelled (view_of V4 head payload) option hops) in
+      size_is ∙ sym (length-append options (padding V4 (gap_to 4 0 (20 + length options))) ∙ ap (λ (n : ℕ). length options + n) (length-padding V4 (gap_to 4 0 (20 + length options))) ∙ ap (λ (n : ℕ). n + gap_to 4 0 (20 + n)) room)
+
+  pub length4-is : (size : ℕ) → size ≡ length (option_area (relabelled (view_of V4 head payload) option hops)) → rebuilt_length (relabelled (view_of V4 head payload) option hops) ≡ 20 + size + length payload
+  unfolding rebuilt_length
+  length4-is size size_is = ap (λ (n : ℕ). 20 + n + length payload) (sym size_is)
+
+  pub header_from4 : (size : ℕ) (front labelled kept out : List ℕ) → length front ≡ 20 → front ≡ fixed4 (relabelled (view_of V4 head payload) None hops) size 0
+      → labelled ≡ front ++ octets_or_none option → kept ≡ labelled ++ packed V4 (length labelled) (others_of V4 (options_in V4 head))
+      → size ≡ length (option_area (relabelled (view_of V4 head payload) option hops))
+      → out ≡ kept ++ padding V4 (gap_to 4 0 (length kept)) → out ≡ header4 (relabelled (view_of V4 head payload) option hops) 0
+  header_from4 size front labelled kept out long front_is labelled_is kept_is size_is out_is =
+      let area = area_from V4 front (octets_or_none option) labelled kept out (others_of V4 (options_in V4 head)) long labelled_is kept_is out_is in
+      let fixed_is : front ≡ fixed4 (relabelled (view_of V4 head payload) option hops) (length (option_area (relabelled (view_of V4 head payload) option hops))) 0 =
+      front_is ∙ ap (λ (n : ℕ). fixed4 (relabelled (view_of V4 head payload) None hops) n 0) size_is in
+      area ∙ (λ i. fixed_is i ++ sym area4-is i)
+
+-- a header with its checksum, and the payload
+pub with_checksum4 : (p : ParsedPacket) (header checked out : List ℕ) → p.version ≡ V4 → header ≡ header4 p 0
+    → checked ≡ slice_set (slice_set header 10 ((65535 - ones_sum header) / 256)) 11 ((65535 - ones_sum header) % 256) → out ≡ checked ++ p.payload → out ≡ packet_octets p
+unfolding packet_octets
+with_checksum4 p header checked out v header_is checked_is out_is =
+    let set_is : checked ≡ header4 p (checksum4 p) = checked_is ∙ ap (λ (h : List ℕ). slice_set (slice_set h 10 ((65535 - ones_sum h) / 256)) 11 ((65535 - ones_sum h) % 256)) header_is in
+    out_is ∙ ap (λ (h : List ℕ). h ++ p.payload) set_is ∙ ap (λ (w : Version). Rattle.ip_headers.specs.Written.octets_of w p) (sym v)
+
+-- ---- the numbers at a packet that is known by its view
+
+pub room_at4 : (now : ParsedPacket) (head payload : List ℕ) (option : Option (List ℕ)) (hops label kept : ℕ) → view_of V4 head payload ≡ now → label ≡ length (octets_or_none option)
+    → kept ≡ label + length (packed V4 (20 + label) (others_of V4 (options_in V4 head))) → rebuilt_room (relabelled now option hops) ≡ kept
+room_at4 now head payload option hops label kept view_is label_is kept_is =
+    ap (λ (v : ParsedPacket). rebuilt_room (relabelled v option hops)) (sym view_is) ∙ room4-is head payload option hops label kept label_is kept_is
+
+pub length_at4 : (now : ParsedPacket) (head payload : List ℕ) (option : Option (List ℕ)) (hops label kept size : ℕ) → view_of V4 head payload ≡ now → label ≡ length (octets_or_none option)
+    → kept ≡ label + length (packed V4 (20 + label) (others_of V4 (options_in V4 head))) → size ≡ kept + gap_to 4 0 (20 + kept) → rebuilt_length (relabelled now option hops) ≡ 20 + size + length payload
+length_at4 now head payload option hops label kept size view_is label_is kept_is size_is =
+    ap (λ (v : ParsedPacket). rebuilt_length (relabelled v option hops)) (sym view_is) ∙ length4-is head payload option hops size (area4-size head payload option hops label kept size label_is kept_is size_is)
