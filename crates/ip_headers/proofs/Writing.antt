@@ -1,5 +1,5 @@
 -- A packet written again, part by part.
-use Rattle.std.proofs.Common.{◌≡◌, ℕ, zero, suc, ◌+◌, ◌-◌, ◌*◌, ◌/◌, ◌%◌, ◌<◌, ◌≤◌, Bool, true, false, cond, List, [], ◌∷◌, ◌++◌, length, take, drop, set, Option, Some, None, refl, sym, ap, subst, ◌∙◌, append_assoc, arith, length-append}
+use Rattle.std.proofs.Common.{◌≡◌, ℕ, zero, suc, ◌+◌, ◌-◌, ◌*◌, ◌/◌, ◌%◌, ◌<◌, ◌≤◌, ◌≢◌, Bool, true, false, cond, List, [], ◌∷◌, ◌++◌, length, take, drop, set, Option, Some, None, refl, sym, ap, subst, ◌∙◌, append_assoc, arith, length-append}
 use Rattle.std.specs.Prelude.{slice_set}
 use Rattle.std.specs.Borrow.{Bor}
 use Rattle.std.specs.Option.{option_map, option_copied, ForSome}
@@ -9,8 +9,8 @@ use Rattle.ip_headers.specs.Sum.{be16, ones_sum}
 use Rattle.ip_headers.specs.Option.{Placed, others_of}
 use Rattle.ip_headers.specs.Packet.{ParsedPacket}
 use Rattle.ip_headers.specs.Reading.{first_place}
-use Rattle.ip_headers.specs.View.{options_in, view_of}
-use Rattle.ip_headers.specs.Written.{gap_to, padding, packed, unit_of, filled, label_octets, octets_or_none, kept_options, option_area, fixed4, header4, checksum4, packet_octets, relabelled, rebuilt_room, rebuilt_length, IsLabelOption}
+use Rattle.ip_headers.specs.View.{options_in, view_of, area_with, writes_any}
+use Rattle.ip_headers.specs.Written.{gap_to, padding, packed, unit_of, filled, label_octets, octets_or_none, kept_options, option_area, hop_by_hop_with, hop_by_hop, front6, has_options, next_header, fixed4, header4, checksum4, packet_octets, relabelled, rebuilt_room, rebuilt_length, IsLabelOption}
 use Rattle.ip_headers.proofs.Layouts.{length-padding}
 
 pub label_small : (version : Version) (option : Option (Bor (List ℕ))) → ForSome option (λ o. IsLabelOption version o.now) → length (octets_or_none (option_copied option)) ≤ 254
@@ -91,3 +91,63 @@ pub length_at4 : (now : ParsedPacket) (head payload : List ℕ) (option : Option
     → kept ≡ label + length (packed V4 (20 + label) (others_of V4 (options_in V4 head))) → size ≡ kept + gap_to 4 0 (20 + kept) → rebuilt_length (relabelled now option hops) ≡ 20 + size + length payload
 length_at4 now head payload option hops label kept size view_is label_is kept_is size_is =
     ap (λ (v : ParsedPacket). rebuilt_length (relabelled v option hops)) (sym view_is) ∙ length4-is head payload option hops size (area4-size head payload option hops label kept size label_is kept_is size_is)
+
+-- ---- version 6
+
+-- what a gap is for
+pub gap_8 : (free : ℕ) → (free + gap_to 8 0 free) % 8 ≡ 0
+gap_8 free = omega arith
+
+pub length-area : (version : Version) (head : List ℕ) (option : Option (List ℕ)) (label kept size : ℕ) → label ≡ length (octets_or_none option)
+    → kept ≡ label + length (packed version (first_place version + label) (others_of version (options_in version head)))
+    → size ≡ kept + gap_to (unit_of version) 0 (first_place version + kept) → size ≡ length (area_with version head option)
+length-area version head option label kept size label_is kept_is size_is =
+    let others = others_of version (options_in version head) in
+    let first = first_place version in
+    let options = octets_or_none option ++ packed version (first + length (octets_or_none option)) others in
+    let kept_long : kept ≡ length options =
+    kept_is ∙ ap (λ (n : ℕ). n + length (packed version (first + n) others)) label_is ∙ sym (length-append (octets_or_none option) (packed version (first + length (octets_or_none option)) others)) in
+    size_is ∙ ap (λ (n : ℕ). n + gap_to (unit_of version) 0 (first + n)) kept_long
+    ∙ ap (λ (n : ℕ). length options + n) (sym (length-padding version (gap_to (unit_of version) 0 (first + length options))))
+    ∙ sym (length-append options (padding version (gap_to (unit_of version) 0 (first + length options))))
+
+-- a list of options ends where a header may end
+pub area6_unit : (head : List ℕ) (option : Option (List ℕ)) → (2 + length (area_with V6 head option)) % 8 ≡ 0
+area6_unit head option =
+    let options = octets_or_none option ++ packed V6 (42 + length (octets_or_none option)) (others_of V6 (options_in V6 head)) in
+    let long : length (area_with V6 head option) ≡ length options + gap_to 8 0 (42 + length options) =
+    length-append options (padding V6 (gap_to 8 0 (42 + length options))) ∙ ap (λ (n : ℕ). length options + n) (length-padding V6 (gap_to 8 0 (42 + length options))) in
+    omega (arith, long, gap_8 (42 + length options))
+
+-- no option, no header
+pub size6_none : (any : Bool) (area : List ℕ) (protocol size : ℕ) → size ≡ cond any (2 + length area) 0 → size ≡ 0 → hop_by_hop_with any protocol area ≡ []
+size6_none true area protocol size size_is none = absurd (omega (arith, size_is, none))
+size6_none false area protocol size size_is none = refl
+
+pub size6_some : (any : Bool) (area : List ℕ) (size : ℕ) → (2 + length area) % 8 ≡ 0 → size ≡ cond any (2 + length area) 0 → size ≢ 0 → (any ≡ true) × (size ≡ 2 + length area) × (8 ≤ size)
+size6_some true area size unit size_is some = (refl, size_is, omega (arith, size_is))
+size6_some false area size unit size_is some = absurd (some size_is)
+
+-- the header in as many writes
+pub hop_by_hop_from : (head : List ℕ) (option : Option (List ℕ)) (protocol size : ℕ) (old one front labelled kept out : List ℕ) → length old ≡ 40
+    → size ≡ cond (writes_any V6 head option) (2 + length (area_with V6 head option)) 0 → size ≢ 0
+    → one ≡ old ++ protocol ∷ [] → front ≡ one ++ (size / 8 - 1) ∷ []
+    → labelled ≡ front ++ octets_or_none option → kept ≡ labelled ++ packed V6 (length labelled) (others_of V6 (options_in V6 head))
+    → out ≡ kept ++ padding V6 (gap_to 8 0 (length kept))
+    → out ≡ old ++ hop_by_hop_with (writes_any V6 head option) protocol (area_with V6 head option)
+hop_by_hop_from head option protocol size old one front labelled kept out long size_is some one_is front_is labelled_is kept_is out_is =
+    let area = area_with V6 head option in
+    let whole = size6_some (writes_any V6 head option) area size (area6_unit head option) size_is some in
+    let x = size / 8 - 1 in
+    let front2 : front ≡ old ++ protocol ∷ x ∷ [] = front_is ∙ ap (λ (l : List ℕ). l ++ x ∷ []) one_is ∙ append_assoc old (protocol ∷ []) (x ∷ []) in
+    let front_long : length front ≡ 42 = ap length front2 ∙ length-append old (protocol ∷ x ∷ []) ∙ omega (arith, long) in
+    let all = area_from V6 front (octets_or_none option) labelled kept out (others_of V6 (options_in V6 head)) front_long labelled_is kept_is out_is in
+    all ∙ ap (λ (l : List ℕ). l ++ area) front2 ∙ append_assoc old (protocol ∷ x ∷ []) area
+    ∙ ap (λ (n : ℕ). old ++ protocol ∷ (n / 8 - 1) ∷ area) whole.1
+    ∙ ap (λ (b : Bool). old ++ hop_by_hop_with b protocol area) (sym whole.0)
+
+pub size_if : (any : Bool) (n m : ℕ) → any ≡ true → n ≡ m → n ≡ cond any m 0
+size_if any n m e same = rw e same
+
+pub size_unless : (any : Bool) (m : ℕ) → any ≡ false → 0 ≡ cond any m 0
+size_unless any m e = rw e refl

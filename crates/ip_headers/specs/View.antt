@@ -1,12 +1,13 @@
 -- How the fields of a packet's view give the parsed packet that contracts see. No public clause cites these
 -- words.
-use Rattle.std.specs.Prelude.{◌≡◌, ℕ, zero, suc, ◌+◌, ◌≤◌, Bool, true, false, List, [], ◌∷◌, length, take, drop, Option, None, slice_get, if◌then◌else◌}
+use Rattle.std.specs.Prelude.{◌≡◌, ℕ, zero, suc, ◌+◌, ◌≤◌, Bool, true, false, List, [], ◌∷◌, ◌++◌, ◌||◌, length, take, drop, Option, None, slice_get, is_some, if◌then◌else◌}
 use Rattle.ip_headers.specs.declared.version.Version.{Version}
 use Rattle.ip_headers.specs.declared.version.Version.TheVariants.{V4, V6}
 use Rattle.ip_headers.specs.Option.{Placed, AreOptions, Ends, placed_from, is_end, type_of, announced, labels_of, others_of, has_any}
 use Rattle.ip_headers.specs.Header6.{has_hop_by_hop}
 use Rattle.ip_headers.specs.Reading.{first_place, fixed_fault, head_of, payload_of, parsed}
 use Rattle.ip_headers.specs.Packet.{ParsedPacket}
+use Rattle.ip_headers.specs.Written.{filled, packed, octets_or_none}
 
 -- whether a list of options ends here
 abbrev pub stops : Version → List ℕ → Bool
@@ -58,3 +59,12 @@ pub record IsParts (version : Version) (octets head payload : List ℕ) : Type 0
   pub payload_is : payload ≡ payload_of version octets
   pub long : least_head version head ≤ length head
   pub small : length head + length payload ≤ 65575
+
+-- the list of options of this head, written with this label option
+abbrev pub area_with : Version → List ℕ → Option (List ℕ) → List ℕ
+area_with version head option =
+    filled version (first_place version) (octets_or_none option ++ packed version (first_place version + length (octets_or_none option)) (others_of version (options_in version head)))
+
+-- whether an option is written
+abbrev pub writes_any : Version → List ℕ → Option (List ℕ) → Bool
+writes_any version head option = is_some option || has_any (others_of version (options_in version head))

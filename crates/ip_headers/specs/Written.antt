@@ -70,20 +70,28 @@ checksum4 p = 65535 - ones_sum (header4 p 0)
 abbrev pub has_options : ParsedPacket → Bool
 has_options p = is_some p.label || has_any p.others
 
--- the Hop-by-Hop header, none without an option
-unfoldable pub hop_by_hop : ParsedPacket → List ℕ
-hop_by_hop p = if has_options p then p.protocol ∷ ((2 + length (option_area p)) / 8 - 1) ∷ option_area p else []
+-- a Hop-by-Hop header with this next header and these options, none without an option
+abbrev pub hop_by_hop_with : Bool → ℕ → List ℕ → List ℕ
+hop_by_hop_with any protocol area = if any then protocol ∷ ((2 + length area) / 8 - 1) ∷ area else []
 
--- the header of version 6, with so many octets of a Hop-by-Hop header behind it
-abbrev pub fixed6 : ParsedPacket → ℕ → List ℕ
-fixed6 p size =
+-- the Hop-by-Hop header of a packet
+unfoldable pub hop_by_hop : ParsedPacket → List ℕ
+hop_by_hop p = hop_by_hop_with (has_options p) p.protocol (option_area p)
+
+-- the first eight octets of version 6, with so many octets of a Hop-by-Hop header and this next header
+abbrev pub front6 : ParsedPacket → ℕ → ℕ → List ℕ
+front6 p size next =
     (96 + p.class / 16) ∷ (16 * (p.class % 16) + p.flow_label / 65536) ∷ be16 (p.flow_label % 65536)
     ++ be16 (size + length p.payload)
-    ++ ((if has_options p then 0 else p.protocol) ∷ p.hops ∷ [])
-    ++ p.source ++ p.destination
+    ++ (next ∷ p.hops ∷ [])
 
+-- next header 0 says that a Hop-by-Hop header follows
+abbrev pub next_header : ParsedPacket → ℕ
+next_header p = if has_options p then 0 else p.protocol
+
+-- the header of version 6
 abbrev pub header6 : ParsedPacket → List ℕ
-header6 p = fixed6 p (length (hop_by_hop p))
+header6 p = front6 p (length (hop_by_hop p)) (next_header p) ++ p.source ++ p.destination
 
 -- the octets of a packet
 abbrev pub octets_of : Version → ParsedPacket → List ℕ

@@ -105,6 +105,7 @@ pub fn kept_end(version: Version, head: &[u8], free: usize) -> usize
     requires small { length head.now < 2 ^ 17 }
     requires within { free < 2 ^ 16 }
     ensures value { result ≡ free + length (packed version free (others_of version (options_in version head.now))) }
+    ensures bound { result ≤ free + 8 * length head.now }
 {
     let mut at = first_place(version);
     let mut rest = option_octets(version, head);
@@ -140,7 +141,8 @@ pub fn kept_size(version: Version, head: &[u8], label: usize) -> usize
     requires options { HasOptions version head.now }
     requires small { length head.now < 2 ^ 17 }
     requires within { label < 2 ^ 15 }
-    ensures { result ≡ label + length (packed version (first_place version + label) (others_of version (options_in version head.now))) }
+    ensures value { result ≡ label + length (packed version (first_place version + label) (others_of version (options_in version head.now))) }
+    ensures bound { result ≤ label + 8 * length head.now }
 {
     let first = first_place(version);
     kept_end(version, head, first + label) - first

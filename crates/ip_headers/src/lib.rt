@@ -16,6 +16,7 @@ mod sum;
 mod version;
 mod walk;
 mod write4;
+mod write6;
 
 pub use cause::Cause;
 pub use fault::{HeadFault, HeadKind};

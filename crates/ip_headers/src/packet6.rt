@@ -9,7 +9,7 @@
 // Next header 0 says that a Hop-by-Hop Options header follows (section 4.3): the next header after it, its
 // length in units of 8 octets without the first, and the options.
 
-ghost use Rattle.std.specs.Prelude.{◌≡◌, ◌↔◌, ◌<◌, ◌≤◌, length, IsTrue, IfOk, IfErr, None, Some};
+ghost use Rattle.std.specs.Prelude.{◌≡◌, ◌↔◌, ◌^◌, ◌<◌, ◌≤◌, length, IsTrue, IfOk, IfErr, None, Some};
 ghost use Rattle.std.specs.Option.{option_map};
 ghost use Rattle.ip_headers.specs.declared.version.Version.TheVariants.{V6};
 ghost use Rattle.ip_headers.specs.Header6.{has_hop_by_hop, hop_by_hop_length, fixed_fault6};
@@ -54,7 +54,8 @@ impl<'a> Packet6<'a> {
 
     /// The flow label, of 20 bits.
     pub fn flow_label(&self) -> u32
-        ensures { result ≡ self.now.flow_label }
+        ensures value { result ≡ self.now.flow_label }
+        ensures small { result < 2 ^ 20 }
     {
         65536 * u32::from(self.head[1] % 16) + u32::from(word_at(self.head, 2))
     }

@@ -1,3 +1,4 @@
+use Rattle.std.proofs.Common.{arith}
 use Rattle.ip_headers.proofs.Layouts.{measured_first, measured_more, measured_all}
 use Rattle.ip_headers.proofs.layout.kept_end.Goals as goal
 
@@ -10,4 +11,4 @@ loop-size-preserved c =
     c.loop-size.invariant c.in-Option.ensures c.split_at.ensures.front c.split_at.ensures.back c.end_after-end.ensures.value c.end_after-end.ensures.bound
 
 pub returns : goal.returns
-returns c = record { value = measured_all c.args.version c.args.head.now c.args.free c.loop-size.at c.loop-size.rest.now c.loop-size.end _ c.loop-size.invariant c.step.ensures c.in_default.not-Option }
+returns c = record { bound = omega (arith, c.loop-size.invariant.bound); value = measured_all c.args.version c.args.head.now c.args.free c.loop-size.at c.loop-size.rest.now c.loop-size.end _ c.loop-size.invariant c.step.ensures c.in_default.not-Option }
