@@ -67,3 +67,7 @@ pub view_others : (version : Version) (head payload : List ℕ) (label : Option 
     → (IsTrue others → 0 < length (view_of version head payload).others) × (0 < length (view_of version head payload).others → IsTrue others)
 view_others V4 head payload label others h = rw (h.others, options_in-is V4 head h.options h.rest h.walk h.ends) (any_is_some (others_of V4 (placed_from 20 h.options)))
 view_others V6 head payload label others h = rw (h.others, options_in-is V6 head h.options h.rest h.walk h.ends) (any_is_some (others_of V6 (placed_from 42 h.options)))
+
+pub has_others-is : (version : Version) (head payload : List ℕ) (label : Option Placed) (others : Bool) → Holds version head payload label others
+    → others ≡ has_any (others_of version (options_in version head))
+has_others-is version head payload label others h = h.others ∙ ap (λ (x : List Placed). has_any (others_of version x)) (sym (options_in-is version head h.options h.rest h.walk h.ends))

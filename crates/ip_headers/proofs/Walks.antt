@@ -46,7 +46,7 @@ option_map-or h None true x = refl
 option_map-or h None false x = refl
 option_map-or h (Some y) b x = refl
 
-is_some-map : {X Y : Type 0} (h : X → Y) (a : Option X) → is_some (option_map h a) ≡ is_some a
+pub is_some-map : {X Y : Type 0} (h : X → Y) (a : Option X) → is_some (option_map h a) ≡ is_some a
 is_some-map h None = refl
 is_some-map h (Some x) = refl
 

@@ -1,16 +1,17 @@
 -- A packet written again, part by part.
-use Rattle.std.proofs.Common.{◌≡◌, ℕ, zero, suc, ◌+◌, ◌-◌, ◌*◌, ◌/◌, ◌%◌, ◌<◌, ◌≤◌, ◌≢◌, Bool, true, false, cond, List, [], ◌∷◌, ◌++◌, length, take, drop, set, Option, Some, None, refl, sym, ap, subst, ◌∙◌, append_assoc, arith, length-append}
+use Rattle.std.proofs.Common.{◌≡◌, ℕ, zero, suc, ◌+◌, ◌-◌, ◌*◌, ◌/◌, ◌%◌, ◌<◌, ◌≤◌, ◌≢◌, Bool, true, false, cond, eqb, ne_eqb, ◌||◌, List, [], ◌∷◌, ◌++◌, length, take, drop, set, Option, Some, None, refl, sym, ap, subst, ◌∙◌, append_assoc, arith, length-append}
 use Rattle.std.specs.Prelude.{slice_set}
 use Rattle.std.specs.Borrow.{Bor}
 use Rattle.std.specs.Option.{option_map, option_copied, ForSome}
 use Rattle.ip_headers.specs.declared.version.Version.{Version}
 use Rattle.ip_headers.specs.declared.version.Version.TheVariants.{V4, V6}
 use Rattle.ip_headers.specs.Sum.{be16, ones_sum}
-use Rattle.ip_headers.specs.Option.{Placed, others_of}
+use Rattle.ip_headers.specs.Option.{Placed, others_of, has_any}
 use Rattle.ip_headers.specs.Packet.{ParsedPacket}
 use Rattle.ip_headers.specs.Reading.{first_place}
 use Rattle.ip_headers.specs.View.{options_in, view_of, area_with, writes_any}
-use Rattle.ip_headers.specs.Written.{gap_to, padding, packed, unit_of, filled, label_octets, octets_or_none, kept_options, option_area, hop_by_hop_with, hop_by_hop, front6, has_options, next_header, fixed4, header4, checksum4, packet_octets, relabelled, rebuilt_room, rebuilt_length, IsLabelOption}
+use Rattle.ip_headers.proofs.Walks.{is_some-map}
+use Rattle.ip_headers.specs.Written.{octets_of, room_of, length_of, gap_to, padding, packed, unit_of, filled, label_octets, octets_or_none, kept_options, option_area, hop_by_hop_with, hop_by_hop, front6, has_options, next_header, fixed4, header4, checksum4, packet_octets, relabelled, rebuilt_room, rebuilt_length, IsLabelOption}
 use Rattle.ip_headers.proofs.Layouts.{length-padding}
 
 pub label_small : (version : Version) (option : Option (Bor (List ℕ))) → ForSome option (λ o. IsLabelOption version o.now) → length (octets_or_none (option_copied option)) ≤ 254
@@ -151,3 +152,58 @@ size_if any n m e same = rw e same
 
 pub size_unless : (any : Bool) (m : ℕ) → any ≡ false → 0 ≡ cond any m 0
 size_unless any m e = rw e refl
+
+module _ (head payload : List ℕ) (option : Option (List ℕ)) (hops : ℕ) where
+  area6-is : option_area (relabelled (view_of V6 head payload) option hops) ≡ area_with V6 head option
+  unfolding kept_options
+  area6-is = ap (λ (l : List ℕ). filled V6 42 (l ++ packed V6 (42 + length l) (others_of V6 (options_in V6 head)))) (label_octets-is 42 option)
+
+  any6-is : has_options (relabelled (view_of V6 head payload) option hops) ≡ writes_any V6 head option
+  any6-is = ap (λ (b : Bool). b || has_any (others_of V6 (options_in V6 head))) (is_some-map (λ o. let p : Placed = record { place = 42; octets = o } in p) option)
+
+  hop6-is : hop_by_hop (relabelled (view_of V6 head payload) option hops) ≡ hop_by_hop_with (writes_any V6 head option) (view_of V6 head payload).protocol (area_with V6 head option)
+  unfolding hop_by_hop
+  hop6-is i = hop_by_hop_with (any6-is i) (view_of V6 head payload).protocol (area6-is i)
+
+length-hop_by_hop_with : (any : Bool) (protocol : ℕ) (area : List ℕ) → length (hop_by_hop_with any protocol area) ≡ cond any (2 + length area) 0
+length-hop_by_hop_with true protocol area = omega arith
+length-hop_by_hop_with false protocol area = refl
+
+module _ (now : ParsedPacket) (head : List ℕ) (option : Option (List ℕ)) (hops : ℕ) (view_is : now ≡ view_of V6 head now.payload) where
+  any_at6 : has_options (relabelled now option hops) ≡ writes_any V6 head option
+  any_at6 = ap (λ (v : ParsedPacket). has_options (relabelled v option hops)) view_is ∙ any6-is head now.payload option hops
+
+  hop_at6 : hop_by_hop (relabelled now option hops) ≡ hop_by_hop_with (writes_any V6 head option) now.protocol (area_with V6 head option)
+  hop_at6 =
+      ap (λ (v : ParsedPacket). hop_by_hop (relabelled v option hops)) view_is ∙ hop6-is head now.payload option hops
+      ∙ ap (λ (v : ParsedPacket). hop_by_hop_with (writes_any V6 head option) v.protocol (area_with V6 head option)) (sym view_is)
+
+  size_at6 : (size : ℕ) → size ≡ cond (writes_any V6 head option) (2 + length (area_with V6 head option)) 0 → length (hop_by_hop (relabelled now option hops)) ≡ size
+  size_at6 size size_is = ap length hop_at6 ∙ length-hop_by_hop_with (writes_any V6 head option) now.protocol (area_with V6 head option) ∙ sym size_is
+
+  pub room_at6 : (size : ℕ) → size ≡ cond (writes_any V6 head option) (2 + length (area_with V6 head option)) 0 → rebuilt_room (relabelled now option hops) ≡ size
+  unfolding rebuilt_room
+  room_at6 size size_is = ap (λ (v : ParsedPacket). room_of v.version (relabelled now option hops)) view_is ∙ size_at6 size size_is
+
+  pub length_at6 : (size : ℕ) → size ≡ cond (writes_any V6 head option) (2 + length (area_with V6 head option)) 0 → rebuilt_length (relabelled now option hops) ≡ size + length now.payload
+  unfolding rebuilt_length
+  length_at6 size size_is = ap (λ (v : ParsedPacket). length_of v.version (relabelled now option hops)) view_is ∙ ap (λ (n : ℕ). n + length now.payload) (size_at6 size size_is)
+
+  pub octets_at6 : (size next : ℕ) (fixed hop out : List ℕ) → size ≡ cond (writes_any V6 head option) (2 + length (area_with V6 head option)) 0 → next ≡ cond (writes_any V6 head option) 0 now.protocol
+      → fixed ≡ front6 (record now { hops = hops }) size next ++ now.source ++ now.destination
+      → hop ≡ fixed ++ hop_by_hop_with (writes_any V6 head option) now.protocol (area_with V6 head option) → out ≡ hop ++ now.payload → out ≡ packet_octets (relabelled now option hops)
+  unfolding packet_octets
+  octets_at6 size next fixed hop out size_is next_is fixed_is hop_is out_is =
+      let p : ParsedPacket = relabelled now option hops in
+      let next_at : next ≡ next_header p = next_is ∙ ap (λ (b : Bool). cond b 0 now.protocol) (sym any_at6) in
+      let fixed_at : fixed ≡ front6 p (length (hop_by_hop p)) (next_header p) ++ now.source ++ now.destination =
+      fixed_is ∙ (λ i. front6 p (sym (size_at6 size size_is) i) (next_at i) ++ now.source ++ now.destination) in
+      out_is ∙ (λ i. (hop_is ∙ (λ j. fixed_at j ++ sym hop_at6 j)) i ++ now.payload) ∙ ap (λ (v : ParsedPacket). octets_of v.version p) (sym view_is)
+
+-- the next header, by the size of the Hop-by-Hop header
+pub next_if : (any : Bool) (area : List ℕ) (size protocol next : ℕ) → size ≡ cond any (2 + length area) 0 → next ≡ cond (eqb size 0) protocol 0 → next ≡ cond any 0 protocol
+next_if true area size protocol next size_is next_is = next_is ∙ rw (ne_eqb size 0 (omega (arith, size_is))) refl
+next_if false area size protocol next size_is next_is = next_is ∙ rw size_is refl
+
+pub known_view6 : (now : ParsedPacket) (head payload : List ℕ) → view_of V6 head payload ≡ now → now ≡ view_of V6 head now.payload
+known_view6 now head payload view_is = sym view_is ∙ ap (view_of V6 head) (ap (λ (v : ParsedPacket). v.payload) view_is)

@@ -9,18 +9,21 @@
 // Next header 0 says that a Hop-by-Hop Options header follows (section 4.3): the next header after it, its
 // length in units of 8 octets without the first, and the options.
 
-ghost use Rattle.std.specs.Prelude.{◌≡◌, ◌↔◌, ◌^◌, ◌<◌, ◌≤◌, length, IsTrue, IfOk, IfErr, None, Some};
-ghost use Rattle.std.specs.Option.{option_map};
+ghost use Rattle.std.specs.Prelude.{◌≡◌, ◌↔◌, ◌^◌, ◌<◌, ◌≤◌, [], length, IsTrue, IfOk, IfErr, OnOk, OnErr, None, Some};
+ghost use Rattle.std.specs.Option.{ForSome, option_copied, option_map};
 ghost use Rattle.ip_headers.specs.declared.version.Version.TheVariants.{V6};
 ghost use Rattle.ip_headers.specs.Header6.{has_hop_by_hop, hop_by_hop_length, fixed_fault6};
 ghost use Rattle.ip_headers.specs.Reading.{IsPacket, IsHeadFault, IsFront, IsFrontFault};
 ghost use Rattle.ip_headers.specs.View.{IsParts};
+ghost use Rattle.ip_headers.specs.Written.{IsLabelOption, packet_octets, relabelled, rebuilt_room, rebuilt_length};
 
 use crate::fault::{HeadFault, HeadKind, fault};
 use crate::options::Found;
+use crate::rebuild::Rebuild;
 use crate::sum::word_at;
 use crate::version::Version;
 use crate::walk::walk;
+use crate::write6::{write6, written_size};
 use std::marker::Model;
 
 /// A packet of IPv6, borrowed from its octets. Contracts see what it says: a `ParsedPacket`.
@@ -208,4 +211,37 @@ pub fn front6(bytes: &[u8]) -> Result<Packet6<'_>, HeadFault>
         label,
         has_others,
     })
+}
+
+/// Writes the packet with this label option, or none, and these hops: `out` becomes exactly that packet.
+/// Padding goes; each other option stays, in its order, at the first free octet with its old place modulo 8.
+///
+/// NoRoom comes where the Hop-by-Hop header passes 2,048 octets, else TooLong where the payload length passes
+/// 65,535. After an error `out` is empty.
+pub fn rebuild6(
+    view: &Packet6,
+    option: Option<&[u8]>,
+    hops: u8,
+    out: &mut Vec<u8>,
+) -> Result<(), Rebuild>
+    requires { ForSome option (λ o. IsLabelOption V6 o.now) }
+    ensures ok { OnOk result (out.new.items ≡ packet_octets (relabelled view.now (option_copied option.entry) hops)) }
+    ensures no_room { (result ≡ Err Rebuild.NoRoom) ↔ (2048 < rebuilt_room (relabelled view.now (option_copied option.entry) hops)) }
+    ensures too_long { (result ≡ Err Rebuild.TooLong) ↔ ((rebuilt_room (relabelled view.now (option_copied option.entry) hops) ≤ 2048)
+        × (65535 < rebuilt_length (relabelled view.now (option_copied option.entry) hops))) }
+    ensures err { OnErr result (out.new.items ≡ []) }
+{
+    out.clear();
+    let size = written_size(view.head, option, view.has_others);
+    if size > 2048 {
+        return Err(Rebuild::NoRoom);
+    }
+    if size + view.payload.len() > 65535 {
+        return Err(Rebuild::TooLong);
+    }
+    if write6(view, view.head, option, size, hops, out).is_err() {
+        out.clear();
+        return Err(Rebuild::OutOfMemory);
+    }
+    Ok(())
 }

@@ -1,11 +1,11 @@
 // A packet of IPv6 written again.
 
-ghost use Rattle.std.specs.Prelude.{◌≡◌, ℕ, ◌+◌, ◌^◌, ◌<◌, ◌≤◌, ◌++◌, ◌||◌, [], List, is_some, length, OnOk, if◌then◌else◌};
+ghost use Rattle.std.specs.Prelude.{◌≡◌, ℕ, ◌+◌, ◌^◌, ◌<◌, ◌≤◌, ◌++◌, ◌||◌, ◌==◌, [], List, is_some, length, OnOk, if◌then◌else◌};
 ghost use Rattle.std.specs.Option.{option_copied};
 ghost use Rattle.ip_headers.specs.declared.version.Version.TheVariants.{V6};
 ghost use Rattle.ip_headers.specs.Option.{has_any, others_of};
-ghost use Rattle.ip_headers.specs.Written.{octets_or_none, front6, hop_by_hop_with};
-ghost use Rattle.ip_headers.specs.View.{options_in, area_with, writes_any, HasOptions};
+ghost use Rattle.ip_headers.specs.Written.{octets_or_none, front6, hop_by_hop_with, packet_octets, relabelled};
+ghost use Rattle.ip_headers.specs.View.{options_in, view_of, area_with, writes_any, HasOptions};
 
 use crate::label::{label_size, push_label};
 use crate::layout::{filled_size, gap_to, kept_size, push_kept, push_padding};
@@ -21,7 +21,7 @@ fn writes_any(option: Option<&[u8]>, has_others: bool) -> bool
 }
 
 /// The length of the Hop-by-Hop header; 0 where no option is written.
-pub fn hop_by_hop_size(head: &[u8], option: Option<&[u8]>, has_others: bool) -> usize
+pub fn written_size(head: &[u8], option: Option<&[u8]>, has_others: bool) -> usize
     requires options { HasOptions V6 head.now }
     requires small { length head.now < 2 ^ 17 }
     requires others { has_others ≡ has_any (others_of V6 (options_in V6 head.now)) }
@@ -47,7 +47,8 @@ fn push_fixed(
 ) -> Result<(), AllocError>
     requires empty { out.old.items ≡ [] }
     requires total { size + length view.now.payload ≤ 65535 }
-    ensures { OnOk result (out.new.items ≡ front6 (record view.now { hops = hops }) size next ++ view.now.source ++ view.now.destination) }
+    ensures octets { OnOk result (out.new.items ≡ front6 (record view.now { hops = hops }) size next ++ view.now.source ++ view.now.destination) }
+    ensures long { OnOk result (length out.new.items ≡ 40) }
 {
     let class = view.class();
     let flow_label = view.flow_label();
@@ -90,4 +91,35 @@ fn push_hop_by_hop(
     push_label(option, out)?;
     push_kept(Version::V6, head, out)?;
     push_padding(Version::V6, gap_to(8, 0, out.len()), out)
+}
+
+/// The next header in the fixed fields, before a Hop-by-Hop header of so many octets.
+fn next_header(size: usize, protocol: u8) -> u8
+    ensures { result ≡ (if size == 0 then protocol else 0) }
+{
+    if size == 0 { protocol } else { 0 }
+}
+
+/// Writes the packet with this label option and these hops. Its head is that of the view.
+pub fn write6(
+    view: &Packet6,
+    head: &[u8],
+    option: Option<&[u8]>,
+    size: usize,
+    hops: u8,
+    out: &mut Vec<u8>,
+) -> Result<(), AllocError>
+    requires view { view.now ≡ view_of V6 head.now view.now.payload }
+    requires empty { out.old.items ≡ [] }
+    requires options { HasOptions V6 head.now }
+    requires small { length head.now < 2 ^ 17 }
+    requires room { size ≤ 2048 }
+    requires total { size + length view.now.payload ≤ 65535 }
+    requires size { size ≡ (if writes_any V6 head.now (option_copied option) then 2 + length (area_with V6 head.now (option_copied option)) else 0) }
+    ensures { OnOk result (out.new.items ≡ packet_octets (relabelled view.now (option_copied option.entry) hops)) }
+{
+    let protocol = view.protocol();
+    push_fixed(view, size, next_header(size, protocol), hops, out)?;
+    push_hop_by_hop(head, protocol, option, size, out)?;
+    out.extend_from_slice(view.payload())
 }

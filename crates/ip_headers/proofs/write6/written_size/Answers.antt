@@ -4,7 +4,7 @@ use Rattle.std.specs.Option.{option_copied}
 use Rattle.ip_headers.specs.declared.version.Version.TheVariants.{V6}
 use Rattle.ip_headers.specs.View.{writes_any}
 use Rattle.ip_headers.proofs.Writing.{length-area, size_if, size_unless}
-use Rattle.ip_headers.proofs.write6.hop_by_hop_size.Goals as goal
+use Rattle.ip_headers.proofs.write6.written_size.Goals as goal
 
 pub returns-then-not-writes_any : goal.returns-then-not-writes_any
 returns-then-not-writes_any c =
