@@ -9,7 +9,7 @@ use Rattle.ip_headers.specs.declared.version.Version.{Version}
 use Rattle.ip_headers.specs.declared.version.Version.TheVariants.{V4, V6}
 use Rattle.ip_headers.specs.declared.options.Step.{Step}
 use Rattle.ip_headers.specs.declared.options.Step.TheVariants as step
-use Rattle.ip_headers.specs.Option.{Placed, IsOption, AreOptions, Ends, IsBroken, placed_from, announced, type_of, is_end, is_single, is_other, aligned, alignment, others_of}
+use Rattle.ip_headers.specs.Options.{Placed, IsOption, AreOptions, Ends, IsBroken, placed_from, announced, type_of, is_end, is_single, is_other, aligned, alignment, others_of}
 use Rattle.ip_headers.specs.Reading.{first_place}
 use Rattle.ip_headers.specs.Walk.{IsStep}
 use Rattle.ip_headers.specs.View.{options_in, HasOptions}
@@ -91,7 +91,7 @@ pub record Turn (version : Version) (rest : List ℕ) (todo : List (List ℕ)) (
   pub todo_is : todo ≡ take size rest ∷ more
   pub left : IsLeft version (drop size rest) more
 
-no_option : (version : Version) (rest : List ℕ) (size : ℕ) → Ends version rest → (size ≤ length rest) × IsOption version (take size rest) → ⊥
+pub no_option : (version : Version) (rest : List ℕ) (size : ℕ) → Ends version rest → (size ≤ length rest) × IsOption version (take size rest) → ⊥
 no_option version [] size ends is = let none : List ℕ = [] in omega (arith, is.0, is.1.some, length-take size none)
 no_option version (t ∷ rest) zero ends is = omega (arith, is.1.some)
 no_option version (t ∷ rest) (suc size) (inl e) is = cc
@@ -114,7 +114,7 @@ turn version rest (o ∷ todo) size left is =
       left = record { tail = left.tail; walk = record { whole = back; each = All-tail (IsOption version) o todo left.walk.each }; ends = left.ends };
     }
 
-broken_option : (version : Version) (o more : List ℕ) → IsOption version o → IsBroken version (o ++ more) → ⊥
+pub broken_option : (version : Version) (o more : List ℕ) → IsOption version o → IsBroken version (o ++ more) → ⊥
 broken_option version [] more is broken = omega (arith, is.some)
 broken_option version (t ∷ o) more is broken =
     let long : length (t ∷ o) ≡ announced version ((t ∷ o) ++ more) = sym (announced-append version (t ∷ o) more is) in

@@ -3,3 +3,4 @@ pub mod Views
 pub mod Readings
 pub mod Layouts
 pub mod Writing
+pub mod Once

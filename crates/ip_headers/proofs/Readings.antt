@@ -9,7 +9,7 @@ use Rattle.ip_headers.specs.declared.options.Found.{Found}
 use Rattle.ip_headers.specs.declared.fault.HeadFault.{HeadFault}
 use Rattle.ip_headers.specs.declared.fault.HeadKind.{HeadKind}
 use Rattle.ip_headers.specs.declared.fault.HeadKind.TheVariants.{OptionList, Jumbo, SecondLabel}
-use Rattle.ip_headers.specs.Option.{Placed, AreOptions, Ends, placed_from, is_jumbo, labels_of, others_of}
+use Rattle.ip_headers.specs.Options.{Placed, AreOptions, Ends, placed_from, is_jumbo, labels_of, others_of}
 use Rattle.ip_headers.specs.Packet.{ParsedPacket}
 use Rattle.ip_headers.specs.Reading.{first_place, fixed_fault, head_of, payload_of, area_of, parsed, jumbo_fault, second_fault, or_else, list_fault, Reads, BreaksOptions, BreaksList, Fails}
 use Rattle.ip_headers.specs.Walk.{place_of, Finds, Walked, Breaks}

@@ -7,7 +7,7 @@ use Rattle.std.proofs.lemmas.List.{append-nil, length-append, take_at, drop_at}
 use Rattle.std.proofs.lemmas.List.Elements.{All-head, All-tail}
 use Rattle.ip_headers.specs.declared.version.Version.{Version}
 use Rattle.ip_headers.specs.declared.version.Version.TheVariants.{V4, V6}
-use Rattle.ip_headers.specs.Option.{Placed, IsOption, AreOptions, Ends, placed_from, is_end, is_single, type_of, announced, labels_of, others_of, has_any}
+use Rattle.ip_headers.specs.Options.{Placed, IsOption, AreOptions, Ends, placed_from, is_end, is_single, type_of, announced, labels_of, others_of, has_any}
 use Rattle.ip_headers.specs.Packet.{ParsedPacket}
 use Rattle.ip_headers.specs.Reading.{first_place, parsed}
 use Rattle.ip_headers.specs.View.{stops, options_within, options_in, view_of, Holds}
@@ -16,7 +16,7 @@ use Rattle.ip_headers.specs.View.{stops, options_within, options_in, view_of, Ho
 pub announced-append : (version : Version) (option more : List ℕ) → IsOption version option → announced version (option ++ more) ≡ length option
 announced-append version [] more is = absurd (omega (arith, is.some))
 announced-append version (t ∷ []) more is =
-    elim (is_single version t) as (λ b. is_single version t ≡ b → cond b 1 (get_or ((t ∷ []) ++ more) 1 0 + Rattle.ip_headers.specs.Option.uncounted version) ≡ 1) [
+    elim (is_single version t) as (λ b. is_single version t ≡ b → cond b 1 (get_or ((t ∷ []) ++ more) 1 0 + Rattle.ip_headers.specs.Options.uncounted version) ≡ 1) [
       | true ↦ λ e. refl
       | false ↦ λ e. absurd (omega (arith, is.paired e))
     ] refl

@@ -9,7 +9,7 @@ use Rattle.std.proofs.lemmas.List.{append-nil, length-append, length-take, take-
 use Rattle.std.proofs.lemmas.List.Elements.{All-push, filter-append}
 use Rattle.ip_headers.specs.declared.version.Version.{Version}
 use Rattle.ip_headers.specs.declared.options.Found.{Found}
-use Rattle.ip_headers.specs.Option.{Placed, IsOption, AreOptions, placed_from, is_label, is_jumbo, is_other, aligned, labels_of, others_of, has_any}
+use Rattle.ip_headers.specs.Options.{Placed, IsOption, AreOptions, placed_from, is_label, is_jumbo, is_other, aligned, labels_of, others_of, has_any}
 use Rattle.ip_headers.specs.Walk.{Finds, place_of}
 
 -- the walk so far: these options were passed, and what was found in them

@@ -6,7 +6,7 @@ use Rattle.std.specs.Option.{option_map, option_copied, ForSome}
 use Rattle.ip_headers.specs.declared.version.Version.{Version}
 use Rattle.ip_headers.specs.declared.version.Version.TheVariants.{V4, V6}
 use Rattle.ip_headers.specs.Sum.{be16, ones_sum}
-use Rattle.ip_headers.specs.Option.{Placed, others_of, has_any}
+use Rattle.ip_headers.specs.Options.{Placed, others_of, has_any}
 use Rattle.ip_headers.specs.Packet.{ParsedPacket}
 use Rattle.ip_headers.specs.Reading.{first_place}
 use Rattle.ip_headers.specs.View.{options_in, view_of, area_with, writes_any}

@@ -5,7 +5,7 @@ use Rattle.ip_headers.specs.declared.fault.HeadFault.{HeadFault}
 use Rattle.ip_headers.specs.declared.fault.HeadKind.{HeadKind}
 use Rattle.ip_headers.specs.declared.fault.HeadKind.TheVariants.{Short, Version, HeaderLength, TotalLength, Checksum}
 use Rattle.ip_headers.specs.Sum.{word_at, ones_sum}
-use Rattle.ip_headers.specs.Option.{Placed, others_of, labels_of}
+use Rattle.ip_headers.specs.Options.{Placed, others_of, labels_of}
 use Rattle.ip_headers.specs.Packet.{ParsedPacket}
 
 -- the version of a packet of either version

@@ -5,7 +5,7 @@ use Rattle.ip_headers.specs.declared.version.Version.TheVariants.{V6}
 use Rattle.ip_headers.specs.declared.fault.HeadFault.{HeadFault}
 use Rattle.ip_headers.specs.declared.fault.HeadKind.TheVariants.{Short, Version, HeaderLength, TotalLength}
 use Rattle.ip_headers.specs.Sum.{word_at}
-use Rattle.ip_headers.specs.Option.{Placed}
+use Rattle.ip_headers.specs.Options.{Placed}
 use Rattle.ip_headers.specs.Packet.{ParsedPacket}
 use Rattle.ip_headers.specs.Header4.{version_of, fault}
 

@@ -1,5 +1,5 @@
 pub mod Sum
-pub mod Option
+pub mod Options
 pub mod Packet
 pub mod Header4
 pub mod Header6
@@ -9,3 +9,4 @@ pub mod Walk
 pub mod View
 pub mod View4
 pub mod View6
+pub mod Laws

@@ -1,7 +1,7 @@
 -- What a packet says, in both versions, as far as its headers are read.
 use Rattle.std.specs.Prelude.{ℕ, List, Option}
 use Rattle.ip_headers.specs.declared.version.Version.{Version}
-use Rattle.ip_headers.specs.Option.{Placed}
+use Rattle.ip_headers.specs.Options.{Placed}
 
 -- A parsed packet. A field that its version lacks is 0.
 pub record ParsedPacket : Type 0 where

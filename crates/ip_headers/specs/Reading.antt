@@ -8,7 +8,7 @@ use Rattle.ip_headers.specs.declared.version.Version.{Version}
 use Rattle.ip_headers.specs.declared.version.Version.TheVariants.{V4, V6}
 use Rattle.ip_headers.specs.declared.fault.HeadFault.{HeadFault}
 use Rattle.ip_headers.specs.declared.fault.HeadKind.TheVariants.{OptionList, Jumbo, SecondLabel}
-use Rattle.ip_headers.specs.Option.{Placed, AreOptions, Ends, IsBroken, placed_from, is_jumbo, labels_of, others_of}
+use Rattle.ip_headers.specs.Options.{Placed, AreOptions, Ends, IsBroken, placed_from, is_jumbo, labels_of, others_of}
 use Rattle.ip_headers.specs.Packet.{ParsedPacket}
 use Rattle.ip_headers.specs.Header4.{fixed_fault4, head4, payload4, parsed4}
 use Rattle.ip_headers.specs.Header6.{fixed_fault6, head6, payload6, parsed6}

@@ -8,7 +8,7 @@ use Rattle.ip_headers.specs.declared.options.Step.TheVariants as step
 use Rattle.ip_headers.specs.declared.options.Found.{Found}
 use Rattle.ip_headers.specs.declared.fault.HeadFault.{HeadFault}
 use Rattle.ip_headers.specs.declared.fault.HeadKind.TheVariants.{OptionList}
-use Rattle.ip_headers.specs.Option.{Placed, IsOption, AreOptions, Ends, IsBroken, placed_from, is_jumbo, labels_of, others_of, has_any}
+use Rattle.ip_headers.specs.Options.{Placed, IsOption, AreOptions, Ends, IsBroken, placed_from, is_jumbo, labels_of, others_of, has_any}
 
 -- what stands at the front of these octets
 abbrev pub IsStep : Version → List ℕ → Step → Type 0

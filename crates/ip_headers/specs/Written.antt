@@ -4,7 +4,7 @@ use Rattle.std.specs.Option.{option_map}
 use Rattle.ip_headers.specs.declared.version.Version.{Version}
 use Rattle.ip_headers.specs.declared.version.Version.TheVariants.{V4, V6}
 use Rattle.ip_headers.specs.Sum.{be16, ones_sum}
-use Rattle.ip_headers.specs.Option.{Placed, IsOption, type_of, label_type, uncounted, is_label, is_other, is_jumbo, alignment, has_any}
+use Rattle.ip_headers.specs.Options.{Placed, IsOption, type_of, label_type, uncounted, is_label, is_other, is_jumbo, alignment, has_any}
 use Rattle.ip_headers.specs.Packet.{ParsedPacket}
 use Rattle.ip_headers.specs.Reading.{first_place}
 

@@ -1,7 +1,7 @@
 // How the two versions tell options apart: RFC 791, section 3.1, and RFC 8200, section 4.2.
 
 ghost use Rattle.std.specs.Prelude.{◌≡◌};
-ghost use Rattle.ip_headers.specs.Option.{is_single, is_end, uncounted, is_label_type, is_jumbo_type, is_other_type};
+ghost use Rattle.ip_headers.specs.Options.{is_single, is_end, uncounted, is_label_type, is_jumbo_type, is_other_type};
 
 use crate::version::Version;
 

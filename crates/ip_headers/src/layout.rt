@@ -3,7 +3,7 @@
 
 ghost use Rattle.std.specs.Prelude.{◌≡◌, ℕ, ◌+◌, ◌*◌, ◌^◌, ◌<◌, ◌≤◌, List, [], ◌∷◌, ◌++◌, length, OnOk};
 ghost use Rattle.ip_headers.specs.declared.version.Version.TheVariants.{V6};
-ghost use Rattle.ip_headers.specs.Option.{alignment, others_of};
+ghost use Rattle.ip_headers.specs.Options.{alignment, others_of};
 ghost use Rattle.ip_headers.specs.Reading.{first_place};
 ghost use Rattle.ip_headers.specs.Written.{gap_to, padding, packed, unit_of};
 ghost use Rattle.ip_headers.specs.View.{options_in, HasOptions};

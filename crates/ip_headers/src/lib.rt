@@ -7,6 +7,7 @@ mod cause;
 mod fault;
 mod kind;
 mod label;
+pub mod laws;
 mod layout;
 mod options;
 mod packet4;
@@ -20,7 +21,10 @@ mod write6;
 
 pub use cause::Cause;
 pub use fault::{HeadFault, HeadKind};
-pub use packet4::{Packet4, front4, read4};
-pub use packet6::{Packet6, front6, read6};
+pub use packet4::{Packet4, front4, read4, rebuild4};
+pub use packet6::{Packet6, front6, read6, rebuild6};
 pub use rebuild::Rebuild;
 pub use version::Version;
+
+#[cfg(test)]
+mod tests;

@@ -2,7 +2,7 @@
 
 ghost use Rattle.std.specs.Prelude.{◌≡◌, ℕ, ◌+◌, ◌<◌, ◌≤◌, List, [], ◌∷◌, ◌++◌, length, IfOk, IfErr};
 ghost use Rattle.std.specs.List.{concat};
-ghost use Rattle.ip_headers.specs.Option.{Placed, AreOptions, Ends, IsBroken, placed_from};
+ghost use Rattle.ip_headers.specs.Options.{Placed, AreOptions, Ends, IsBroken, placed_from};
 
 use crate::kind;
 use crate::version::Version;

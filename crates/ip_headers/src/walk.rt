@@ -2,7 +2,7 @@
 
 ghost use Rattle.std.specs.Prelude.{◌≡◌, ℕ, ◌+◌, ◌^◌, ◌<◌, ◌≤◌, List, [], ◌∷◌, ◌++◌, length, drop, IfOk, IfErr};
 ghost use Rattle.std.specs.List.{concat};
-ghost use Rattle.ip_headers.specs.Option.{Placed, placed_from};
+ghost use Rattle.ip_headers.specs.Options.{Placed, placed_from};
 ghost use Rattle.ip_headers.specs.Reading.{first_place};
 ghost use Rattle.ip_headers.specs.Walk.{IsStep, Finds, Walked, Breaks};
 

@@ -3,7 +3,7 @@
 ghost use Rattle.std.specs.Prelude.{◌≡◌, ℕ, ◌+◌, ◌^◌, ◌<◌, ◌≤◌, ◌++◌, ◌||◌, ◌==◌, [], List, is_some, length, OnOk, if◌then◌else◌};
 ghost use Rattle.std.specs.Option.{option_copied};
 ghost use Rattle.ip_headers.specs.declared.version.Version.TheVariants.{V6};
-ghost use Rattle.ip_headers.specs.Option.{has_any, others_of};
+ghost use Rattle.ip_headers.specs.Options.{has_any, others_of};
 ghost use Rattle.ip_headers.specs.Written.{octets_or_none, front6, hop_by_hop_with, packet_octets, relabelled};
 ghost use Rattle.ip_headers.specs.View.{options_in, view_of, area_with, writes_any, HasOptions};
 
