@@ -4,3 +4,5 @@ pub mod Readings
 pub mod Layouts
 pub mod Writing
 pub mod Once
+pub mod Back
+pub mod Back4
