@@ -1,21 +1,20 @@
 -- A packet of version 6 that was written is read as the packet it was written from.
-use Rattle.std.proofs.Common.{◌≡◌, ◌≢◌, ℕ, zero, suc, ◌+◌, ◌-◌, ◌*◌, ◌/◌, ◌%◌, ◌^◌, ◌<◌, ◌≤◌, ◌⊎◌, Bool, true, false, not, ◌||◌, ◌&&◌, cond, eqb, ltb, List, [], ◌∷◌, ◌++◌, length, All, filter, get_or, take, drop, Option, Some, None, refl, sym, ap, subst, ◌∙◌, append_assoc, arith, inl, inr, length-append, eq-eqb, ne_eqb}
-use Rattle.std.specs.Prelude.{slice_get, slice_index, slice_range, IfSome, is_some}
+use Rattle.std.proofs.Common.{◌≡◌, ℕ, ◌+◌, ◌-◌, ◌*◌, ◌/◌, ◌%◌, ◌≤◌, Bool, true, false, not, ◌||◌, ◌&&◌, cond, eqb, ltb, List, [], ◌∷◌, ◌++◌, length, get_or, take, drop, Option, Some, None, refl, sym, ap, subst, ◌∙◌, append_assoc, arith, inl, inr, length-append, eq-eqb}
+use Rattle.std.specs.Prelude.{slice_get, slice_index, slice_range, is_some}
 use Rattle.std.specs.Option.{option_map}
 use Rattle.std.proofs.lemmas.Bool.{le-ltb, false≢true}
 use Rattle.std.proofs.lemmas.List.{append-nil, take_at, drop_at, get_or-drop, get_or_append_left, drop-drop, drop_all}
 use Rattle.std.proofs.lemmas.List.Elements.{All-nil}
 use Rattle.ip_headers.specs.declared.version.Version.{Version}
-use Rattle.ip_headers.specs.declared.version.Version.TheVariants.{V4, V6}
-use Rattle.ip_headers.specs.Sum.{be16, word_at}
-use Rattle.ip_headers.specs.Options.{Placed, IsOption, AreOptions, Ends, placed_from, is_jumbo, labels_of, others_of, has_any}
+use Rattle.ip_headers.specs.declared.version.Version.TheVariants.{V6}
+use Rattle.ip_headers.specs.Options.{Placed, IsOption, AreOptions, Ends, placed_from, labels_of, others_of, has_any}
 use Rattle.ip_headers.specs.Packet.{ParsedPacket}
 use Rattle.ip_headers.specs.Header4.{version_of}
-use Rattle.ip_headers.specs.Header6.{payload_length, has_hop_by_hop, hop_by_hop_length, fixed_fault6, head6, payload6, parsed6}
+use Rattle.ip_headers.specs.Header6.{payload_length, has_hop_by_hop, hop_by_hop_length, fixed_fault6, head6, payload6}
 use Rattle.ip_headers.specs.Reading.{first_place, parsed, list_fault, IsPacket}
-use Rattle.ip_headers.specs.Written.{gap_to, padding, packed, unit_of, filled, label_octets, kept_options, option_area, has_options, hop_by_hop_with, hop_by_hop, front6, next_header, header6, octets_of, IsParsed, FitsFields, rebuilt_room, room_of, rebuilt_length, length_of, next_packet, IsKept, IsLabelOption, hides_payload}
+use Rattle.ip_headers.specs.Written.{gap_to, padding, unit_of, kept_options, option_area, has_options, hop_by_hop_with, hop_by_hop, front6, octets_of, IsParsed, FitsFields, next_packet, hides_payload}
 use Rattle.ip_headers.proofs.Layouts.{length-padding}
-use Rattle.ip_headers.proofs.Back.{AreaBack, area_back, label_placed, first_label, no_second}
+use Rattle.ip_headers.proofs.Back.{AreaBack, area_back, first_label, no_second}
 
 -- ---- the tests of the fixed fields, with and without a Hop-by-Hop header
 
@@ -23,11 +22,16 @@ passes6 : (octets : List ℕ) → 40 ≤ length octets → version_of octets ≡
     → (has_hop_by_hop octets ≡ true → 8 ≤ payload_length octets) → hop_by_hop_length octets ≤ payload_length octets → fixed_fault6 octets ≡ None
 unfolding fixed_fault6
 passes6 octets long version within low header =
-    rw (le-ltb (length octets) 40 long, eq-eqb (version_of octets) 6 version, le-ltb (length octets - 40) (payload_length octets) within,
-      small (has_hop_by_hop octets) (payload_length octets) low, le-ltb (payload_length octets) (hop_by_hop_length octets) header) refl where
-  small : (b : Bool) (n : ℕ) → (b ≡ true → 8 ≤ n) → b && ltb n 8 ≡ false
-  small true n f = le-ltb n 8 (f refl)
-  small false n f = refl
+    rw (
+      le-ltb (length octets) 40 long,
+      eq-eqb (version_of octets) 6 version,
+      le-ltb (length octets - 40) (payload_length octets) within,
+      small (has_hop_by_hop octets) (payload_length octets) low,
+      le-ltb (payload_length octets) (hop_by_hop_length octets) header,
+    ) refl where
+      small : (b : Bool) (n : ℕ) → (b ≡ true → 8 ≤ n) → b && ltb n 8 ≡ false
+      small true n f = le-ltb n 8 (f refl)
+      small false n f = refl
 
 abbrev nothing : List ℕ
 nothing = []
@@ -67,7 +71,7 @@ module _ (p : ParsedPacket) (v : p.version ≡ V6) (h : IsParsed p) where
       → head6 (front6 p (length hop) next ++ p.source ++ p.destination ++ hop ++ p.payload) ≡ front6 p (length hop) next ++ p.source ++ p.destination ++ hop
   front_is hop next size =
       ap (λ (n : ℕ). take (40 + n) (front6 p (length hop) next ++ p.source ++ p.destination ++ hop ++ p.payload)) size
-        ∙ take_at (front6 p (length hop) next ++ p.source ++ p.destination ++ hop) p.payload (40 + length hop) (length-head hop next)
+      ∙ take_at (front6 p (length hop) next ++ p.source ++ p.destination ++ hop) p.payload (40 + length hop) (length-head hop next)
 
   payload_is : (hop : List ℕ) (next : ℕ) → hop_by_hop_length (front6 p (length hop) next ++ p.source ++ p.destination ++ hop ++ p.payload) ≡ length hop
       → payload6 (front6 p (length hop) next ++ p.source ++ p.destination ++ hop ++ p.payload) ≡ p.payload
@@ -75,14 +79,14 @@ module _ (p : ParsedPacket) (v : p.version ≡ V6) (h : IsParsed p) where
       let s = front6 p (length hop) next ++ p.source ++ p.destination ++ hop ++ p.payload in
       let e : 40 + payload_length s - (40 + hop_by_hop_length s) ≡ length p.payload = omega (arith, size, length_is hop next) in
       (λ i. take (e i) (drop (40 + size i) s))
-        ∙ ap (take (length p.payload)) (drop_at (front6 p (length hop) next ++ p.source ++ p.destination ++ hop) p.payload (40 + length hop) (length-head hop next))
-        ∙ ap (take (length p.payload)) (sym (append-nil p.payload)) ∙ take_at p.payload [] (length p.payload) refl
+      ∙ ap (take (length p.payload)) (drop_at (front6 p (length hop) next ++ p.source ++ p.destination ++ hop) p.payload (40 + length hop) (length-head hop next))
+      ∙ ap (take (length p.payload)) (sym (append-nil p.payload)) ∙ take_at p.payload [] (length p.payload) refl
 
   no_fault : (hop : List ℕ) (next : ℕ) → hop_by_hop_length (front6 p (length hop) next ++ p.source ++ p.destination ++ hop ++ p.payload) ≡ length hop → (eqb next 0 ≡ true → 8 ≤ length hop)
       → fixed_fault6 (front6 p (length hop) next ++ p.source ++ p.destination ++ hop ++ p.payload) ≡ None
   no_fault hop next size low =
       passes6 (front6 p (length hop) next ++ p.source ++ p.destination ++ hop ++ p.payload) (omega (arith, length-whole hop next)) (version_is hop next) (omega (arith, length_is hop next, length-whole hop next))
-        (λ e. omega (arith, length_is hop next, low e)) (omega (arith, size, length_is hop next))
+      (λ e. omega (arith, length_is hop next, low e)) (omega (arith, size, length_is hop next))
 
   -- what stands behind the addresses
   rest_is : (hop : List ℕ) (next : ℕ) → drop 40 (front6 p (length hop) next ++ p.source ++ p.destination ++ hop) ≡ hop
@@ -94,14 +98,14 @@ module _ (p : ParsedPacket) (v : p.version ≡ V6) (h : IsParsed p) where
   destination_is : (hop : List ℕ) (next : ℕ) → slice_range (front6 p (length hop) next ++ p.source ++ p.destination ++ hop) 24 40 ≡ p.destination
   destination_is hop next =
       ap (λ (x : List ℕ). take 16 (drop 16 x)) (append_assoc p.source p.destination hop) ∙ ap (take 16) (drop_at p.source (p.destination ++ hop) 16 fields.3)
-        ∙ take_at p.destination hop 16 fields.4
+      ∙ take_at p.destination hop 16 fields.4
 
   says : (hop : List ℕ) (next : ℕ) (options : List Placed) → p.protocol ≡ cond (eqb next 0) (slice_index (front6 p (length hop) next ++ p.source ++ p.destination ++ hop) 40) next
       → option_map (λ o. let q : Placed = record { place = 42; octets = o.octets } in q) p.label ≡ slice_get (labels_of V6 options) 0 → p.others ≡ others_of V6 options
       → next_packet p ≡ parsed V6 (front6 p (length hop) next ++ p.source ++ p.destination ++ hop) options p.payload
   says hop next options protocol label others =
       let label_is : option_map (λ o. let q : Placed = record { place = first_place p.version; octets = o.octets } in q) p.label ≡ slice_get (labels_of V6 options) 0 =
-          ap (λ (w : Version). option_map (λ o. let q : Placed = record { place = first_place w; octets = o.octets } in q) p.label) v ∙ label in
+      ap (λ (w : Version). option_map (λ o. let q : Placed = record { place = first_place w; octets = o.octets } in q) p.label) v ∙ label in
       let class_is : p.class ≡ 16 * ((96 + p.class / 16) % 16) + (16 * (p.class % 16) + p.flow_label / 65536) / 16 = omega (arith, h.class, fields.2) in
       let low = p.flow_label % 65536 in
       let flow_is : p.flow_label ≡ 65536 * ((16 * (p.class % 16) + p.flow_label / 65536) % 16) + (256 * (low / 256) + low % 256) = omega (arith, fields.2) in
@@ -110,20 +114,20 @@ module _ (p : ParsedPacket) (v : p.version ≡ V6) (h : IsParsed p) where
       let source = sym (source_is hop next) in
       let destination = sym (destination_is hop next) in
       let e : next_packet p ≡ parsed V6 (front6 p (length hop) next ++ p.source ++ p.destination ++ hop) options p.payload =
-          λ i. record {
-            version = v i;
-            class = class_is i;
-            identification = id i;
-            flags_offset = flags i;
-            flow_label = flow_is i;
-            hops = p.hops;
-            protocol = protocol i;
-            source = source i;
-            destination = destination i;
-            label = label_is i;
-            others = others i;
-            payload = p.payload;
-          } in
+      λ i. record {
+        version = v i;
+        class = class_is i;
+        identification = id i;
+        flags_offset = flags i;
+        flow_label = flow_is i;
+        hops = p.hops;
+        protocol = protocol i;
+        source = source i;
+        destination = destination i;
+        label = label_is i;
+        others = others i;
+        payload = p.payload;
+      } in
       e
 
   assemble : (hop : List ℕ) (next : ℕ) (options : List (List ℕ)) (rest : List ℕ)
@@ -150,8 +154,8 @@ module _ (p : ParsedPacket) (v : p.version ≡ V6) (h : IsParsed p) where
   area_size : length (option_area p) ≡ length (kept_options p) + gap_to 8 0 (42 + length (kept_options p))
   area_size =
       subst (λ (w : Version). length (option_area p) ≡ length (kept_options p) + gap_to (unit_of w) 0 (first_place w + length (kept_options p))) v
-        (length-append (kept_options p) (padding p.version (gap_to (unit_of p.version) 0 (first_place p.version + length (kept_options p))))
-          ∙ ap (λ (n : ℕ). length (kept_options p) + n) (length-padding p.version (gap_to (unit_of p.version) 0 (first_place p.version + length (kept_options p)))))
+      (length-append (kept_options p) (padding p.version (gap_to (unit_of p.version) 0 (first_place p.version + length (kept_options p))))
+      ∙ ap (λ (n : ℕ). length (kept_options p) + n) (length-padding p.version (gap_to (unit_of p.version) 0 (first_place p.version + length (kept_options p)))))
 
   area_unit : (2 + length (option_area p)) % 8 ≡ 0
   area_unit = omega (arith, area_size)
@@ -172,8 +176,8 @@ module _ (p : ParsedPacket) (v : p.version ≡ V6) (h : IsParsed p) where
       let area_is : drop 42 head ≡ option_area p = sym (drop-drop 2 40 head) ∙ ap (drop 2) (rest_is hop 0) in
       let protocol : p.protocol ≡ slice_index head 40 = sym (octet_is hop 0 0) in
       assemble hop 0 back.options back.rest size (λ e. omega (arith, some)) (subst (λ (y : List ℕ). AreOptions V6 y back.options back.rest) (sym area_is) back.walk) (ended back.rest back.ends)
-        (rw (back.jumbos, back.labels, no_second 42 p.label) refl) protocol
-        (sym (ap (λ (y : List Placed). slice_get y 0) back.labels ∙ first_label 42 p.label)) (sym back.others_are)
+      (rw (back.jumbos, back.labels, no_second 42 p.label) refl) protocol
+      (sym (ap (λ (y : List Placed). slice_get y 0) back.labels ∙ first_label 42 p.label)) (sym back.others_are)
 
   without : p.label ≡ None → p.others ≡ [] → eqb p.protocol 0 ≡ false → IsPacket V6 (front6 p (length nothing) p.protocol ++ p.source ++ p.destination ++ nothing ++ p.payload) (next_packet p)
   without no_label no_others some =
@@ -182,7 +186,7 @@ module _ (p : ParsedPacket) (v : p.version ≡ V6) (h : IsParsed p) where
       let size : hop_by_hop_length (head ++ p.payload) ≡ 0 = rw some refl in
       let area_is : drop 42 head ≡ none = drop_all 42 head (omega (arith, length-head none p.protocol)) in
       assemble none p.protocol [] none size (λ e. absurd (false≢true (sym some ∙ e))) (record { whole = area_is; each = All-nil (IsOption V6) }) refl refl
-        (rw some refl) (rw no_label refl) no_others
+      (rw some refl) (rw no_label refl) no_others
 
   either_none : (label : Option Placed) (others : List Placed) → is_some label || has_any others ≡ false → (label ≡ None) × (others ≡ [])
   either_none None [] e = (refl, refl)
@@ -193,11 +197,11 @@ module _ (p : ParsedPacket) (v : p.version ≡ V6) (h : IsParsed p) where
   unfolding hop_by_hop
   by_options true some hides =
       let e : octets_of V6 p ≡ front6 p (length (p.protocol ∷ ((2 + length (option_area p)) / 8 - 1) ∷ option_area p)) 0 ++ p.source ++ p.destination ++ (p.protocol ∷ ((2 + length (option_area p)) / 8 - 1) ∷ option_area p) ++ p.payload =
-          ap (λ (a : Bool). front6 p (length (hop_by_hop_with a p.protocol (option_area p))) (cond a 0 p.protocol) ++ p.source ++ p.destination ++ hop_by_hop_with a p.protocol (option_area p) ++ p.payload) some in
+      ap (λ (a : Bool). front6 p (length (hop_by_hop_with a p.protocol (option_area p))) (cond a 0 p.protocol) ++ p.source ++ p.destination ++ hop_by_hop_with a p.protocol (option_area p) ++ p.payload) some in
       subst (λ (y : List ℕ). IsPacket V6 y (next_packet p)) (sym e) with_options
   by_options false none hides =
       let e : octets_of V6 p ≡ front6 p (length nothing) p.protocol ++ p.source ++ p.destination ++ nothing ++ p.payload =
-          ap (λ (a : Bool). front6 p (length (hop_by_hop_with a p.protocol (option_area p))) (cond a 0 p.protocol) ++ p.source ++ p.destination ++ hop_by_hop_with a p.protocol (option_area p) ++ p.payload) none in
+      ap (λ (a : Bool). front6 p (length (hop_by_hop_with a p.protocol (option_area p))) (cond a 0 p.protocol) ++ p.source ++ p.destination ++ hop_by_hop_with a p.protocol (option_area p) ++ p.payload) none in
       let n = either_none p.label p.others none in
       let some : eqb p.protocol 0 ≡ false = shown (eqb p.protocol 0) (has_options p) none hides in
       subst (λ (y : List ℕ). IsPacket V6 y (next_packet p)) (sym e) (without n.0 n.1 some)

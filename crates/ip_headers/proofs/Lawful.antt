@@ -1,25 +1,15 @@
 -- The laws.
-use Rattle.std.proofs.Common.{◌≡◌, ℕ, zero, suc, ◌+◌, ◌-◌, ◌*◌, ◌/◌, ◌%◌, ◌<◌, ◌≤◌, ◌⊎◌, Bool, true, false, cond, eqb, ltb, List, [], ◌∷◌, ◌++◌, length, All, filter, map, get_or, take, drop, sum, fold, Option, Some, None, refl, sym, ap, subst, ◌∙◌, append_assoc, arith, inl, inr, length-append, length-take, length-drop}
-use Rattle.std.specs.Prelude.{slice_get}
-use Rattle.std.specs.Option.{option_map}
-use Rattle.std.specs.List.{concat}
-use Rattle.std.proofs.lemmas.Bool.{ltb-true, ltb-false}
+use Rattle.std.proofs.Common.{◌≡◌, ℕ, ◌+◌, ◌<◌, ◌≤◌, false, List, [], ◌∷◌, All, sum, fold, refl, sym, ap, ◌∙◌, arith}
 use Rattle.std.proofs.lemmas.Bool.Decides.{nat_tests}
 use Rattle.std.proofs.lemmas.List.Elements.{All-head, All-tail}
 use Rattle.std.proofs.lemmas.List.Sums.{sum_by-cons}
 use Rattle.ip_headers.specs.declared.version.Version.{Version}
 use Rattle.ip_headers.specs.declared.version.Version.TheVariants.{V4, V6}
-use Rattle.ip_headers.specs.declared.fault.HeadFault.{HeadFault}
-use Rattle.ip_headers.specs.declared.fault.HeadKind.{HeadKind}
-use Rattle.ip_headers.specs.declared.fault.HeadKind.TheVariants.{Short, Version as VersionKind, HeaderLength, TotalLength, Checksum, OptionList, Jumbo, SecondLabel}
 use Rattle.ip_headers.specs.Sum.{ones_complement}
-use Rattle.ip_headers.specs.Options.{Placed, AreOptions, placed_from, is_jumbo, labels_of}
 use Rattle.ip_headers.specs.Packet.{ParsedPacket}
-use Rattle.ip_headers.specs.Header4.{fixed_fault4}
-use Rattle.ip_headers.specs.Header6.{fixed_fault6}
-use Rattle.ip_headers.specs.Reading.{first_place, fixed_fault, head_of, area_of, jumbo_fault, second_fault, or_else, list_fault, Reads, BreaksOptions, BreaksList, Fails, IsPacket}
+use Rattle.ip_headers.specs.Reading.{IsPacket}
 use Rattle.ip_headers.specs.Written.{IsParsed, rebuilt_room, room_limit, rebuilt_length, hides_payload, packet_octets, octets_of, next_packet}
-use Rattle.ip_headers.specs.Laws.{ReadsBack, FaultsWithin, carried}
+use Rattle.ip_headers.specs.Laws.{ReadsBack, carried}
 use Rattle.ip_headers.proofs.Back4.{reads_back4}
 use Rattle.ip_headers.proofs.Back6.{reads_back6}
 

@@ -1,5 +1,5 @@
 -- A first fault stands in the octets or at their end.
-use Rattle.std.proofs.Common.{◌≡◌, ℕ, zero, suc, ◌+◌, ◌-◌, ◌*◌, ◌<◌, ◌≤◌, ◌⊎◌, Bool, true, false, not, ◌||◌, ◌&&◌, cond, eqb, ltb, List, [], ◌∷◌, ◌++◌, length, All, filter, get_or, take, drop, Option, Some, None, refl, sym, ap, subst, ◌∙◌, arith, inl, inr, length-append, length-take, length-drop}
+use Rattle.std.proofs.Common.{◌≡◌, ℕ, zero, suc, ◌+◌, ◌-◌, ◌*◌, ◌<◌, ◌≤◌, Bool, true, false, ◌&&◌, cond, ltb, List, [], ◌∷◌, ◌++◌, length, All, filter, get_or, Option, Some, None, refl, ap, subst, arith, inl, inr, length-append, length-take, length-drop}
 use Rattle.std.specs.Prelude.{slice_get}
 use Rattle.std.specs.Option.{option_map}
 use Rattle.std.specs.List.{concat}
@@ -10,11 +10,10 @@ use Rattle.ip_headers.specs.declared.version.Version.TheVariants.{V4, V6}
 use Rattle.ip_headers.specs.declared.fault.HeadFault.{HeadFault}
 use Rattle.ip_headers.specs.declared.fault.HeadKind.{HeadKind}
 use Rattle.ip_headers.specs.declared.fault.HeadKind.TheVariants.{Short, Version as VersionKind, HeaderLength, TotalLength, Checksum, Jumbo, SecondLabel}
-use Rattle.ip_headers.specs.Sum.{ones_sum}
-use Rattle.ip_headers.specs.Options.{Placed, IsOption, AreOptions, placed_from, is_jumbo, labels_of, is_label}
-use Rattle.ip_headers.specs.Header4.{fault, version_of, header_length, total_length, fixed_fault4}
+use Rattle.ip_headers.specs.Options.{Placed, IsOption, placed_from, is_jumbo, labels_of, is_label}
+use Rattle.ip_headers.specs.Header4.{fault, header_length, fixed_fault4}
 use Rattle.ip_headers.specs.Header6.{payload_length, has_hop_by_hop, hop_by_hop_length, fixed_fault6}
-use Rattle.ip_headers.specs.Reading.{first_place, fixed_fault, head_of, area_of, jumbo_fault, second_fault, or_else, list_fault, BreaksOptions, BreaksList, Fails}
+use Rattle.ip_headers.specs.Reading.{first_place, fixed_fault, head_of, jumbo_fault, second_fault, or_else, list_fault}
 use Rattle.ip_headers.specs.Laws.{FaultsWithin}
 
 -- ---- the fixed fields
@@ -60,7 +59,7 @@ places version at m (o ∷ options) each low =
     let long = length-append o (concat options) in
     let here : at + length (o ++ concat options) ≤ m = low (omega (arith, long, is.some)) in
     All-cons (λ (p : Placed). p.place < m) (record { place = at; octets = o }) (placed_from (at + length o) options) (omega (arith, here, long, is.some))
-      (places version (at + length o) m options (All-tail (IsOption version) o options each) (λ some. omega (arith, here, long)))
+    (places version (at + length o) m options (All-tail (IsOption version) o options each) (λ some. omega (arith, here, long)))
 
 found_within : (kind : HeadKind) (option : Option Placed) (m : ℕ) (f : HeadFault) → ((p : Placed) → option ≡ Some p → p.place < m) → option_map (λ p. let g : HeadFault = record { octet = p.place; kind = kind } in g) option ≡ Some f → f.octet < m
 found_within kind None m f low e = absurd cc
@@ -73,12 +72,12 @@ LateWithin late = (options : List Placed) (m : ℕ) (f : HeadFault) → All (λ 
 jumbo_within : (version : Version) → LateWithin (jumbo_fault version)
 jumbo_within version options m f low e =
     found_within Jumbo (slice_get (filter (is_jumbo version) options) 0) m f
-      (λ p at. at_place (λ (q : Placed). q.place < m) (filter (is_jumbo version) options) 0 p (All-filter (is_jumbo version) (λ (q : Placed). q.place < m) options low) at) e
+    (λ p at. at_place (λ (q : Placed). q.place < m) (filter (is_jumbo version) options) 0 p (All-filter (is_jumbo version) (λ (q : Placed). q.place < m) options low) at) e
 
 second_within : (version : Version) → LateWithin (second_fault version)
 second_within version options m f low e =
     found_within SecondLabel (slice_get (labels_of version options) 1) m f
-      (λ p at. at_place (λ (q : Placed). q.place < m) (labels_of version options) 1 p (All-filter (is_label version) (λ (q : Placed). q.place < m) options low) at) e
+    (λ p at. at_place (λ (q : Placed). q.place < m) (labels_of version options) 1 p (All-filter (is_label version) (λ (q : Placed). q.place < m) options low) at) e
 
 either_within : (a b : Option HeadFault) (m : ℕ) (f : HeadFault) → (a ≡ Some f → f.octet < m) → (b ≡ Some f → f.octet < m) → or_else a b ≡ Some f → f.octet < m
 either_within None b m f first second e = second e
@@ -97,7 +96,7 @@ unfolding fixed_fault4 fixed_fault6
 fixed_within V4 octets f e = fixed4 (length octets) (ltb (length octets) 20) _ _ _ _ f (ltb-false (length octets) 20) e
 fixed_within V6 octets f e =
     fixed6 (length octets) (ltb (length octets) 40) _ _ _ _ f (ltb-false (length octets) 40)
-      (λ a b c d. hop_within (length octets) (payload_length octets) (has_hop_by_hop octets) ((get_or octets 41 0 + 1) * 8) a b c d) e
+    (λ a b c d. hop_within (length octets) (payload_length octets) (has_hop_by_hop octets) ((get_or octets 41 0 + 1) * 8) a b c d) e
 
 pub within : (late : List Placed → Option HeadFault) (version : Version) (octets : List ℕ) → LateWithin late → FaultsWithin late version octets
 within late version octets bound f (inl e) = fixed_within version octets f e
@@ -108,7 +107,7 @@ within late version octets bound f (inr (inl b)) =
 within late version octets bound f (inr (inr b)) =
     let head = head_of version octets in
     let low = places version (first_place version) (length octets) b.options b.walk.each
-        (λ some. omega (arith, some, ap length b.walk.whole, length-append (concat b.options) b.rest, length-drop (first_place version) head, head_within version octets)) in
+    (λ some. omega (arith, some, ap length b.walk.whole, length-append (concat b.options) b.rest, length-drop (first_place version) head, head_within version octets)) in
     let h = bound (placed_from (first_place version) b.options) (length octets) f low b.late in
     omega (arith, h)
 

@@ -17,18 +17,15 @@ pub fn octets_have_one_answer()
 /// the one case in which version 6 hides its payload.
 pub fn written_packet_reads_back()
     ensures { (p : ParsedPacket) → ReadsBack p }
-{
-}
+{}
 
 /// A first fault stands in the octets or at their end.
 pub fn faults_stand_within()
     ensures packets { (version : Version) (octets : List ℕ) → FaultsWithin (list_fault version) version octets }
     ensures fronts { (version : Version) (octets : List ℕ) → FaultsWithin (jumbo_fault version) version octets }
-{
-}
+{}
 
 /// The one's complement sum is what adding words gives where each carry comes in again below.
 pub fn sum_is_by_carries()
     ensures { (words : List ℕ) → All (λ w. w < 65536) words → ones_complement (sum words) ≡ fold carried 0 words }
-{
-}
+{}
