@@ -9,7 +9,7 @@ use Rattle.octet_grammar.proofs.Faults.{fails_outside}
 use Rattle.category_bitmap.specs.Bitmap.{bitmap_cats}
 use Rattle.cipso_tags.specs.Body.{IsBitmap}
 use Rattle.cipso_tags.specs.Header.{IsSized}
-use Rattle.cipso_tags.proofs.Octets.{zeros, length-zeros, zero_at, octets-append}
+use Rattle.octet_grammar.proofs.Octets.{zeros, length-zeros, zero_at, octets-append}
 
 pub bits_free : (size : ℕ) → IsPrefixFree (IsSized size IsBitmap)
 bits_free size a b v w m n =

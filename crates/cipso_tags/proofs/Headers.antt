@@ -4,14 +4,12 @@ use Rattle.std.specs.Prelude.{slice_index}
 use Rattle.std.specs.List.{range_with_len}
 use Rattle.std.proofs.lemmas.List.{get_or_append_left, append-nil, nil_from_length, take_more}
 use Rattle.std.proofs.lemmas.List.FromFn.{length-range_with_len}
-use Rattle.octet_grammar.specs.declared.fault.WireKind.{WireKind}
-use Rattle.octet_grammar.specs.declared.fault.WireKind.TheVariants.{Octet, End}
 use Rattle.octet_grammar.specs.declared.fault.WireStop.{WireStop}
-use Rattle.octet_grammar.specs.declared.fault.WireStop.TheVariants.{Fault, OutOfMemory}
 use Rattle.octet_grammar.specs.Front.{IsFront, IsPrefixFree, ReadsFront}
-use Rattle.octet_grammar.specs.Fault.{FailsFront, StopsFront, StopsAt, IsUnfit}
+use Rattle.octet_grammar.specs.Fault.{StopsFront}
 use Rattle.octet_grammar.proofs.Fronts.{at_agree, front_take}
-use Rattle.octet_grammar.proofs.Faults.{HasAt, IsWithin, fails_outside, fails_under, reads_under}
+use Rattle.octet_grammar.proofs.Faults.{HasAt, IsWithin, reads_under}
+use Rattle.octet_grammar.proofs.Places.{part_stops}
 use Rattle.mls_label.specs.declared.label.Tag.{Tag}
 use Rattle.mls_label.specs.declared.label.Tag.TheVariants.{One, Two, Five}
 use Rattle.mls_label.specs.declared.label.Label.{Label}
@@ -22,10 +20,9 @@ use Rattle.cipso_tags.specs.Words.{words}
 use Rattle.cipso_tags.specs.Body.{covers, IsBody}
 use Rattle.cipso_tags.specs.Tag.{type_of, IsTag, HasLength}
 use Rattle.cipso_tags.specs.Header.{header_of, IsSize, IsSized}
-use Rattle.cipso_tags.specs.Place.{FaultsAt, EndsAt, moved_by, StopsWithin}
-use Rattle.cipso_tags.proofs.Octets.{zeros, length-zeros, zero_at}
+use Rattle.octet_grammar.specs.Place.{moved_by}
+use Rattle.octet_grammar.proofs.Octets.{zeros, length-zeros, zero_at}
 use Rattle.cipso_tags.proofs.Words.{length-words, words_same}
-use Rattle.cipso_tags.proofs.Numbers.{stops_outside}
 use Rattle.cipso_tags.proofs.Ranges.{lowest, length-lowest, lowest_descends}
 
 -- ---- which lengths there are
@@ -194,19 +191,6 @@ front_2 s tag le type h = front_so_far s 2 tag (get_or s 1 0) h (take_2 s le ∙
 pub front_3 : (s : List ℕ) (tag : Tag) → 3 ≤ length s → get_or s 0 0 ≡ type_of tag → HasLength tag (get_or s 1 0) → get_or s 2 0 ≡ 0 → IsFront IsTag (take 3 s)
 front_3 s tag le type h none = front_so_far s 3 tag (get_or s 1 0) h (take_3 s le ∙ (λ i. type i ∷ get_or s 1 0 ∷ none i ∷ []))
 
--- ---- faults of a header
-
-ends_faults : (s : List ℕ) (at : ℕ) (P : ℕ → Type 0) (e : WireStop) → EndsAt s at e → FaultsAt s at P e
-ends_faults s at P (Fault f) ends = (ends.0, subst (λ k. IsUnfit s at P k) (sym ends.1) ends.2)
-ends_faults s at P OutOfMemory ends = absurd ends
-
-pub tag_ends : (s : List ℕ) (at : ℕ) (P : ℕ → Type 0) (e : WireStop) → at ≤ length s → IsFront IsTag (take at s) → HasAt IsTag s at P → EndsAt s at e → StopsFront IsTag s e
-tag_ends s at P e le front has ends = stops_outside IsTag tags_free s at P e le front has (ends_faults s at P e ends)
-
-pub tag_unfit : (s : List ℕ) (at : ℕ) (P : ℕ → Type 0) → at < length s → IsFront IsTag (take at s) → HasAt IsTag s at P → (P (slice_index s at) → ⊥) → StopsFront IsTag s (Fault (record { octet = at; kind = Octet }))
-tag_unfit s at P lt front has not =
-    fails_outside IsTag tags_free s at P (record { octet = at; kind = Octet }) (omega arith) front has refl (lt, not)
-
 -- ---- a body within its tag
 
 abbrev pub with_cats : Tag → ℕ → List ℕ → Tag × Label
@@ -239,18 +223,9 @@ body_reads tag size level bytes s cats small is reads =
     (reads_under (with_cats tag level) (IsSized size (IsBody tag)) IsTag (header_of tag (4 + size) level) s 0 size cats (omega arith) (body_within tag size level s small) reads)
 
 pub body_stops : (tag : Tag) (size level : ℕ) (bytes s : List ℕ) (e : WireStop) → HasLength tag (4 + size) → level < 256 → bytes ≡ header_of tag (4 + size) level ++ s → StopsFront (IsSized size (IsBody tag)) s e → StopsFront IsTag bytes (moved_by 4 e)
-body_stops tag size level bytes s (Fault f) h small is stops =
-    subst (λ x. FailsFront IsTag x (record { octet = 4 + f.octet; kind = f.kind })) (sym is)
-    (fails_under (with_cats tag level) (IsSized size (IsBody tag)) IsTag tags_free (header_of tag (4 + size) level) s 0 f (record { octet = 4 + f.octet; kind = f.kind }) (omega arith) (body_within tag size level s small) (body_front tag size h) stops refl refl)
-body_stops tag size level bytes s OutOfMemory h small is stops = tt
-
-stops_at : (G : List ℕ → List ℕ → Type 0) (s : List ℕ) (o : ℕ) (k : WireKind) → StopsAt G s o k → o ≤ length s
-stops_at G s o Octet stops = omega (arith, stops.0)
-stops_at G s o End stops = omega (arith, stops.0)
-
-pub stops_within : (G : List ℕ → List ℕ → Type 0) (s : List ℕ) (e : WireStop) → StopsFront G s e → StopsWithin (length s) e
-stops_within G s (Fault f) stops = stops_at G s f.octet f.kind stops.fault.stops
-stops_within G s OutOfMemory stops = tt
+body_stops tag size level bytes s e h small is stops =
+    subst (λ x. StopsFront IsTag x (moved_by 4 e)) (sym is)
+    (part_stops (with_cats tag level) (IsSized size (IsBody tag)) IsTag tags_free (header_of tag (4 + size) level) s 0 e (omega arith) (body_within tag size level s small) (body_front tag size h) stops)
 
 -- the sizes of bodies
 
@@ -266,3 +241,11 @@ ranges_size tag size h is =
 
 pub there_low : (tag : Tag) (n : ℕ) → HasLength tag n → 4 ≤ n
 there_low tag n h = size_low tag n (there_size tag n h)
+
+size_bounds : (tag : Tag) (n : ℕ) → IsSize tag n → (4 ≤ n) × (n ≤ 34)
+size_bounds One n size = size
+size_bounds Two n size = (size.0, size.1)
+size_bounds Five n size = (size.0, omega (arith, size.1))
+
+pub there_bounds : (tag : Tag) (n : ℕ) → HasLength tag n → (4 ≤ n) × (n ≤ 34)
+there_bounds tag n h = size_bounds tag n (there_size tag n h)

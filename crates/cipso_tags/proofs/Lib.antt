@@ -1,4 +1,3 @@
-pub mod Octets
 pub mod Words
 pub mod Bits
 pub mod Numbers

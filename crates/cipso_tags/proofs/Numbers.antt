@@ -3,15 +3,16 @@ use Rattle.std.proofs.Common.{◌≡◌, ℕ, ◌+◌, ◌*◌, ◌/◌, ◌%◌
 use Rattle.std.specs.Prelude.{slice_index}
 use Rattle.std.proofs.lemmas.List.{take-append-drop, take_more, append-nil, nil_from_length, get_or-drop}
 use Rattle.octet_grammar.specs.declared.fault.WireStop.{WireStop}
-use Rattle.octet_grammar.specs.declared.fault.WireStop.TheVariants.{Fault, OutOfMemory}
 use Rattle.octet_grammar.specs.Front.{IsFront, IsPrefixFree, ReadsFront}
 use Rattle.octet_grammar.specs.Fault.{StopsFront}
 use Rattle.octet_grammar.proofs.Fronts.{long_agree}
-use Rattle.octet_grammar.proofs.Faults.{HasAt, fails_outside}
+use Rattle.octet_grammar.proofs.Faults.{HasAt}
+use Rattle.octet_grammar.specs.Place.{FaultsAt}
+use Rattle.octet_grammar.proofs.Places.{stops_outside}
 use Rattle.cipso_tags.specs.Words.{words}
 use Rattle.cipso_tags.specs.Body.{IsNumbers}
 use Rattle.cipso_tags.specs.Header.{IsSized}
-use Rattle.cipso_tags.specs.Place.{FaultsAt, FaultsInNumber, IsBetween, HasFirst}
+use Rattle.cipso_tags.specs.Place.{FaultsInNumber, IsBetween, HasFirst}
 use Rattle.cipso_tags.proofs.Words.{length-words, words-append, cut, words_same}
 
 -- ---- faults behind what was read
@@ -26,10 +27,6 @@ at_from_next G s p P o le read next t v m agree =
     let long : o ≤ length t = long_agree o t s le agree in
     let n = next (drop o t) v (subst (λ x. G x v) split m) in
     (omega (arith, n.0, length-drop o t), subst P (get_or-drop o t 0 0 ∙ ap (λ k. get_or t k 0) (omega arith)) n.1)
-
-pub stops_outside : {V : Type 0} (G : List ℕ → V → Type 0) (free : IsPrefixFree G) (s : List ℕ) (o : ℕ) (P : ℕ → Type 0) (e : WireStop) → o ≤ length s → IsFront G (take o s) → HasAt G s o P → FaultsAt s o P e → StopsFront G s e
-stops_outside G free s o P (Fault f) le front has faults = fails_outside G free s o P f le front has faults.0 faults.1
-stops_outside G free s o P OutOfMemory le front has faults = absurd faults
 
 stops_next : {V : Type 0} (G : List ℕ → V → Type 0) (free : IsPrefixFree G) (s p : List ℕ) (o : ℕ) (P : ℕ → Type 0) (e : WireStop) → o ≤ length s → take o s ≡ p → IsFront G p → HasNext G p P → FaultsAt s o P e → StopsFront G s e
 stops_next G free s p o P e le read front next faults =

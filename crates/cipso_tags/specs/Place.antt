@@ -1,19 +1,7 @@
--- What the readers of single octets and numbers promise of a fault.
+-- What the reader of a number of two octets promises.
 use Rattle.std.specs.Prelude.{ℕ, ◌≡◌, ◌+◌, ◌*◌, ◌<◌, ◌≤◌, ◌⊎◌, List, length, slice_index}
-use Rattle.octet_grammar.specs.declared.fault.WireKind.TheVariants.{End}
 use Rattle.octet_grammar.specs.declared.fault.WireStop.{WireStop}
-use Rattle.octet_grammar.specs.declared.fault.WireStop.TheVariants.{Fault, OutOfMemory}
-use Rattle.octet_grammar.specs.Fault.{IsUnfit}
-
--- the octet at this place doesn't pass P, or the octets end there
-abbrev pub FaultsAt : List ℕ → ℕ → (ℕ → Type 0) → WireStop → Type 0
-FaultsAt s at P (Fault f) = (f.octet ≡ at) × IsUnfit s at P f.kind
-FaultsAt s at P OutOfMemory = ⊥
-
--- the octets end there
-abbrev pub EndsAt : List ℕ → ℕ → WireStop → Type 0
-EndsAt s at (Fault f) = (f.octet ≡ at) × (f.kind ≡ End) × (at ≡ length s)
-EndsAt s at OutOfMemory = ⊥
+use Rattle.octet_grammar.specs.Place.{FaultsAt}
 
 abbrev pub IsBetween : ℕ → ℕ → ℕ → Type 0
 IsBetween low high n = (low ≤ n) × (n ≤ high)
@@ -36,13 +24,3 @@ pub record IsNumberAt (s : List ℕ) (at low high n : ℕ) : Type 0 where
   pub within : at + 1 < length s
   pub is : n ≡ number_at s at
   pub bounds : IsBetween low high n
-
--- the stop of a part, counted from n octets before the part
-abbrev pub moved_by : ℕ → WireStop → WireStop
-moved_by n (Fault f) = Fault (record { octet = n + f.octet; kind = f.kind })
-moved_by n OutOfMemory = OutOfMemory
-
--- a fault lies within so many octets or at their end
-abbrev pub StopsWithin : ℕ → WireStop → Type 0
-StopsWithin n (Fault f) = f.octet ≤ n
-StopsWithin n OutOfMemory = Unit {0}

@@ -11,9 +11,10 @@ ghost use Rattle.cipso_tags.specs.Tag.{HasLength};
 ghost use Rattle.cipso_tags.specs.Header.{IsSized};
 ghost use Rattle.cipso_tags.specs.Place.{FaultsInNumber, IsNumberAt};
 
-use crate::octet::{ended, number_in};
+use crate::number::number_in;
 use category_bitmap::read_bitmap;
 use mls_label::{CatSet, OutOfMemory, SetStop, Tag, WireStop};
+use octet_grammar::ended;
 use std::alloc::Global;
 
 /// The categories that the first `size` octets carry.

@@ -6,8 +6,8 @@ ghost use Rattle.mls_label.specs.declared.label.Tag.{Tag};
 ghost use Rattle.cipso_tags.specs.Tag.{type_of, IsTag, HasLength};
 ghost use Rattle.cipso_tags.specs.Header.{BeginsWith, IsSize};
 
-use crate::octet::{octet_at, unfit};
 use mls_label::{Tag, WireStop};
+use octet_grammar::{octet_at, unfit};
 
 /// What stands before a tag's body.
 #[derive(Clone, Copy)]

@@ -7,11 +7,10 @@ mod append;
 mod body;
 mod header;
 pub mod laws;
-mod octet;
+mod number;
 mod tag;
 mod write;
 
 pub use header::{has_length, tag_of_type};
-pub use octet::moved_stop;
 pub use tag::read_tag;
-pub use write::{append_tag, can_express, write_tag};
+pub use write::{append_tag, can_express, tag_octets, write_tag};

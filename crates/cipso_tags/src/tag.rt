@@ -7,8 +7,8 @@ ghost use Rattle.cipso_tags.specs.Tag.{IsTag};
 
 use crate::body::read_body;
 use crate::header::read_header;
-use crate::octet::moved_stop;
 use mls_label::{Label, Tag, WireStop};
+use octet_grammar::moved_stop;
 use std::alloc::Global;
 
 /// The tag at the front of the octets, its label, and how many octets it has (FIPS 188; CIPSO draft 2.2, section 3.4).

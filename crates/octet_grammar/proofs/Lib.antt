@@ -1,2 +1,4 @@
 pub mod Fronts
 pub mod Faults
+pub mod Places
+pub mod Octets

@@ -1,3 +1,4 @@
 pub mod Octets
 pub mod Front
 pub mod Fault
+pub mod Place

@@ -1,8 +1,10 @@
 //! What a reader of octets is held to, whatever the format: a grammar is a relation between octet strings and
 //! values, and a reader that refuses an input names the first octet that no member of the grammar has there.
-//! The definitions stand in `specs/`; the two types below are the place and the kind of a fault.
+//! The definitions stand in `specs/`; the types below are the place and the kind of a fault, the calls read one octet.
 #![tactic(auto)]
 
 mod fault;
+mod octet;
 
 pub use fault::{WireFault, WireKind, WireStop};
+pub use octet::{ended, moved_stop, octet_at, unfit};

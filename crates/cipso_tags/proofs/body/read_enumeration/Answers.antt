@@ -3,7 +3,7 @@ use Rattle.std.proofs.lemmas.List.{append-nil}
 use Rattle.std.proofs.lemmas.Result.{err_from_is_err_and}
 use Rattle.mls_label.specs.Cats.{Ascends, IsCats}
 use Rattle.cipso_tags.specs.Words.{words}
-use Rattle.cipso_tags.proofs.Octets.{octets_of}
+use Rattle.octet_grammar.proofs.Octets.{octets_of}
 use Rattle.cipso_tags.proofs.Words.{take_number}
 use Rattle.cipso_tags.proofs.Numbers.{IsAfter, number_stops, numbers_read}
 use Rattle.cipso_tags.proofs.Enumeration.{enumeration_step, enumeration_more, cats_more}

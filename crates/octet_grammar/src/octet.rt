@@ -1,12 +1,12 @@
-//! Single octets and numbers of two octets, each with its place.
+//! Readers of single octets, and the places of faults.
 
 ghost use Rattle.std.specs.Prelude.{◌≡◌, ◌+◌, ◌^◌, ◌<◌, ◌≤◌, length, slice_index, IfOk, IfErr};
-ghost use Rattle.cipso_tags.specs.Place.{EndsAt, FaultsInNumber, IsNumberAt, moved_by, StopsWithin};
+ghost use Rattle.octet_grammar.specs.Place.{EndsAt, moved_by, StopsWithin};
 
-use mls_label::{WireFault, WireKind, WireStop};
+use crate::{WireFault, WireKind, WireStop};
 
 /// The octet at this place doesn't fit.
-pub(crate) fn unfit(octet: usize) -> WireStop
+pub fn unfit(octet: usize) -> WireStop
     ensures { result ≡ WireStop.Fault (record { octet = octet; kind = WireKind.Octet }) }
 {
     WireStop::Fault(WireFault {
@@ -16,7 +16,7 @@ pub(crate) fn unfit(octet: usize) -> WireStop
 }
 
 /// The octets end at this place.
-pub(crate) fn ended(octet: usize) -> WireStop
+pub fn ended(octet: usize) -> WireStop
     ensures { result ≡ WireStop.Fault (record { octet = octet; kind = WireKind.End }) }
 {
     WireStop::Fault(WireFault {
@@ -26,7 +26,7 @@ pub(crate) fn ended(octet: usize) -> WireStop
 }
 
 /// The octet at this place.
-pub(crate) fn octet_at(bytes: &[u8], at: usize) -> Result<u8, WireStop>
+pub fn octet_at(bytes: &[u8], at: usize) -> Result<u8, WireStop>
     requires { at ≤ length bytes.now }
     ensures ok { IfOk result (λ b. (at < length bytes.now) × (b ≡ slice_index bytes.now at)) }
     ensures err { IfErr result (λ e. EndsAt bytes.now at e) }
@@ -35,24 +35,6 @@ pub(crate) fn octet_at(bytes: &[u8], at: usize) -> Result<u8, WireStop>
         return Err(ended(at));
     }
     Ok(bytes[at])
-}
-
-/// The number at this place, in network order, where it is from `low` to `high`. It is refused at its first octet where
-/// no number with that octet is in bounds.
-pub(crate) fn number_in(bytes: &[u8], at: usize, low: u16, high: u16) -> Result<u16, WireStop>
-    requires { at ≤ length bytes.now }
-    ensures ok { IfOk result (λ n. IsNumberAt bytes.now at low high n) }
-    ensures err { IfErr result (λ e. FaultsInNumber bytes.now at low high e) }
-{
-    let first = u16::from(octet_at(bytes, at)?);
-    if first < low / 256 || first > high / 256 {
-        return Err(unfit(at));
-    }
-    let number = 256 * first + u16::from(octet_at(bytes, at + 1)?);
-    if number < low || number > high {
-        return Err(unfit(at + 1));
-    }
-    Ok(number)
 }
 
 /// The stop of a part of `length` octets, counted from `before` octets before the part.
