@@ -100,11 +100,11 @@ same_octets o p file e f = let same : o ≡ p = cc in ap length same
 -- the only event of a file that is too long, and of one that isn't
 pub only_too_long : (doi : ℕ) (level : Label) (octets : List ℕ) (file : Option (List ℕ)) (n : ℕ) (text : List ℕ) → file ≡ Some octets → packet_limit < length octets → ReportsJudge doi level file n text → n ≡ 7
 only_too_long doi level octets file n text e long (too_long o f more) = refl
-only_too_long doi level octets file n text e long (judged o line f less verdict) = absurd (omega (arith, same_octets o octets file f e))
+only_too_long doi level octets file n text e long (judged o verdict f less is) = absurd (omega (arith, same_octets o octets file f e))
 
 pub only_judged : (doi : ℕ) (level : Label) (octets : List ℕ) (file : Option (List ℕ)) (n : ℕ) (text : List ℕ) → file ≡ Some octets → length octets ≤ packet_limit → ReportsJudge doi level file n text → n ≡ 0
 only_judged doi level octets file n text e short (too_long o f more) = absurd (omega (arith, same_octets o octets file f e))
-only_judged doi level octets file n text e short (judged o line f less verdict) = refl
+only_judged doi level octets file n text e short (judged o verdict f less is) = refl
 
 -- a file with more octets than none is there
 pub is_there : (file : Option (List ℕ)) → packet_limit < length (octets_of file) → file ≡ Some (octets_of file)

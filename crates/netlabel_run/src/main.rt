@@ -3,14 +3,13 @@
 #![tactic(auto)]
 
 mod ending;
-mod header;
 mod judge;
-mod option;
 mod outcome;
 mod report;
 #[cfg(test)]
 mod tests;
 mod top;
+mod verdict;
 mod words;
 
 use net_io::{RealDepot, RealSink};
