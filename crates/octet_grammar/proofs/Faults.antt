@@ -1,9 +1,9 @@
 -- The general laws of faults: one for a fault at a place whose octets are known, one for a grammar within another,
 -- two for texts that are read as a whole.
-use Rattle.std.proofs.Common.{◌≡◌, ℕ, suc, ◌+◌, ◌-◌, ◌<◌, ◌≤◌, List, [], ◌∷◌, ◌++◌, length, take, refl, sym, ap, subst, ◌∙◌, append_assoc, arith, inl, inr}
+use Rattle.std.proofs.Common.{◌≡◌, ℕ, zero, suc, ◌+◌, ◌-◌, ◌<◌, ◌≤◌, List, [], ◌∷◌, ◌++◌, length, get_or, take, drop, refl, sym, ap, subst, ◌∙◌, append_assoc, arith, inl, inr}
 use Rattle.std.specs.Prelude.{slice_index}
 use Rattle.std.proofs.lemmas.Bool.{cases_lt}
-use Rattle.std.proofs.lemmas.List.{length-take, length-append, take_all}
+use Rattle.std.proofs.lemmas.List.{append-nil, take-append-drop, take-append-le, length-take, length-append, take_all}
 use Rattle.octet_grammar.specs.declared.fault.WireKind.{WireKind}
 use Rattle.octet_grammar.specs.declared.fault.WireKind.TheVariants.{Octet, End}
 use Rattle.octet_grammar.specs.declared.fault.WireFault.{WireFault}

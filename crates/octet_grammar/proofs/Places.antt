@@ -1,5 +1,5 @@
 -- The laws of faults for calls that may run out of memory too.
-use Rattle.std.proofs.Common.{ℕ, ◌+◌, ◌<◌, ◌≤◌, List, ◌++◌, length, take, refl, sym, subst, arith}
+use Rattle.std.proofs.Common.{◌≡◌, ℕ, ◌+◌, ◌<◌, ◌≤◌, List, ◌++◌, length, take, refl, sym, subst, arith}
 use Rattle.std.specs.Prelude.{slice_index}
 use Rattle.octet_grammar.specs.declared.fault.WireKind.{WireKind}
 use Rattle.octet_grammar.specs.declared.fault.WireKind.TheVariants.{Octet, End}
