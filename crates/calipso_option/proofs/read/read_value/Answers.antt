@@ -1,0 +1,18 @@
+use Rattle.std.proofs.Common.{◌≡◌, ◌-◌, length, take, drop, sym, subst, ap, ◌∙◌, arith, length-drop}
+use Rattle.std.specs.Prelude.{slice_index}
+use Rattle.std.proofs.lemmas.List.{take_all}
+use Rattle.octet_grammar.proofs.Octets.{octets_of}
+use Rattle.category_bitmap.specs.Bitmap.{bitmap_cats}
+use Rattle.calipso_option.specs.Calipso.{IsCalipsoShape}
+use Rattle.calipso_option.specs.Layout.{checksum_at}
+use Rattle.calipso_option.proofs.Shapes.{shape_of}
+use Rattle.calipso_option.proofs.read.read_value.Goals as goal
+
+pub returns : goal.returns
+returns c =
+    let s = c.args.option.now in
+    let whole : take (length s - 10) (drop 10 s) ≡ drop 10 s = take_all (length s - 10) (drop 10 s) (omega (arith, length-drop 10 s)) in
+    let cats : c.in_ok-read_bitmap.field-0 ≡ bitmap_cats (drop 10 s) = c.in_ok-read_bitmap.ensures ∙ ap bitmap_cats whole in
+    subst (IsCalipsoShape s)
+    (λ i. (record { doi = sym c.doi_of.ensures i; label = record { level = slice_index s 7; cats = sym cats i } }, checksum_at s))
+    (shape_of s (octets_of s c.type_inv.option) c.requires)

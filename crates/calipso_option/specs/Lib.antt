@@ -1,0 +1,5 @@
+pub mod Crc
+pub mod Calipso
+pub mod Text
+pub mod Fault
+pub mod Layout

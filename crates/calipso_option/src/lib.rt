@@ -1,0 +1,20 @@
+//! The CALIPSO option of IPv6 (Hop-by-Hop option 7, RFC 5570): a DOI, a level and a bitmap of compartments under a
+//! checksum. Each octet string begins with exactly one option, or has one fault: the first octet that no option has
+//! there, or else its checksum.
+#![tactic(auto)]
+
+mod calipso;
+mod crc;
+mod fault;
+pub mod laws;
+mod layout;
+mod read;
+#[cfg(test)]
+mod tests;
+mod write;
+
+pub use calipso::Calipso;
+pub use crc::crc16;
+pub use fault::CalipsoFault;
+pub use read::read_calipso;
+pub use write::{can_express, write_calipso};
