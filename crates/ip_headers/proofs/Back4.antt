@@ -13,7 +13,7 @@ use Rattle.ip_headers.specs.Options.{Placed, AreOptions, placed_from, labels_of}
 use Rattle.ip_headers.specs.Packet.{ParsedPacket}
 use Rattle.ip_headers.specs.Header4.{version_of, header_length, total_length, fixed_fault4, payload4}
 use Rattle.ip_headers.specs.Reading.{first_place, parsed, list_fault, IsPacket}
-use Rattle.ip_headers.specs.Written.{gap_to, padding, unit_of, kept_options, option_area, header4, checksum4, IsParsed, FitsFields, rebuilt_room, room_of, rebuilt_length, length_of, next_packet}
+use Rattle.ip_headers.specs.Written.{gap_to, padding, unit_of, kept_options, option_area, header4, checksum4, IsParsed, FitsFields, rebuilt_room, room_of, rebuilt_length, next_packet}
 use Rattle.ip_headers.proofs.Layouts.{length-padding}
 use Rattle.ip_headers.proofs.Back.{AreaBack, area_back, first_label, no_second}
 
@@ -98,24 +98,14 @@ module _ (p : ParsedPacket) (v : p.version ≡ V4) (h : IsParsed p) where
     unfolding rebuilt_room
     kept_small = subst (λ (w : Version). room_of w p ≤ 40) v room
 
-    total_small : 20 + length (option_area p) + length p.payload ≤ 65535
-    unfolding rebuilt_length
-    total_small = subst (λ (w : Version). length_of w p ≤ 65535) v long
-
     head_size : (20 + length (option_area p)) % 4 ≡ 0
     head_size = omega (arith, area_size)
 
     area_small : length (option_area p) ≤ 40
     area_small = omega (arith, area_size, kept_small)
 
-    c : ℕ
-    c = checksum4 p
-
     length-header : length (header4 p (checksum4 p)) ≡ 20 + length (option_area p)
     length-header = omega (arith, length-append (p.source ++ p.destination) (option_area p), length-append p.source p.destination, fields.3, fields.4)
-
-    octets : List ℕ
-    octets = header4 p (checksum4 p) ++ p.payload
 
     head_is : header_length (header4 p (checksum4 p) ++ p.payload) ≡ 20 + length (option_area p)
     head_is = let n = (20 + length (option_area p)) / 4 in let e : 4 * ((64 + n) % 16) ≡ 20 + length (option_area p) = omega (arith, head_size, area_small) in e

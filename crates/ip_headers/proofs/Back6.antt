@@ -47,13 +47,6 @@ module _ (p : ParsedPacket) (v : p.version ≡ V6) (h : IsParsed p) where
   fields : FitsFields V6 p
   fields = subst (λ (w : Version). FitsFields w p) v h.fields
 
-  -- the header and what follows it, with a Hop-by-Hop header of these octets and this next header
-  whole : List ℕ → ℕ → List ℕ
-  whole hop next = front6 p (length hop) next ++ p.source ++ p.destination ++ hop ++ p.payload
-
-  head_of6 : List ℕ → ℕ → List ℕ
-  head_of6 hop next = front6 p (length hop) next ++ p.source ++ p.destination ++ hop
-
   length-head : (hop : List ℕ) (next : ℕ) → length (front6 p (length hop) next ++ p.source ++ p.destination ++ hop) ≡ 40 + length hop
   length-head hop next = omega (arith, length-append (p.source ++ p.destination) hop, length-append p.source p.destination, fields.3, fields.4)
 

@@ -1,5 +1,5 @@
 -- From what the parts of a reader found to what the reader says.
-use Rattle.std.proofs.Common.{◌≡◌, ℕ, List, [], ◌∷◌, filter, drop, Option, Some, None, refl, ap, subst, ◌∙◌, inl, inr}
+use Rattle.std.proofs.Common.{◌≡◌, ℕ, List, [], ◌∷◌, filter, drop, Option, Some, None, refl, ap, subst, ◌∙◌, inr}
 use Rattle.std.specs.Prelude.{slice_get}
 use Rattle.std.specs.Option.{option_map}
 use Rattle.ip_headers.specs.declared.version.Version.{Version}
@@ -11,8 +11,8 @@ use Rattle.ip_headers.specs.declared.fault.HeadKind.TheVariants.{Jumbo, SecondLa
 use Rattle.ip_headers.specs.Options.{Placed, AreOptions, placed_from, is_jumbo, labels_of}
 use Rattle.ip_headers.specs.Packet.{ParsedPacket}
 use Rattle.ip_headers.specs.Reading.{first_place, parsed, jumbo_fault, second_fault, list_fault, Reads, Fails}
-use Rattle.ip_headers.specs.Walk.{place_of, Finds, Walked, Breaks}
-use Rattle.ip_headers.specs.View.{view_of, Holds, IsParts}
+use Rattle.ip_headers.specs.Walk.{place_of, Finds, Walked}
+use Rattle.ip_headers.specs.View.{view_of, IsParts}
 use Rattle.ip_headers.proofs.Views.{options_in-is}
 
 -- the fault of an option that was found
@@ -51,17 +51,6 @@ reads_from late version octets head payload found packet parts w late_is is = re
       ∙ (λ i. parsed version (parts.head_is i) (placed_from (first_place version) w.options) (parts.payload_is i));
 }
 
-pub breaks_from : (late : List Placed → Option HeadFault) (version : Version) (octets head payload : List ℕ) (fault : HeadFault)
-    → IsParts version octets head payload → Breaks version (drop (first_place version) head) (first_place version) fault → Fails late version octets fault
-breaks_from late version octets head payload fault parts b = inr (inl (record {
-  fixed = parts.fixed;
-  options = b.options;
-  rest = b.rest;
-  walk = subst (λ (x : List ℕ). AreOptions version (drop (first_place version) x) b.options b.rest) parts.head_is b.walk;
-  broken = b.broken;
-  is = b.is;
-}))
-
 pub late_from : (late : List Placed → Option HeadFault) (version : Version) (octets head payload : List ℕ) (found : Found) (fault : HeadFault)
     → IsParts version octets head payload → (w : Walked version (drop (first_place version) head) (first_place version) found)
     → late (placed_from (first_place version) w.options) ≡ Some fault → Fails late version octets fault
@@ -74,19 +63,6 @@ late_from late version octets head payload found fault parts w late_is = inr (in
   late = late_is;
 }))
 
-pub holds_from : (version : Version) (octets head payload : List ℕ) (found : Found) → IsParts version octets head payload → Walked version (drop (first_place version) head) (first_place version) found
-    → Holds version head payload (option_map (λ x. let p : Placed = record { place = x.0; octets = x.1.now } in p) found.label) found.has_others
-holds_from version octets head payload found parts w = record {
-  long = parts.long;
-  small = parts.small;
-  options = w.options;
-  rest = w.rest;
-  walk = w.walk;
-  ends = w.ends;
-  first = w.finds.label;
-  others = w.finds.others;
-}
-
 pub list_none4 : (options : List Placed) (found : Found) → Finds V4 options found → found.second ≡ None → list_fault V4 options ≡ None
 list_none4 options found f e = rw (no_jumbo4 options, second_from V4 options found f, e) refl
 
@@ -97,17 +73,5 @@ list_some4 options found octet fault f e is = rw (no_jumbo4 options, second_from
 pub list_none6 : (options : List Placed) (found : Found) → Finds V6 options found → found.jumbo ≡ None → found.second ≡ None → list_fault V6 options ≡ None
 list_none6 options found f j e = rw (jumbo_from V6 options found f, second_from V6 options found f, j, e) refl
 
-pub list_some6 : (options : List Placed) (found : Found) (octet : ℕ) (fault : HeadFault) → Finds V6 options found → found.jumbo ≡ None → found.second ≡ Some octet
-    → fault ≡ record { octet = octet; kind = SecondLabel } → list_fault V6 options ≡ Some fault
-list_some6 options found octet fault f j e is = rw (jumbo_from V6 options found f, second_from V6 options found f, j, e, is) refl
-
 pub jumbo_none6 : (options : List Placed) (found : Found) → Finds V6 options found → found.jumbo ≡ None → jumbo_fault V6 options ≡ None
 jumbo_none6 options found f j = rw (jumbo_from V6 options found f, j) refl
-
-pub jumbo_some6 : (options : List Placed) (found : Found) (octet : ℕ) (fault : HeadFault) → Finds V6 options found → found.jumbo ≡ Some octet → fault ≡ record { octet = octet; kind = Jumbo }
-    → jumbo_fault V6 options ≡ Some fault
-jumbo_some6 options found octet fault f j is = rw (jumbo_from V6 options found f, j, is) refl
-
-pub list_jumbo6 : (options : List Placed) (found : Found) (octet : ℕ) (fault : HeadFault) → Finds V6 options found → found.jumbo ≡ Some octet → fault ≡ record { octet = octet; kind = Jumbo }
-    → list_fault V6 options ≡ Some fault
-list_jumbo6 options found octet fault f j is = rw (jumbo_some6 options found octet fault f j is) refl
