@@ -1,3 +1,4 @@
 pub mod Wires
 pub mod Labels
 pub mod Faults
+pub mod Options
