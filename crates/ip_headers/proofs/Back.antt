@@ -1,5 +1,5 @@
 -- What is written is read again: the options of a written header, one after another.
-use Rattle.std.proofs.Common.{◌≡◌, ℕ, zero, suc, ◌+◌, ◌-◌, ◌*◌, ◌/◌, ◌%◌, ◌<◌, ◌≤◌, ◌⊎◌, Bool, true, false, not, ◌||◌, cond, eqb, List, [], ◌∷◌, ◌++◌, length, All, map, filter, get_or, take, drop, replicate, Option, Some, None, refl, sym, ap, subst, ◌∙◌, append_assoc, arith, inl, inr, length-append}
+use Rattle.std.proofs.Common.{◌≡◌, ℕ, zero, suc, ◌+◌, ◌%◌, ◌<◌, Bool, true, false, not, ◌||◌, eqb, List, [], ◌∷◌, ◌++◌, length, All, map, filter, replicate, Option, Some, None, refl, sym, ap, ◌∙◌, append_assoc, arith, inl, inr, length-append}
 use Rattle.std.specs.Prelude.{slice_get, IfSome}
 use Rattle.std.specs.Option.{option_map}
 use Rattle.std.specs.List.{concat}
@@ -7,11 +7,10 @@ use Rattle.std.proofs.lemmas.List.{append-nil, length-replicate, map-append}
 use Rattle.std.proofs.lemmas.List.Elements.{All-nil, All-cons, All-append, All-head, All-tail, filter-append}
 use Rattle.ip_headers.specs.declared.version.Version.{Version}
 use Rattle.ip_headers.specs.declared.version.Version.TheVariants.{V4, V6}
-use Rattle.ip_headers.specs.Options.{Placed, IsOption, AreOptions, Ends, placed_from, type_of, is_end, is_single, announced, is_label, is_jumbo, is_other, aligned, alignment, labels_of, others_of}
-use Rattle.ip_headers.specs.Packet.{ParsedPacket}
+use Rattle.ip_headers.specs.Options.{Placed, IsOption, AreOptions, Ends, placed_from, type_of, is_label, is_jumbo, is_other, aligned, alignment, labels_of, others_of}
 use Rattle.ip_headers.specs.Reading.{first_place}
-use Rattle.ip_headers.specs.Written.{gap_to, padding, packed, unit_of, filled, label_octets, kept_options, option_area, IsLabelOption, IsKept}
-use Rattle.ip_headers.proofs.Layouts.{length-padding, packed-none, packed-one, packed-append}
+use Rattle.ip_headers.specs.Written.{gap_to, padding, packed, unit_of, filled, label_octets, IsLabelOption, IsKept}
+use Rattle.ip_headers.proofs.Layouts.{length-padding}
 
 -- ---- padding as options
 
@@ -92,8 +91,8 @@ packed_whole version free (x ∷ xs) =
     let gap = gap_to (alignment version) x.place free in
     let more = packed_options version (free + gap + length x.octets) xs in
     concat-append (pad_options version gap) (x.octets ∷ more)
-      ∙ (λ i. gap_whole version x.place free i ++ (x.octets ++ packed_whole version (free + gap + length x.octets) xs i))
-      ∙ sym (append_assoc (padding version gap) x.octets (packed version (free + gap + length x.octets) xs))
+    ∙ (λ i. gap_whole version x.place free i ++ (x.octets ++ packed_whole version (free + gap + length x.octets) xs i))
+    ∙ sym (append_assoc (padding version gap) x.octets (packed version (free + gap + length x.octets) xs))
 
 packed_are : (version : Version) (free : ℕ) (xs : List Placed) → All (IsKept version) xs → All (IsOption version) (packed_options version free xs)
 unfolding packed_options
@@ -102,7 +101,7 @@ packed_are version free (x ∷ xs) kept =
     let gap = gap_to (alignment version) x.place free in
     let more = packed_options version (free + gap + length x.octets) xs in
     All-append (IsOption version) (pad_options version gap) (x.octets ∷ more) (pads_are version gap)
-      (All-cons (IsOption version) x.octets more (All-head (IsKept version) x xs kept).is (packed_are version (free + gap + length x.octets) xs (All-tail (IsKept version) x xs kept)))
+    (All-cons (IsOption version) x.octets more (All-head (IsKept version) x xs kept).is (packed_are version (free + gap + length x.octets) xs (All-tail (IsKept version) x xs kept)))
 
 pub placed_from-append : (at : ℕ) (xs ys : List (List ℕ)) → placed_from at (xs ++ ys) ≡ placed_from at xs ++ placed_from (at + length (concat xs)) ys
 placed_from-append at [] ys = let e : at ≡ at + 0 = omega arith in ap (λ (n : ℕ). placed_from n ys) e
@@ -144,16 +143,16 @@ packed_seen version free (x ∷ xs) kept =
     let seen = packed_seen version at xs (All-tail (IsKept version) x xs kept) in
     let long : free + length (concat pads) ≡ free + gap = ap (λ (n : ℕ). free + n) (ap length (gap_whole version x.place free) ∙ length-padding version gap) in
     let split : placed_from free (pads ++ x.octets ∷ more) ≡ placed_from free pads ++ (p ∷ placed_from at more) =
-        placed_from-append free pads (x.octets ∷ more) ∙ ap (λ (n : ℕ). placed_from free pads ++ placed_from n (x.octets ∷ more)) long in
+    placed_from-append free pads (x.octets ∷ more) ∙ ap (λ (n : ℕ). placed_from free pads ++ placed_from n (x.octets ∷ more)) long in
     let aligned_is : aligned version p ≡ x = λ i. record { place = lands version x.place free k.place i; octets = x.octets } in
     record {
       labels = ap (filter (is_label version)) split ∙ filter-append (is_label version) (placed_from free pads) (p ∷ placed_from at more)
-        ∙ (λ i. unseen.labels i ++ filter (is_label version) (p ∷ placed_from at more)) ∙ rw (other_no_label version p k.other) seen.labels;
+          ∙ (λ i. unseen.labels i ++ filter (is_label version) (p ∷ placed_from at more)) ∙ rw (other_no_label version p k.other) seen.labels;
       jumbos = ap (filter (is_jumbo version)) split ∙ filter-append (is_jumbo version) (placed_from free pads) (p ∷ placed_from at more)
-        ∙ (λ i. unseen.jumbos i ++ filter (is_jumbo version) (p ∷ placed_from at more)) ∙ rw k.no_jumbo seen.jumbos;
+          ∙ (λ i. unseen.jumbos i ++ filter (is_jumbo version) (p ∷ placed_from at more)) ∙ rw k.no_jumbo seen.jumbos;
       others_are = ap (others_of version) split ∙ ap (map (aligned version)) (filter-append (is_other version) (placed_from free pads) (p ∷ placed_from at more))
-        ∙ map-append (aligned version) (filter (is_other version) (placed_from free pads)) (filter (is_other version) (p ∷ placed_from at more))
-        ∙ (λ i. unseen.others i ++ map (aligned version) (filter (is_other version) (p ∷ placed_from at more))) ∙ rw k.other (λ i. aligned_is i ∷ seen.others_are i);
+          ∙ map-append (aligned version) (filter (is_other version) (placed_from free pads)) (filter (is_other version) (p ∷ placed_from at more))
+          ∙ (λ i. unseen.others i ++ map (aligned version) (filter (is_other version) (p ∷ placed_from at more))) ∙ rw k.other (λ i. aligned_is i ∷ seen.others_are i);
     }
 
 -- ---- a whole list of options
@@ -250,7 +249,7 @@ area_back version label others area kept h k kept_is area_is =
     let k_whole = packed_whole version f1 others in
     let at1 : first + length (concat l) ≡ f1 = ap (λ (x : List ℕ). first + length x) l_whole in
     let placed : placed_from first (l ++ (ks ++ es)) ≡ placed_from first l ++ (placed_from f1 ks ++ placed_from (f1 + length (concat ks)) es) =
-        placed_from-append first l (ks ++ es) ∙ ap (λ (m : ℕ). placed_from first l ++ placed_from m (ks ++ es)) at1 ∙ ap (λ (x : List Placed). placed_from first l ++ x) (placed_from-append f1 ks es) in
+    placed_from-append first l (ks ++ es) ∙ ap (λ (m : ℕ). placed_from first l ++ placed_from m (ks ++ es)) at1 ∙ ap (λ (x : List Placed). placed_from first l ++ x) (placed_from-append f1 ks es) in
     let s1 = label_seen version first label h in
     let ps = packed_seen version f1 others k in
     let s2 : Sees version (placed_from f1 ks) [] others = record { labels_are = ps.labels; no_jumbo = ps.jumbos; others_are = ps.others_are } in
@@ -259,10 +258,10 @@ area_back version label others area kept h k kept_is area_is =
     let s23 = Sees-append version (placed_from f1 ks) (placed_from (f1 + length (concat ks)) es) [] [] others [] s2 s3 in
     let s = Sees-append version (placed_from first l) (placed_from f1 ks ++ placed_from (f1 + length (concat ks)) es) (label_placed first label) [] [] (others ++ []) s1 s23 in
     let whole : area ≡ concat (l ++ (ks ++ es)) ++ pad_rest version n =
-        area_is ∙ ap (λ (x : List ℕ). x ++ padding version n) kept_is
-          ∙ (λ i. (sym l_whole i ++ sym k_whole i) ++ padding-is version n i)
-          ∙ sym (append_assoc (concat l ++ concat ks) (concat es) (pad_rest version n))
-          ∙ ap (λ (x : List ℕ). x ++ pad_rest version n) (append_assoc (concat l) (concat ks) (concat es) ∙ ap (λ (x : List ℕ). concat l ++ x) (sym (concat-append ks es)) ∙ sym (concat-append l (ks ++ es))) in
+    area_is ∙ ap (λ (x : List ℕ). x ++ padding version n) kept_is
+    ∙ (λ i. (sym l_whole i ++ sym k_whole i) ++ padding-is version n i)
+    ∙ sym (append_assoc (concat l ++ concat ks) (concat es) (pad_rest version n))
+    ∙ ap (λ (x : List ℕ). x ++ pad_rest version n) (append_assoc (concat l) (concat ks) (concat es) ∙ ap (λ (x : List ℕ). concat l ++ x) (sym (concat-append ks es)) ∙ sym (concat-append l (ks ++ es))) in
     record {
       options = l ++ (ks ++ es);
       rest = pad_rest version n;

@@ -1,24 +1,21 @@
 -- A packet of version 4 that was written is read as the packet it was written from.
-use Rattle.std.proofs.Common.{◌≡◌, ◌≢◌, ℕ, zero, suc, ◌+◌, ◌-◌, ◌*◌, ◌/◌, ◌%◌, ◌<◌, ◌≤◌, ◌⊎◌, Bool, true, false, not, ◌||◌, ◌&&◌, cond, eqb, ltb, List, [], ◌∷◌, ◌++◌, length, All, filter, get_or, take, drop, sum, fold, Option, Some, None, refl, sym, ap, subst, ◌∙◌, append_assoc, arith, inl, inr, length-append, eq-eqb}
-use Rattle.std.specs.Prelude.{slice_get, slice_index, slice_range, IfSome}
+use Rattle.std.proofs.Common.{◌≡◌, ℕ, ◌+◌, ◌-◌, ◌*◌, ◌/◌, ◌%◌, ◌<◌, ◌≤◌, false, eqb, List, [], ◌∷◌, ◌++◌, length, take, drop, sum, None, refl, sym, ap, subst, ◌∙◌, append_assoc, arith, length-append, eq-eqb}
+use Rattle.std.specs.Prelude.{slice_get, slice_range}
 use Rattle.std.specs.Option.{option_map}
-use Rattle.std.specs.List.{sum_by}
 use Rattle.std.proofs.lemmas.Bool.{le-ltb}
 use Rattle.std.proofs.lemmas.Bool.Decides.{nat_tests}
 use Rattle.std.proofs.lemmas.List.{append-nil, take_at, drop_at}
 use Rattle.std.proofs.lemmas.List.Sums.{sum_by-cons}
 use Rattle.ip_headers.specs.declared.version.Version.{Version}
-use Rattle.ip_headers.specs.declared.version.Version.TheVariants.{V4, V6}
-use Rattle.ip_headers.specs.declared.fault.HeadFault.{HeadFault}
-use Rattle.ip_headers.specs.declared.fault.HeadKind.TheVariants.{Jumbo, SecondLabel}
-use Rattle.ip_headers.specs.Sum.{be16, word_at, words_of, ones_complement, ones_sum}
-use Rattle.ip_headers.specs.Options.{Placed, AreOptions, placed_from, is_jumbo, labels_of, others_of}
+use Rattle.ip_headers.specs.declared.version.Version.TheVariants.{V4}
+use Rattle.ip_headers.specs.Sum.{words_of, ones_complement, ones_sum}
+use Rattle.ip_headers.specs.Options.{Placed, AreOptions, placed_from, labels_of}
 use Rattle.ip_headers.specs.Packet.{ParsedPacket}
-use Rattle.ip_headers.specs.Header4.{version_of, header_length, total_length, fixed_fault4, head4, payload4, parsed4}
-use Rattle.ip_headers.specs.Reading.{first_place, parsed, jumbo_fault, second_fault, list_fault, IsPacket}
-use Rattle.ip_headers.specs.Written.{gap_to, padding, packed, unit_of, filled, label_octets, kept_options, option_area, fixed4, header4, checksum4, octets_of, IsParsed, FitsFields, rebuilt_room, room_of, rebuilt_length, length_of, next_packet, IsKept, IsLabelOption}
+use Rattle.ip_headers.specs.Header4.{version_of, header_length, total_length, fixed_fault4, payload4}
+use Rattle.ip_headers.specs.Reading.{first_place, parsed, list_fault, IsPacket}
+use Rattle.ip_headers.specs.Written.{gap_to, padding, unit_of, kept_options, option_area, header4, checksum4, IsParsed, FitsFields, rebuilt_room, room_of, rebuilt_length, length_of, next_packet}
 use Rattle.ip_headers.proofs.Layouts.{length-padding}
-use Rattle.ip_headers.proofs.Back.{AreaBack, area_back, label_placed, first_label, no_second}
+use Rattle.ip_headers.proofs.Back.{AreaBack, area_back, first_label, no_second}
 
 -- ---- the tests of the fixed fields
 
@@ -26,8 +23,14 @@ passes4 : (octets : List ℕ) → 20 ≤ length octets → version_of octets ≡
     → ones_sum (take (header_length octets) octets) ≡ 65535 → fixed_fault4 octets ≡ None
 unfolding fixed_fault4
 passes4 octets long version low total within sum_is =
-    rw (le-ltb (length octets) 20 long, eq-eqb (version_of octets) 4 version, le-ltb (header_length octets) 20 low, le-ltb (total_length octets) (header_length octets) total,
-      le-ltb (length octets) (total_length octets) within, eq-eqb (ones_sum (take (header_length octets) octets)) 65535 sum_is) refl
+    rw (
+      le-ltb (length octets) 20 long,
+      eq-eqb (version_of octets) 4 version,
+      le-ltb (header_length octets) 20 low,
+      le-ltb (total_length octets) (header_length octets) total,
+      le-ltb (length octets) (total_length octets) within,
+      eq-eqb (ones_sum (take (header_length octets) octets)) 65535 sum_is,
+    ) refl
 
 -- ---- the checksum
 
@@ -87,8 +90,8 @@ module _ (p : ParsedPacket) (v : p.version ≡ V4) (h : IsParsed p) where
   area_size : length (option_area p) ≡ length (kept_options p) + gap_to 4 0 (20 + length (kept_options p))
   area_size =
       subst (λ (w : Version). length (option_area p) ≡ length (kept_options p) + gap_to (unit_of w) 0 (first_place w + length (kept_options p))) v
-        (length-append (kept_options p) (padding p.version (gap_to (unit_of p.version) 0 (first_place p.version + length (kept_options p))))
-          ∙ ap (λ (n : ℕ). length (kept_options p) + n) (length-padding p.version (gap_to (unit_of p.version) 0 (first_place p.version + length (kept_options p)))))
+      (length-append (kept_options p) (padding p.version (gap_to (unit_of p.version) 0 (first_place p.version + length (kept_options p))))
+      ∙ ap (λ (n : ℕ). length (kept_options p) + n) (length-padding p.version (gap_to (unit_of p.version) 0 (first_place p.version + length (kept_options p)))))
 
   module _ (room : rebuilt_room p ≤ 40) (long : rebuilt_length p ≤ 65535) where
     kept_small : length (kept_options p) ≤ 40
@@ -139,8 +142,8 @@ module _ (p : ParsedPacket) (v : p.version ≡ V4) (h : IsParsed p) where
     payload_is =
         let e : total_length (header4 p (checksum4 p) ++ p.payload) - header_length (header4 p (checksum4 p) ++ p.payload) ≡ length p.payload = omega (arith, head_is, total_is) in
         (λ i. take (e i) (drop (head_is i) (header4 p (checksum4 p) ++ p.payload)))
-          ∙ ap (take (length p.payload)) (drop_at (header4 p (checksum4 p)) p.payload (20 + length (option_area p)) length-header)
-          ∙ ap (take (length p.payload)) (sym (append-nil p.payload)) ∙ take_at p.payload [] (length p.payload) refl
+        ∙ ap (take (length p.payload)) (drop_at (header4 p (checksum4 p)) p.payload (20 + length (option_area p)) length-header)
+        ∙ ap (take (length p.payload)) (sym (append-nil p.payload)) ∙ take_at p.payload [] (length p.payload) refl
 
     back : AreaBack V4 20 (option_area p) p.label p.others
     unfolding kept_options
@@ -152,13 +155,13 @@ module _ (p : ParsedPacket) (v : p.version ≡ V4) (h : IsParsed p) where
     destination_is : slice_range (header4 p (checksum4 p)) 16 20 ≡ p.destination
     destination_is =
         ap (λ (x : List ℕ). take 4 (drop 4 x)) (append_assoc p.source p.destination (option_area p)) ∙ ap (take 4) (drop_at p.source (p.destination ++ option_area p) 4 fields.3)
-          ∙ take_at p.destination (option_area p) 4 fields.4
+        ∙ take_at p.destination (option_area p) 4 fields.4
 
     says : next_packet p ≡ parsed V4 (header4 p (checksum4 p)) (placed_from 20 back.options) p.payload
     says =
         let label_is : option_map (λ o. let q : Placed = record { place = first_place p.version; octets = o.octets } in q) p.label ≡ slice_get (labels_of V4 (placed_from 20 back.options)) 0 =
-            ap (λ (w : Version). option_map (λ o. let q : Placed = record { place = first_place w; octets = o.octets } in q) p.label) v
-              ∙ sym (ap (λ (x : List Placed). slice_get x 0) back.labels ∙ first_label 20 p.label) in
+        ap (λ (w : Version). option_map (λ o. let q : Placed = record { place = first_place w; octets = o.octets } in q) p.label) v
+        ∙ sym (ap (λ (x : List Placed). slice_get x 0) back.labels ∙ first_label 20 p.label) in
         let id_is : p.identification ≡ 256 * (p.identification / 256) + p.identification % 256 = omega arith in
         let flags_is : p.flags_offset ≡ 256 * (p.flags_offset / 256) + p.flags_offset % 256 = omega arith in
         let source = sym source_is in
@@ -166,20 +169,20 @@ module _ (p : ParsedPacket) (v : p.version ≡ V4) (h : IsParsed p) where
         let others = sym back.others_are in
         let flow : p.flow_label ≡ 0 = fields.2 in
         let e : next_packet p ≡ parsed V4 (header4 p (checksum4 p)) (placed_from 20 back.options) p.payload =
-            λ i. record {
-              version = v i;
-              class = p.class;
-              identification = id_is i;
-              flags_offset = flags_is i;
-              flow_label = flow i;
-              hops = p.hops;
-              protocol = p.protocol;
-              source = source i;
-              destination = destination i;
-              label = label_is i;
-              others = others i;
-              payload = p.payload;
-            } in
+        λ i. record {
+          version = v i;
+          class = p.class;
+          identification = id_is i;
+          flags_offset = flags_is i;
+          flow_label = flow i;
+          hops = p.hops;
+          protocol = p.protocol;
+          source = source i;
+          destination = destination i;
+          label = label_is i;
+          others = others i;
+          payload = p.payload;
+        } in
         e
 
     none_late : list_fault V4 (placed_from 20 back.options) ≡ None

@@ -1,15 +1,15 @@
 -- Options laid out again: one option after another, and a walk over options that are known to be whole.
-use Rattle.std.proofs.Common.{◌≡◌, ℕ, zero, suc, ◌+◌, ◌-◌, ◌*◌, ◌%◌, ◌^◌, ◌<◌, ◌≤◌, ◌⊎◌, Bool, true, false, not, cond, List, [], ◌∷◌, ◌++◌, length, All, map, filter, get_or, take, drop, replicate, Option, Some, None, refl, sym, ap, subst, ◌∙◌, append_assoc, arith, inl, inr, length-append, length-drop}
+use Rattle.std.proofs.Common.{◌≡◌, ℕ, zero, suc, ◌+◌, ◌-◌, ◌*◌, ◌%◌, ◌<◌, ◌≤◌, true, false, cond, List, [], ◌∷◌, ◌++◌, length, map, filter, take, drop, replicate, refl, sym, ap, subst, ◌∙◌, append_assoc, arith, inl, inr, length-append, length-drop}
 use Rattle.std.specs.Prelude.{Result, Ok, Err, is_ok, OnOk}
 use Rattle.std.specs.List.{concat}
 use Rattle.std.proofs.lemmas.Bool.{false≢true}
-use Rattle.std.proofs.lemmas.List.{append-nil, length-take, length-replicate, take_at, drop_at, take-append-drop, map-append, nil_from_length, take-replicate}
+use Rattle.std.proofs.lemmas.List.{append-nil, length-take, length-replicate, take_at, drop_at, take-append-drop, map-append, take-replicate}
 use Rattle.std.proofs.lemmas.List.Elements.{All-head, All-tail, filter-append}
 use Rattle.ip_headers.specs.declared.version.Version.{Version}
 use Rattle.ip_headers.specs.declared.version.Version.TheVariants.{V4, V6}
 use Rattle.ip_headers.specs.declared.options.Step.{Step}
 use Rattle.ip_headers.specs.declared.options.Step.TheVariants as step
-use Rattle.ip_headers.specs.Options.{Placed, IsOption, AreOptions, Ends, IsBroken, placed_from, announced, type_of, is_end, is_single, is_other, aligned, alignment, others_of}
+use Rattle.ip_headers.specs.Options.{Placed, IsOption, AreOptions, Ends, IsBroken, placed_from, announced, is_other, aligned, alignment, others_of}
 use Rattle.ip_headers.specs.Reading.{first_place}
 use Rattle.ip_headers.specs.Walk.{IsStep}
 use Rattle.ip_headers.specs.View.{options_in, HasOptions}

@@ -6,3 +6,6 @@ pub mod Writing
 pub mod Once
 pub mod Back
 pub mod Back4
+pub mod Back6
+pub mod Lawful
+pub mod Within

@@ -1,17 +1,14 @@
 -- Octets are read in one way.
-use Rattle.std.proofs.Common.{◌≡◌, ℕ, zero, suc, ◌+◌, ◌-◌, ◌*◌, ◌<◌, ◌≤◌, ◌⊎◌, Bool, true, false, cond, List, [], ◌∷◌, ◌++◌, length, All, filter, take, drop, Option, Some, None, refl, sym, ap, subst, ◌∙◌, append_assoc, arith, inl, inr, length-append, length-take, length-drop}
-use Rattle.std.specs.Prelude.{slice_get}
-use Rattle.std.specs.Option.{option_map}
+use Rattle.std.proofs.Common.{◌≡◌, ℕ, ◌+◌, ◌≤◌, List, [], ◌∷◌, ◌++◌, length, take, drop, Option, Some, refl, sym, ap, subst, ◌∙◌, append_assoc, arith, inl, inr, length-append}
 use Rattle.std.specs.List.{concat}
 use Rattle.std.proofs.lemmas.Bool.{false≢true}
 use Rattle.std.proofs.lemmas.List.{take_at, drop_at, take-append-drop}
 use Rattle.std.proofs.lemmas.List.Elements.{All-head, All-tail}
 use Rattle.ip_headers.specs.declared.version.Version.{Version}
-use Rattle.ip_headers.specs.declared.version.Version.TheVariants.{V4, V6}
 use Rattle.ip_headers.specs.declared.fault.HeadFault.{HeadFault}
 use Rattle.ip_headers.specs.Options.{Placed, IsOption, AreOptions, Ends, IsBroken, placed_from, announced}
 use Rattle.ip_headers.specs.Packet.{ParsedPacket}
-use Rattle.ip_headers.specs.Reading.{first_place, fixed_fault, head_of, payload_of, area_of, parsed, Reads, BreaksOptions, BreaksList, Fails}
+use Rattle.ip_headers.specs.Reading.{first_place, head_of, payload_of, area_of, parsed, Reads, Fails}
 use Rattle.ip_headers.specs.Laws.{HasOneAnswer}
 use Rattle.ip_headers.proofs.Views.{announced-append}
 use Rattle.ip_headers.proofs.Layouts.{no_option, broken_option}

@@ -1,19 +1,18 @@
 -- From what the parts of a reader found to what the reader says.
-use Rattle.std.proofs.Common.{◌≡◌, ℕ, zero, suc, ◌+◌, ◌-◌, ◌*◌, ◌<◌, ◌≤◌, ◌⊎◌, Bool, true, false, cond, List, [], ◌∷◌, ◌++◌, length, map, filter, take, drop, Option, Some, None, refl, sym, ap, subst, ◌∙◌, arith, inl, inr}
+use Rattle.std.proofs.Common.{◌≡◌, ℕ, List, [], ◌∷◌, filter, drop, Option, Some, None, refl, ap, subst, ◌∙◌, inl, inr}
 use Rattle.std.specs.Prelude.{slice_get}
 use Rattle.std.specs.Option.{option_map}
-use Rattle.std.specs.List.{concat}
 use Rattle.ip_headers.specs.declared.version.Version.{Version}
 use Rattle.ip_headers.specs.declared.version.Version.TheVariants.{V4, V6}
 use Rattle.ip_headers.specs.declared.options.Found.{Found}
 use Rattle.ip_headers.specs.declared.fault.HeadFault.{HeadFault}
 use Rattle.ip_headers.specs.declared.fault.HeadKind.{HeadKind}
-use Rattle.ip_headers.specs.declared.fault.HeadKind.TheVariants.{OptionList, Jumbo, SecondLabel}
-use Rattle.ip_headers.specs.Options.{Placed, AreOptions, Ends, placed_from, is_jumbo, labels_of, others_of}
+use Rattle.ip_headers.specs.declared.fault.HeadKind.TheVariants.{Jumbo, SecondLabel}
+use Rattle.ip_headers.specs.Options.{Placed, AreOptions, placed_from, is_jumbo, labels_of}
 use Rattle.ip_headers.specs.Packet.{ParsedPacket}
-use Rattle.ip_headers.specs.Reading.{first_place, fixed_fault, head_of, payload_of, area_of, parsed, jumbo_fault, second_fault, or_else, list_fault, Reads, BreaksOptions, BreaksList, Fails}
+use Rattle.ip_headers.specs.Reading.{first_place, parsed, jumbo_fault, second_fault, list_fault, Reads, Fails}
 use Rattle.ip_headers.specs.Walk.{place_of, Finds, Walked, Breaks}
-use Rattle.ip_headers.specs.View.{options_in, view_of, Holds, IsParts, least_head}
+use Rattle.ip_headers.specs.View.{view_of, Holds, IsParts}
 use Rattle.ip_headers.proofs.Views.{options_in-is}
 
 -- the fault of an option that was found

@@ -1,15 +1,14 @@
 -- Octets are one list of options alone, and the model's cut gives it.
-use Rattle.std.proofs.Common.{◌≡◌, ℕ, zero, suc, ◌+◌, ◌-◌, ◌*◌, ◌<◌, ◌≤◌, ◌⊎◌, Bool, true, false, not, cond, IsTrue, List, [], ◌∷◌, ◌++◌, length, All, map, filter, get_or, take, drop, Option, Some, None, refl, sym, ap, subst, ◌∙◌, append_assoc, arith, inl, inr}
+use Rattle.std.proofs.Common.{◌≡◌, ℕ, zero, suc, ◌+◌, ◌<◌, ◌≤◌, Bool, true, false, cond, IsTrue, List, [], ◌∷◌, ◌++◌, length, get_or, drop, Option, refl, sym, ap, ◌∙◌, append_assoc, arith, inl, inr}
 use Rattle.std.specs.Prelude.{slice_get}
 use Rattle.std.specs.List.{concat}
 use Rattle.std.proofs.lemmas.Bool.{false≢true}
-use Rattle.std.proofs.lemmas.List.{append-nil, length-append, take_at, drop_at}
+use Rattle.std.proofs.lemmas.List.{length-append, take_at, drop_at}
 use Rattle.std.proofs.lemmas.List.Elements.{All-head, All-tail}
 use Rattle.ip_headers.specs.declared.version.Version.{Version}
 use Rattle.ip_headers.specs.declared.version.Version.TheVariants.{V4, V6}
 use Rattle.ip_headers.specs.Options.{Placed, IsOption, AreOptions, Ends, placed_from, is_end, is_single, type_of, announced, labels_of, others_of, has_any}
-use Rattle.ip_headers.specs.Packet.{ParsedPacket}
-use Rattle.ip_headers.specs.Reading.{first_place, parsed}
+use Rattle.ip_headers.specs.Reading.{first_place}
 use Rattle.ip_headers.specs.View.{stops, options_within, options_in, view_of, Holds}
 
 -- an option announces its own length, whatever follows it

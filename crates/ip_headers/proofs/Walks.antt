@@ -1,5 +1,5 @@
 -- Lists of options: one option more, what was found in them, and that octets are one list of options.
-use Rattle.std.proofs.Common.{◌≡◌, ℕ, zero, suc, ◌+◌, ◌-◌, ◌<◌, ◌≤◌, Bool, true, false, not, ◌&&◌, ◌||◌, cond, eqb, List, [], ◌∷◌, ◌++◌, length, All, map, filter, get_or, take, drop, Option, Some, None, refl, sym, ap, subst, ◌∙◌, append_assoc, arith, inl, inr}
+use Rattle.std.proofs.Common.{◌≡◌, ℕ, ◌+◌, ◌≤◌, Bool, true, false, ◌&&◌, ◌||◌, cond, List, [], ◌∷◌, ◌++◌, length, map, filter, take, drop, Option, Some, None, refl, sym, ap, subst, ◌∙◌, append_assoc, arith}
 use Rattle.std.specs.Prelude.{slice_get, is_some}
 use Rattle.std.specs.Option.{option_map, option_or}
 use Rattle.std.specs.List.{concat}
@@ -9,7 +9,7 @@ use Rattle.std.proofs.lemmas.List.{append-nil, length-append, length-take, take-
 use Rattle.std.proofs.lemmas.List.Elements.{All-push, filter-append}
 use Rattle.ip_headers.specs.declared.version.Version.{Version}
 use Rattle.ip_headers.specs.declared.options.Found.{Found}
-use Rattle.ip_headers.specs.Options.{Placed, IsOption, AreOptions, placed_from, is_label, is_jumbo, is_other, aligned, labels_of, others_of, has_any}
+use Rattle.ip_headers.specs.Options.{Placed, IsOption, AreOptions, placed_from, is_label, is_jumbo, is_other, aligned, labels_of, has_any}
 use Rattle.ip_headers.specs.Walk.{Finds, place_of}
 
 -- the walk so far: these options were passed, and what was found in them

@@ -1,11 +1,11 @@
 -- A packet written again, part by part.
-use Rattle.std.proofs.Common.{◌≡◌, ℕ, zero, suc, ◌+◌, ◌-◌, ◌*◌, ◌/◌, ◌%◌, ◌<◌, ◌≤◌, ◌≢◌, Bool, true, false, cond, eqb, ne_eqb, ◌||◌, List, [], ◌∷◌, ◌++◌, length, take, drop, set, Option, Some, None, refl, sym, ap, subst, ◌∙◌, append_assoc, arith, length-append}
-use Rattle.std.specs.Prelude.{slice_set}
+use Rattle.std.proofs.Common.{◌≡◌, ℕ, ◌+◌, ◌-◌, ◌/◌, ◌%◌, ◌≤◌, ◌≢◌, Bool, true, false, cond, eqb, ne_eqb, ◌||◌, List, [], ◌∷◌, ◌++◌, length, Option, Some, None, refl, sym, ap, ◌∙◌, append_assoc, arith, length-append}
+use Rattle.std.specs.Prelude.{IfSome, slice_set}
 use Rattle.std.specs.Borrow.{Bor}
-use Rattle.std.specs.Option.{option_map, option_copied, ForSome}
+use Rattle.std.specs.Option.{option_map, option_copied}
 use Rattle.ip_headers.specs.declared.version.Version.{Version}
 use Rattle.ip_headers.specs.declared.version.Version.TheVariants.{V4, V6}
-use Rattle.ip_headers.specs.Sum.{be16, ones_sum}
+use Rattle.ip_headers.specs.Sum.{ones_sum}
 use Rattle.ip_headers.specs.Options.{Placed, others_of, has_any}
 use Rattle.ip_headers.specs.Packet.{ParsedPacket}
 use Rattle.ip_headers.specs.Reading.{first_place}
@@ -14,10 +14,10 @@ use Rattle.ip_headers.proofs.Walks.{is_some-map}
 use Rattle.ip_headers.specs.Written.{octets_of, room_of, length_of, gap_to, padding, packed, unit_of, filled, label_octets, octets_or_none, kept_options, option_area, hop_by_hop_with, hop_by_hop, front6, has_options, next_header, fixed4, header4, checksum4, packet_octets, relabelled, rebuilt_room, rebuilt_length, IsLabelOption}
 use Rattle.ip_headers.proofs.Layouts.{length-padding}
 
-pub label_small : (version : Version) (option : Option (Bor (List ℕ))) → ForSome option (λ o. IsLabelOption version o.now) → length (octets_or_none (option_copied option)) ≤ 254
+pub label_small : (version : Version) (option : Option (Bor (List ℕ))) → IfSome option (λ o. IsLabelOption version o.now) → length (octets_or_none (option_copied option)) ≤ 254
 label_small version None h = omega arith
-label_small V4 (Some o) h = omega (arith, (h o refl).short)
-label_small V6 (Some o) h = (h o refl).short
+label_small V4 (Some o) h = omega (arith, h.short)
+label_small V6 (Some o) h = h.short
 
 pub label_octets-is : (place : ℕ) (option : Option (List ℕ)) → label_octets (option_map (λ o. let p : Placed = record { place = place; octets = o } in p) option) ≡ octets_or_none option
 label_octets-is place None = refl

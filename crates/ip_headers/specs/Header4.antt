@@ -1,11 +1,11 @@
 -- The header of version 4 (RFC 791, section 3.1).
-use Rattle.std.specs.Prelude.{ℕ, ◌+◌, ◌*◌, ◌/◌, ◌%◌, Bool, not, ◌||◌, List, take, Option, Some, None, length, slice_index, slice_range, nat_lt, ◌==◌, if◌then◌else◌}
+use Rattle.std.specs.Prelude.{ℕ, ◌*◌, ◌/◌, ◌%◌, not, ◌||◌, List, take, Option, Some, None, length, slice_index, slice_range, nat_lt, ◌==◌, if◌then◌else◌}
 use Rattle.ip_headers.specs.declared.version.Version.TheVariants.{V4}
 use Rattle.ip_headers.specs.declared.fault.HeadFault.{HeadFault}
 use Rattle.ip_headers.specs.declared.fault.HeadKind.{HeadKind}
 use Rattle.ip_headers.specs.declared.fault.HeadKind.TheVariants.{Short, Version, HeaderLength, TotalLength, Checksum}
 use Rattle.ip_headers.specs.Sum.{word_at, ones_sum}
-use Rattle.ip_headers.specs.Options.{Placed, others_of, labels_of}
+use Rattle.ip_headers.specs.Options.{Placed}
 use Rattle.ip_headers.specs.Packet.{ParsedPacket}
 
 -- the version of a packet of either version

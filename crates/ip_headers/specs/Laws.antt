@@ -1,10 +1,10 @@
 -- What is true of the definitions alone.
-use Rattle.std.specs.Prelude.{◌≡◌, ℕ, ◌+◌, ◌-◌, ◌<◌, ◌≤◌, Bool, false, List, length, fold, All, Option, nat_lt, if◌then◌else◌}
+use Rattle.std.specs.Prelude.{◌≡◌, ℕ, ◌+◌, ◌-◌, ◌≤◌, false, List, length, Option, nat_lt, if◌then◌else◌}
 use Rattle.ip_headers.specs.declared.version.Version.{Version}
 use Rattle.ip_headers.specs.declared.fault.HeadFault.{HeadFault}
 use Rattle.ip_headers.specs.Options.{Placed}
 use Rattle.ip_headers.specs.Packet.{ParsedPacket}
-use Rattle.ip_headers.specs.Reading.{Reads, Fails, IsPacket, IsFront}
+use Rattle.ip_headers.specs.Reading.{Reads, Fails, IsPacket}
 use Rattle.ip_headers.specs.Written.{IsParsed, rebuilt_room, room_limit, rebuilt_length, hides_payload, packet_octets, next_packet}
 
 -- octets say one packet at most, or have one first fault, and never both

@@ -1,7 +1,7 @@
 -- Lists of options: of an IPv4 header (RFC 791, section 3.1) and of an IPv6 Hop-by-Hop header (RFC 8200,
 -- sections 4.2 and 4.3). The two versions differ in which types are one octet long, in what the length
 -- octet counts, and in whether type 0 ends the list.
-use Rattle.std.specs.Prelude.{◌≡◌, ℕ, ◌+◌, ◌%◌, ◌<◌, ◌≤◌, ◌⊎◌, Bool, true, false, not, ◌||◌, List, [], ◌∷◌, ◌++◌, length, All, map, filter, Option, slice_index, ◌==◌, if◌then◌else◌}
+use Rattle.std.specs.Prelude.{◌≡◌, ℕ, ◌+◌, ◌%◌, ◌<◌, ◌≤◌, ◌⊎◌, Bool, true, false, not, ◌||◌, List, [], ◌∷◌, ◌++◌, length, All, map, filter, slice_index, ◌==◌, if◌then◌else◌}
 use Rattle.std.specs.List.{concat}
 use Rattle.ip_headers.specs.declared.version.Version.{Version}
 use Rattle.ip_headers.specs.declared.version.Version.TheVariants.{V4, V6}

@@ -1,9 +1,9 @@
 -- How the fields of a packet's view give the parsed packet that contracts see. No public clause cites these
 -- words.
-use Rattle.std.specs.Prelude.{◌≡◌, ℕ, zero, suc, ◌+◌, ◌≤◌, Bool, true, false, List, [], ◌∷◌, ◌++◌, ◌||◌, length, take, drop, Option, None, slice_get, is_some, if◌then◌else◌}
+use Rattle.std.specs.Prelude.{◌≡◌, ℕ, zero, suc, ◌+◌, ◌≤◌, Bool, true, List, [], ◌∷◌, ◌++◌, ◌||◌, length, take, drop, Option, None, slice_get, is_some, if◌then◌else◌}
 use Rattle.ip_headers.specs.declared.version.Version.{Version}
 use Rattle.ip_headers.specs.declared.version.Version.TheVariants.{V4, V6}
-use Rattle.ip_headers.specs.Options.{Placed, AreOptions, Ends, placed_from, is_end, type_of, announced, labels_of, others_of, has_any}
+use Rattle.ip_headers.specs.Options.{Placed, AreOptions, Ends, placed_from, is_end, announced, labels_of, others_of, has_any}
 use Rattle.ip_headers.specs.Header6.{has_hop_by_hop}
 use Rattle.ip_headers.specs.Reading.{first_place, fixed_fault, head_of, payload_of, parsed}
 use Rattle.ip_headers.specs.Packet.{ParsedPacket}

@@ -1,5 +1,4 @@
 -- The fields of a `Packet4`.
-use Rattle.std.specs.Prelude.{List, ℕ}
 use Rattle.std.specs.Option.{option_map}
 use Rattle.ip_headers.specs.declared.version.Version.TheVariants.{V4}
 use Rattle.ip_headers.specs.declared.packet4.Packet4.TheInside.{Inside}

@@ -1,5 +1,4 @@
 -- The fields of a `Packet6`.
-use Rattle.std.specs.Prelude.{List, ℕ}
 use Rattle.std.specs.Option.{option_map}
 use Rattle.ip_headers.specs.declared.version.Version.TheVariants.{V6}
 use Rattle.ip_headers.specs.declared.packet6.Packet6.TheInside.{Inside}

@@ -1,10 +1,10 @@
 -- A packet written again (RFC 791, section 3.1; RFC 8200, sections 3, 4.2, 4.3 and appendix A).
-use Rattle.std.specs.Prelude.{◌≡◌, ℕ, zero, suc, ◌+◌, ◌-◌, ◌*◌, ◌/◌, ◌%◌, ◌^◌, ◌<◌, ◌≤◌, ◌⊎◌, Bool, true, false, not, ◌&&◌, ◌||◌, List, [], ◌∷◌, ◌++◌, length, map, All, Option, Some, None, IfSome, replicate, slice_index, is_none, is_some, ◌==◌, if◌then◌else◌}
+use Rattle.std.specs.Prelude.{◌≡◌, ℕ, zero, suc, ◌+◌, ◌-◌, ◌*◌, ◌/◌, ◌%◌, ◌^◌, ◌<◌, ◌≤◌, Bool, true, false, not, ◌&&◌, ◌||◌, List, [], ◌∷◌, ◌++◌, length, All, Option, Some, None, IfSome, replicate, slice_index, is_some, ◌==◌, if◌then◌else◌}
 use Rattle.std.specs.Option.{option_map}
 use Rattle.ip_headers.specs.declared.version.Version.{Version}
 use Rattle.ip_headers.specs.declared.version.Version.TheVariants.{V4, V6}
 use Rattle.ip_headers.specs.Sum.{be16, ones_sum}
-use Rattle.ip_headers.specs.Options.{Placed, IsOption, type_of, label_type, uncounted, is_label, is_other, is_jumbo, alignment, has_any}
+use Rattle.ip_headers.specs.Options.{Placed, IsOption, type_of, label_type, uncounted, is_other, is_jumbo, alignment, has_any}
 use Rattle.ip_headers.specs.Packet.{ParsedPacket}
 use Rattle.ip_headers.specs.Reading.{first_place}
 

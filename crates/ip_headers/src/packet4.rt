@@ -9,8 +9,8 @@
 //     destination
 //     options, to IHL x 4 octets, and then the payload
 
-ghost use Rattle.std.specs.Prelude.{◌≡◌, ◌↔◌, ◌<◌, ◌≤◌, [], length, IsTrue, IfOk, IfErr, OnOk, OnErr, None, Some};
-ghost use Rattle.std.specs.Option.{ForSome, option_copied, option_map};
+ghost use Rattle.std.specs.Prelude.{◌≡◌, ◌↔◌, ◌<◌, ◌≤◌, [], length, IsTrue, IfSome, IfOk, IfErr, OnOk, OnErr, None, Some};
+ghost use Rattle.std.specs.Option.{option_copied, option_map};
 ghost use Rattle.ip_headers.specs.declared.version.Version.TheVariants.{V4};
 ghost use Rattle.ip_headers.specs.Header4.{fixed_fault4};
 ghost use Rattle.ip_headers.specs.Reading.{IsPacket, IsHeadFault, IsFront, IsFrontFault};
@@ -211,7 +211,7 @@ pub fn rebuild4(
     hops: u8,
     out: &mut Vec<u8>,
 ) -> Result<(), Rebuild>
-    requires { ForSome option (λ o. IsLabelOption V4 o.now) }
+    requires { IfSome option (λ o. IsLabelOption V4 o.now) }
     ensures ok { OnOk result (out.new.items ≡ packet_octets (relabelled view.now (option_copied option.entry) hops)) }
     ensures no_room { (result ≡ Err Rebuild.NoRoom) ↔ (40 < rebuilt_room (relabelled view.now (option_copied option.entry) hops)) }
     ensures too_long { (result ≡ Err Rebuild.TooLong) ↔ ((rebuilt_room (relabelled view.now (option_copied option.entry) hops) ≤ 40)

@@ -9,8 +9,8 @@
 // Next header 0 says that a Hop-by-Hop Options header follows (section 4.3): the next header after it, its
 // length in units of 8 octets without the first, and the options.
 
-ghost use Rattle.std.specs.Prelude.{◌≡◌, ◌↔◌, ◌^◌, ◌<◌, ◌≤◌, [], length, IsTrue, IfOk, IfErr, OnOk, OnErr, None, Some};
-ghost use Rattle.std.specs.Option.{ForSome, option_copied, option_map};
+ghost use Rattle.std.specs.Prelude.{◌≡◌, ◌↔◌, ◌^◌, ◌<◌, ◌≤◌, [], length, IsTrue, IfSome, IfOk, IfErr, OnOk, OnErr, None, Some};
+ghost use Rattle.std.specs.Option.{option_copied, option_map};
 ghost use Rattle.ip_headers.specs.declared.version.Version.TheVariants.{V6};
 ghost use Rattle.ip_headers.specs.Header6.{has_hop_by_hop, hop_by_hop_length, fixed_fault6};
 ghost use Rattle.ip_headers.specs.Reading.{IsPacket, IsHeadFault, IsFront, IsFrontFault};
@@ -224,7 +224,7 @@ pub fn rebuild6(
     hops: u8,
     out: &mut Vec<u8>,
 ) -> Result<(), Rebuild>
-    requires { ForSome option (λ o. IsLabelOption V6 o.now) }
+    requires { IfSome option (λ o. IsLabelOption V6 o.now) }
     ensures ok { OnOk result (out.new.items ≡ packet_octets (relabelled view.now (option_copied option.entry) hops)) }
     ensures no_room { (result ≡ Err Rebuild.NoRoom) ↔ (2048 < rebuilt_room (relabelled view.now (option_copied option.entry) hops)) }
     ensures too_long { (result ≡ Err Rebuild.TooLong) ↔ ((rebuilt_room (relabelled view.now (option_copied option.entry) hops) ≤ 2048)

@@ -1,6 +1,8 @@
 // Worked values: packets made by hand from RFC 791 and RFC 8200, and the first test that fails of broken ones.
 
 ghost use Rattle.std.specs.Prelude.{◌<◌};
+ghost use Rattle.ip_headers.specs.declared.version.Version.TheVariants.{V4, V6};
+ghost use Rattle.ip_headers.specs.Written.{IsLabelOption};
 
 use super::*;
 use std::alloc::{AllocError, Global};
@@ -303,6 +305,20 @@ const FAULTS6: [(&str, &str, usize, HeadKind); 23] = [
     ),
 ];
 
+/// DOI 16, tag 1, level 2, categories 1 and 3.
+fn cipso() -> [u8; 11]
+    ensures { IsLabelOption V4 result }
+{
+    [134, 11, 0, 0, 0, 16, 1, 5, 0, 2, 80]
+}
+
+/// DOI 16, level 2, no category.
+fn calipso() -> [u8; 10]
+    ensures { IsLabelOption V6 result }
+{
+    [7, 8, 0, 0, 0, 16, 0, 2, 0xbf, 0xd9]
+}
+
 fn nibble(digit: u8) -> u8
     ensures { result < 16 }
 {
@@ -350,7 +366,7 @@ fn first_faults_of_version_6(rt: HostRuntime) -> Result<(), Fail> {
 #[test]
 fn a_labelled_packet_of_version_4(rt: HostRuntime) -> Result<(), Fail> {
     let bytes = octets(rt.alloc(), LABELLED)?;
-    let option = octets(rt.alloc(), "860b000000100105000250")?;
+    let option = cipso();
     let packet = read4(&bytes).ok().ok_or("a packet")?;
     assert_eq!(rt; packet.hops(), 64);
     assert_eq!(rt; packet.protocol(), 17);
@@ -360,7 +376,7 @@ fn a_labelled_packet_of_version_4(rt: HostRuntime) -> Result<(), Fail> {
     assert_eq!(rt; packet.payload().len(), 8);
     let (place, found) = packet.label_option().ok_or("a label option")?;
     assert_eq!(rt; place, 20);
-    assert_eq!(rt; found, option.as_slice());
+    assert_eq!(rt; found, &option[..]);
     let mut out = Vec::new(rt.alloc());
     assert_eq!(rt; rebuild4(&packet, Some(&option), 64, &mut out), Ok(()));
     assert_eq!(rt; out.as_slice(), bytes.as_slice());
@@ -376,7 +392,7 @@ fn a_labelled_packet_of_version_4(rt: HostRuntime) -> Result<(), Fail> {
 #[test]
 fn a_plain_packet_of_version_4(rt: HostRuntime) -> Result<(), Fail> {
     let bytes = octets(rt.alloc(), PLAIN)?;
-    let option = octets(rt.alloc(), "860b000000100105000250")?;
+    let option = cipso();
     let packet = front4(&bytes).ok().ok_or("a packet")?;
     assert_eq!(rt; packet.tos(), 0);
     assert_eq!(rt; packet.id(), 0);
@@ -395,7 +411,7 @@ fn a_plain_packet_of_version_4(rt: HostRuntime) -> Result<(), Fail> {
 #[test]
 fn a_router_alert_keeps_its_place(rt: HostRuntime) -> Result<(), Fail> {
     let bytes = octets(rt.alloc(), ALERT)?;
-    let option = octets(rt.alloc(), "0708000000100002bfd9")?;
+    let option = calipso();
     let packet = read6(&bytes).ok().ok_or("a packet")?;
     assert_eq!(rt; packet.class(), 0);
     assert_eq!(rt; packet.flow_label(), 0);

@@ -1,10 +1,8 @@
-use Rattle.std.proofs.Common.{◌≡◌, None, Some, refl, ap, rules}
-use Rattle.std.specs.Prelude.{IfErr}
-use Rattle.std.proofs.lemmas.Result.{err_from_is_err_and}
+use Rattle.std.proofs.Common.{refl}
 use Rattle.ip_headers.specs.declared.version.Version.TheVariants.{V4}
 use Rattle.ip_headers.specs.Options.{placed_from}
 use Rattle.ip_headers.specs.Reading.{jumbo_fault}
-use Rattle.ip_headers.proofs.Readings.{reads_from, breaks_from, holds_from, no_jumbo4}
+use Rattle.ip_headers.proofs.Readings.{reads_from, no_jumbo4}
 use Rattle.ip_headers.proofs.packet4.front4.Goals as goal
 
 pub returns-clause-ok : goal.returns-clause-ok

@@ -1,5 +1,5 @@
 use Rattle.std.specs.Option.{option_copied}
-use Rattle.std.proofs.Common.{arith, refl, ◌≡◌, length, ap}
+use Rattle.std.proofs.Common.{arith, refl, length, ap}
 use Rattle.ip_headers.specs.declared.version.Version.TheVariants.{V6}
 use Rattle.ip_headers.specs.Packet.{ParsedPacket}
 use Rattle.ip_headers.proofs.Views.{has_others-is}

@@ -1,7 +1,4 @@
-use Rattle.std.proofs.Common.{◌≡◌, ℕ, ◌+◌, ◌++◌, length, List}
-use Rattle.std.specs.List.{concat}
-use Rattle.ip_headers.specs.Options.{AreOptions, placed_from}
-use Rattle.ip_headers.specs.Walk.{Finds}
+use Rattle.std.proofs.Common.{length}
 use Rattle.ip_headers.proofs.Walks.{IsSoFar}
 use Rattle.ip_headers.proofs.walk.walk_from.Given as goal
 

@@ -1,4 +1,4 @@
-use Rattle.std.proofs.Common.{rules, ◌||◌}
+use Rattle.std.proofs.Common.{rules}
 use Rattle.ip_headers.proofs.Walks.{Finds-push}
 use Rattle.ip_headers.proofs.walk.with_option.Goals as goal
 

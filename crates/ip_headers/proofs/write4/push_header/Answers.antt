@@ -1,5 +1,5 @@
 use Rattle.std.specs.Option.{option_copied}
-use Rattle.std.proofs.Common.{rules, arith, ◌≡◌, length, ◌++◌, List, ℕ, ap, ◌∙◌}
+use Rattle.std.proofs.Common.{rules, ◌≡◌, length, ◌++◌, List, ℕ, ap, ◌∙◌}
 use Rattle.std.proofs.lemmas.Result.{on_ok_weaker}
 use Rattle.ip_headers.specs.declared.version.Version.TheVariants.{V4}
 use Rattle.ip_headers.specs.Written.{padding, gap_to}

@@ -1,4 +1,3 @@
-use Rattle.std.specs.Option.{option_copied}
 use Rattle.std.proofs.Common.{refl}
 use Rattle.ip_headers.proofs.Layouts.{last_write}
 use Rattle.ip_headers.proofs.Writing.{with_checksum4}

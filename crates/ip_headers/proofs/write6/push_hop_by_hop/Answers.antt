@@ -1,4 +1,4 @@
-use Rattle.std.proofs.Common.{arith, rules, ◌≡◌, ◌++◌, length, ℕ, ap, ◌∙◌, sym, refl}
+use Rattle.std.proofs.Common.{arith, rules, ◌≡◌, ◌++◌, length, ℕ, ap, ◌∙◌, sym}
 use Rattle.std.specs.Option.{option_copied}
 use Rattle.std.proofs.lemmas.Result.{on_ok_weaker}
 use Rattle.std.proofs.lemmas.List.{append-nil}

@@ -1,4 +1,4 @@
-use Rattle.std.proofs.Common.{ap, cond, ◌≡◌, ◌∙◌, ◌++◌, List, ℕ}
+use Rattle.std.proofs.Common.{ap, cond, ◌∙◌, ◌++◌, List, ℕ}
 use Rattle.std.specs.Option.{option_copied}
 use Rattle.ip_headers.specs.declared.version.Version.TheVariants.{V6}
 use Rattle.ip_headers.specs.View.{writes_any, area_with}

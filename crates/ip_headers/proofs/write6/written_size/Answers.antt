@@ -1,4 +1,4 @@
-use Rattle.std.proofs.Common.{arith, ◌≡◌, ◌||◌, length, Bool, ap, ◌∙◌, sym, false, true}
+use Rattle.std.proofs.Common.{arith, ◌≡◌, ◌||◌, Bool, ap, ◌∙◌, sym}
 use Rattle.std.specs.Prelude.{is_some}
 use Rattle.std.specs.Option.{option_copied}
 use Rattle.ip_headers.specs.declared.version.Version.TheVariants.{V6}

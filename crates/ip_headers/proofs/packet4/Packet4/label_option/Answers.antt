@@ -1,5 +1,3 @@
-use Rattle.std.proofs.Common.{◌≡◌}
-use Rattle.std.specs.Option.{option_map}
 use Rattle.ip_headers.specs.declared.version.Version.TheVariants.{V4}
 use Rattle.ip_headers.proofs.Views.{view_label}
 use Rattle.ip_headers.proofs.packet4.Packet4.label_option.Goals as goal

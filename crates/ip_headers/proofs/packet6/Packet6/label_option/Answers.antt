@@ -1,5 +1,3 @@
-use Rattle.std.proofs.Common.{◌≡◌}
-use Rattle.std.specs.Option.{option_map}
 use Rattle.ip_headers.specs.declared.version.Version.TheVariants.{V6}
 use Rattle.ip_headers.proofs.Views.{view_label}
 use Rattle.ip_headers.proofs.packet6.Packet6.label_option.Goals as goal
