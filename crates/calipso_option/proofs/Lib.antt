@@ -1,4 +1,6 @@
 pub mod Checks
 pub mod Shapes
+pub mod Fronts
+pub mod Faults
 pub mod Words
 pub mod Written

@@ -1,23 +1,18 @@
--- Options by their places: which octet strings are options, no option begins another, and the places of faults.
+-- Options by their places: which octet strings are options, and no option begins another.
 use Rattle.std.proofs.Common.{◌≡◌, ℕ, zero, suc, ◌+◌, ◌-◌, ◌*◌, ◌/◌, ◌%◌, ◌^◌, ◌<◌, ◌≤◌, List, [], ◌∷◌, ◌++◌, length, get_or, take, drop, refl, sym, ap, subst, ◌∙◌, arith, inl, inr, length-append, length-drop}
 use Rattle.std.specs.Prelude.{slice_index}
 use Rattle.std.specs.Int.{w16, w32, to_be_bytes, to_le_bytes}
 use Rattle.std.proofs.lemmas.Bool.{cases_lt}
-use Rattle.std.proofs.lemmas.List.{append-nil, nil_from_length, length-take, get_or-take, get_or-drop, get_or_append_left, get_or-append_right, get_or_past}
-use Rattle.octet_grammar.specs.declared.fault.WireKind.TheVariants.{Octet, End}
+use Rattle.std.proofs.lemmas.List.{append-nil, nil_from_length, length-take, get_or-take, get_or_append_left, get_or_past}
 use Rattle.octet_grammar.specs.Octets.{IsOctets}
-use Rattle.octet_grammar.specs.Front.{IsFront, IsPrefixFree, ReadsFront}
-use Rattle.octet_grammar.specs.Fault.{FailsFront}
-use Rattle.octet_grammar.proofs.Fronts.{at_agree}
-use Rattle.octet_grammar.proofs.Faults.{HasAt, fails_outside}
-use Rattle.octet_grammar.proofs.Octets.{zeros, length-zeros, zero_at}
+use Rattle.octet_grammar.specs.Front.{IsPrefixFree, ReadsFront}
 use Rattle.category_bitmap.specs.Bitmap.{bitmap_cats}
 use Rattle.calipso_option.specs.declared.calipso.Calipso.{Calipso}
 use Rattle.calipso_option.specs.Calipso.{option_octets, IsCalipsoShape, IsCalipso}
 use Rattle.calipso_option.specs.declared.fault.CalipsoFault.{CalipsoFault}
 use Rattle.calipso_option.specs.declared.fault.CalipsoFault.TheVariants.{Wire, BadChecksum, OutOfMemory}
 use Rattle.calipso_option.specs.Fault.{IsFaulty}
-use Rattle.calipso_option.specs.Layout.{IsLength, doi_at, checksum_at, IsSoFar, IsLaidOut, IsFalseChecksum}
+use Rattle.calipso_option.specs.Layout.{IsLength, doi_at, checksum_at, IsLaidOut, IsFalseChecksum}
 
 -- ---- an octet string whose places fit is an option, and each option's places fit
 
@@ -72,6 +67,23 @@ shape_of s octets laid =
       stored = omega (arith, octets.at 8, octets.at 9);
       carries = refl;
     }
+
+-- the octets of an option are octets
+octet_laid : (doi words level checksum : ℕ) (bitmap : List ℕ) → words ≤ 61 → level < 256 → IsOctets bitmap → (i : ℕ) → slice_index (option_octets doi words level checksum bitmap) i < 256
+octet_laid doi words level checksum bitmap few small octets zero = omega arith
+octet_laid doi words level checksum bitmap few small octets (suc zero) = omega arith
+octet_laid doi words level checksum bitmap few small octets (suc (suc zero)) = omega arith
+octet_laid doi words level checksum bitmap few small octets (suc (suc (suc zero))) = omega arith
+octet_laid doi words level checksum bitmap few small octets (suc (suc (suc (suc zero)))) = omega arith
+octet_laid doi words level checksum bitmap few small octets (suc (suc (suc (suc (suc zero))))) = omega arith
+octet_laid doi words level checksum bitmap few small octets (suc (suc (suc (suc (suc (suc zero)))))) = omega arith
+octet_laid doi words level checksum bitmap few small octets (suc (suc (suc (suc (suc (suc (suc zero))))))) = omega arith
+octet_laid doi words level checksum bitmap few small octets (suc (suc (suc (suc (suc (suc (suc (suc zero)))))))) = omega arith
+octet_laid doi words level checksum bitmap few small octets (suc (suc (suc (suc (suc (suc (suc (suc (suc zero))))))))) = omega arith
+octet_laid doi words level checksum bitmap few small octets (suc (suc (suc (suc (suc (suc (suc (suc (suc (suc i)))))))))) = octets.at i
+
+pub octets_laid : (doi words level checksum : ℕ) (bitmap : List ℕ) → words ≤ 61 → level < 256 → IsOctets bitmap → IsOctets (option_octets doi words level checksum bitmap)
+octets_laid doi words level checksum bitmap few small octets = record { at = octet_laid doi words level checksum bitmap few small octets }
 
 -- the values of the fixed places
 record Places (s : List ℕ) (v : Calipso × ℕ) (words : ℕ) (bitmap : List ℕ) : Type 0 where
@@ -174,201 +186,3 @@ pub options_free : IsPrefixFree IsCalipso
 options_free a b v w m n =
     let same = shapes_free a b (v, m.stored) (w, n.stored) m.shape n.shape in
     (same.0, ap (λ x. x.0) same.1)
-
--- ---- fronts: what fits so far can be made whole
-
-sample : ℕ → List ℕ
-sample size = 7 ∷ size ∷ 0 ∷ 0 ∷ 0 ∷ 1 ∷ ((size - 8) / 4) ∷ 0 ∷ 0 ∷ 0 ∷ zeros (size - 8)
-
-sample_long : (size : ℕ) → 8 ≤ size → length (sample size) ≡ 2 + size
-unfolding sample
-sample_long size le = omega (arith, length-zeros (size - 8))
-
-sample_octet : (size : ℕ) → IsLength size → (i : ℕ) → slice_index (sample size) i < 256
-unfolding sample
-sample_octet size is zero = omega arith
-sample_octet size is (suc zero) = omega (arith, is.high)
-sample_octet size is (suc (suc zero)) = omega arith
-sample_octet size is (suc (suc (suc zero))) = omega arith
-sample_octet size is (suc (suc (suc (suc zero)))) = omega arith
-sample_octet size is (suc (suc (suc (suc (suc zero))))) = omega arith
-sample_octet size is (suc (suc (suc (suc (suc (suc zero)))))) = omega (arith, is.high)
-sample_octet size is (suc (suc (suc (suc (suc (suc (suc zero))))))) = omega arith
-sample_octet size is (suc (suc (suc (suc (suc (suc (suc (suc zero)))))))) = omega arith
-sample_octet size is (suc (suc (suc (suc (suc (suc (suc (suc (suc zero))))))))) = omega arith
-sample_octet size is (suc (suc (suc (suc (suc (suc (suc (suc (suc (suc i)))))))))) = zero_at (size - 8) i
-
-record SampleHead (size : ℕ) : Type 0 where
-  type : get_or (sample size) 0 0 ≡ 7
-  second : get_or (sample size) 1 0 ≡ size
-  named : get_or (sample size) 5 0 ≡ 1
-  words : get_or (sample size) 6 0 ≡ (size - 8) / 4
-
-sample_head : (size : ℕ) → SampleHead size
-unfolding sample
-sample_head size = record { type = refl; second = refl; named = refl; words = refl }
-
--- the first o octets of s fit, in an option with this length octet
-pub record Fits (s : List ℕ) (o size : ℕ) : Type 0 where
-  pub within : o ≤ length s
-  pub short : o ≤ 2 + size
-  pub is : IsLength size
-  pub type : 0 < o → get_or s 0 0 ≡ 7
-  pub second : 1 < o → get_or s 1 0 ≡ size
-  pub named : 5 < o → 0 < doi_at s
-  pub words : 6 < o → get_or s 6 0 ≡ (size - 8) / 4
-  pub octets : IsOctets s
-
-completed : List ℕ → ℕ → ℕ → List ℕ
-completed s o size = take o s ++ drop o (sample size)
-
-completed_low : (s : List ℕ) (o size i : ℕ) → o ≤ length s → i < o → get_or (completed s o size) i 0 ≡ get_or s i 0
-unfolding completed
-completed_low s o size i le lt =
-    get_or_append_left (take o s) (drop o (sample size)) 0 i (omega (arith, length-take o s)) ∙ get_or-take o s i 0 lt
-
-completed_high : (s : List ℕ) (o size i : ℕ) → o ≤ length s → o ≤ i → get_or (completed s o size) i 0 ≡ get_or (sample size) i 0
-unfolding completed
-completed_high s o size i le ge =
-    let long : length (take o s) ≡ o = omega (arith, length-take o s) in
-    let back : o + (i - o) ≡ i = omega arith in
-    get_or-append_right (take o s) (drop o (sample size)) o i 0 long ge
-    ∙ get_or-drop o (sample size) (i - o) 0
-    ∙ ap (λ k. get_or (sample size) k 0) back
-
-completed_long : (s : List ℕ) (o size : ℕ) → Fits s o size → length (completed s o size) ≡ 2 + size
-unfolding completed
-completed_long s o size fits =
-    omega (arith, fits.within, fits.short, length-append (take o s) (drop o (sample size)), length-take o s, length-drop o (sample size), sample_long size fits.is.low)
-
-completed_octets : (s : List ℕ) (o size : ℕ) → Fits s o size → IsOctets (completed s o size)
-completed_octets s o size fits =
-    record {
-      at = λ i. elim (cases_lt i o) [
-        | inl lt ↦ omega (arith, completed_low s o size i fits.within lt, fits.octets.at i)
-        | inr ge ↦ omega (arith, completed_high s o size i fits.within ge, sample_octet size fits.is i)
-      ];
-    }
-
-completed_laid : (s : List ℕ) (o size : ℕ) → Fits s o size → IsLaidOut (completed s o size) (length (completed s o size))
-completed_laid s o size fits =
-    let t = completed s o size in
-    let head = sample_head size in
-    let low = λ (i : ℕ) (lt : i < o). completed_low s o size i fits.within lt in
-    let high = λ (i : ℕ) (ge : o ≤ i). completed_high s o size i fits.within ge in
-    let second : get_or t 1 0 ≡ size =
-    elim (cases_lt 1 o) [
-      | inl lt ↦ low 1 lt ∙ fits.second lt
-      | inr ge ↦ high 1 ge ∙ head.second
-    ] in
-    record {
-      within = omega arith;
-      type = elim (cases_lt 0 o) [
-        | inl lt ↦ low 0 lt ∙ fits.type lt
-        | inr ge ↦ high 0 ge ∙ head.type
-      ];
-      size = subst IsLength (sym second) fits.is;
-      octets = omega (arith, second, completed_long s o size fits);
-      named = elim (cases_lt 5 o) [
-        | inl lt ↦ omega (arith, fits.named lt, low 2 (omega arith), low 3 (omega arith), low 4 (omega arith), low 5 lt)
-        | inr ge ↦ omega (arith, high 5 ge, head.named)
-      ];
-      words = elim (cases_lt 6 o) [
-        | inl lt ↦ low 6 lt ∙ fits.words lt ∙ ap (λ n. (n - 8) / 4) (sym second)
-        | inr ge ↦ high 6 ge ∙ head.words ∙ ap (λ n. (n - 8) / 4) (sym second)
-      ];
-    }
-
-pub front_of : (s : List ℕ) (o size : ℕ) → Fits s o size → IsFront IsCalipsoShape (take o s)
-unfolding completed
-front_of s o size fits =
-    let t = completed s o size in
-    record {
-      more = drop o (sample size);
-      value = (value_at t, checksum_at t);
-      member = shape_of t (completed_octets s o size fits) (completed_laid s o size fits);
-    }
-
--- ---- what each option has at a place
-
-pub has_type : (s : List ℕ) → HasAt IsCalipsoShape s 0 (λ b. b ≡ 7)
-has_type s t v m agree = let laid = laid_out t v m in (omega (arith, laid.octets), laid.type)
-
-pub has_size : (s : List ℕ) → HasAt IsCalipsoShape s 1 IsLength
-has_size s t v m agree = let laid = laid_out t v m in (omega (arith, laid.octets), laid.size)
-
-pub has_doi : (s : List ℕ) → HasAt IsCalipsoShape s 5 (λ b. 0 < 16777216 * slice_index s 2 + 65536 * slice_index s 3 + 256 * slice_index s 4 + b)
-has_doi s t v m agree =
-    let laid = laid_out t v m in
-    (
-      omega (arith, laid.octets, laid.size.low),
-      omega (arith, laid.named, at_agree 2 5 t s (omega arith) agree, at_agree 3 5 t s (omega arith) agree, at_agree 4 5 t s (omega arith) agree),
-    )
-
-pub has_words : (s : List ℕ) → HasAt IsCalipsoShape s 6 (λ b. b ≡ (slice_index s 1 - 8) / 4)
-has_words s t v m agree =
-    let laid = laid_out t v m in
-    (omega (arith, laid.octets, laid.size.low), laid.words ∙ ap (λ n. (n - 8) / 4) (at_agree 1 6 t s (omega arith) agree))
-
--- one more octet, where the octets so far are fewer than the length octet says
-pub has_more : (s : List ℕ) (o : ℕ) → (1 < o → o < 2 + slice_index s 1) → HasAt IsCalipsoShape s o (λ b. b < 256)
-has_more s o short t v m agree =
-    let laid = laid_out t v m in
-    let more : o < length t =
-    elim (cases_lt 1 o) [
-      | inl lt ↦ omega (arith, laid.octets, short lt, at_agree 1 o t s lt agree)
-      | inr ge ↦ omega (arith, laid.octets, laid.size.low)
-    ] in
-    (more, m.octets.at o)
-
--- ---- the places of faults
-
-pub unfit_at : (s : List ℕ) (o size : ℕ) (P : ℕ → Type 0) → o < length s → Fits s o size → HasAt IsCalipsoShape s o P → (P (slice_index s o) → ⊥) → FailsFront IsCalipsoShape s (record { octet = o; kind = Octet })
-unfit_at s o size P lt fits has not =
-    fails_outside IsCalipsoShape shapes_free s o P (record { octet = o; kind = Octet }) (omega arith) (front_of s o size fits) has refl (lt, not)
-
-pub ends_at : (s : List ℕ) (size : ℕ) → Fits s (length s) size → (1 < length s → length s < 2 + slice_index s 1) → FailsFront IsCalipsoShape s (record { octet = length s; kind = End })
-ends_at s size fits short =
-    let o = length s in
-    fails_outside IsCalipsoShape shapes_free s o (λ b. b < 256) (record { octet = o; kind = End }) (omega arith) (front_of s o size fits) (has_more s o short) refl refl
-
--- ---- how far the octets fit
-
-eight : IsLength 8
-eight = record { low = omega arith; high = omega arith; whole = refl }
-
-pub fits_first : (s : List ℕ) (o : ℕ) → o ≤ 1 → o ≤ length s → (0 < o → get_or s 0 0 ≡ 7) → IsOctets s → Fits s o 8
-fits_first s o few le typed octets =
-    record {
-      within = le;
-      short = omega arith;
-      is = eight;
-      type = typed;
-      second = λ lt. absurd (omega arith);
-      named = λ lt. absurd (omega arith);
-      words = λ lt. absurd (omega arith);
-      octets = octets;
-    }
-
-pub fits_then : (s : List ℕ) (o : ℕ) → o ≤ length s → 2 ≤ length s → get_or s 0 0 ≡ 7 → IsLength (get_or s 1 0) → o ≤ 2 + get_or s 1 0 → (5 < o → 0 < doi_at s) → (6 < o → get_or s 6 0 ≡ (get_or s 1 0 - 8) / 4) → IsOctets s → Fits s o (get_or s 1 0)
-fits_then s o le long typed sized short named counted octets =
-    record {
-      within = le;
-      short = short;
-      is = sized;
-      type = λ lt. typed;
-      second = λ lt. refl;
-      named = named;
-      words = counted;
-      octets = octets;
-    }
-
-pub so_far_ends : (s : List ℕ) → IsOctets s → IsSoFar s → (1 < length s → length s < 2 + slice_index s 1) → FailsFront IsCalipsoShape s (record { octet = length s; kind = End })
-so_far_ends s octets so_far short =
-    elim (cases_lt 1 (length s)) [
-      | inl lt ↦
-          ends_at s (get_or s 1 0)
-          (fits_then s (length s) (omega arith) lt (so_far.type (omega arith)) (so_far.size lt) (omega (arith, short lt)) so_far.named so_far.words octets)
-          short
-      | inr ge ↦ ends_at s 8 (fits_first s (length s) ge (omega arith) so_far.type octets) short
-    ]

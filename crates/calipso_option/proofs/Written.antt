@@ -1,29 +1,15 @@
 -- A written option is an option with the DOI and label that it was written from.
-use Rattle.std.proofs.Common.{ℕ, zero, suc, ◌*◌, ◌^◌, ◌<◌, ◌≤◌, List, refl, sym, arith}
-use Rattle.std.specs.Prelude.{slice_index}
-use Rattle.octet_grammar.specs.Octets.{IsOctets}
+use Rattle.std.proofs.Common.{ℕ, ◌*◌, ◌^◌, ◌<◌, refl, sym, arith}
 use Rattle.mls_label.specs.declared.label.Label.{Label}
 use Rattle.mls_label.specs.Cats.{IsCats}
 use Rattle.category_bitmap.specs.Bitmap.{bitmap_of}
 use Rattle.category_bitmap.proofs.Written.{length-bitmap_of, bitmap_octets, written_reads_back}
 use Rattle.calipso_option.specs.Crc.{crc_of}
-use Rattle.calipso_option.specs.Calipso.{option_octets, IsCalipsoShape, IsCalipso}
+use Rattle.calipso_option.specs.Calipso.{IsCalipsoShape, IsCalipso}
 use Rattle.calipso_option.specs.Text.{IsExpressible, words_needed, text_with, calipso_text}
 use Rattle.calipso_option.proofs.Checks.{crc_small}
+use Rattle.calipso_option.proofs.Shapes.{octets_laid}
 use Rattle.calipso_option.proofs.Words.{words_are, words_few}
-
-laid_octets : (doi words level checksum : ℕ) (bitmap : List ℕ) → words ≤ 61 → level < 256 → IsOctets bitmap → (i : ℕ) → slice_index (option_octets doi words level checksum bitmap) i < 256
-laid_octets doi words level checksum bitmap few small octets zero = omega arith
-laid_octets doi words level checksum bitmap few small octets (suc zero) = omega arith
-laid_octets doi words level checksum bitmap few small octets (suc (suc zero)) = omega arith
-laid_octets doi words level checksum bitmap few small octets (suc (suc (suc zero))) = omega arith
-laid_octets doi words level checksum bitmap few small octets (suc (suc (suc (suc zero)))) = omega arith
-laid_octets doi words level checksum bitmap few small octets (suc (suc (suc (suc (suc zero))))) = omega arith
-laid_octets doi words level checksum bitmap few small octets (suc (suc (suc (suc (suc (suc zero)))))) = omega arith
-laid_octets doi words level checksum bitmap few small octets (suc (suc (suc (suc (suc (suc (suc zero))))))) = omega arith
-laid_octets doi words level checksum bitmap few small octets (suc (suc (suc (suc (suc (suc (suc (suc zero)))))))) = omega arith
-laid_octets doi words level checksum bitmap few small octets (suc (suc (suc (suc (suc (suc (suc (suc (suc zero))))))))) = omega arith
-laid_octets doi words level checksum bitmap few small octets (suc (suc (suc (suc (suc (suc (suc (suc (suc (suc i)))))))))) = octets.at i
 
 text_shape : (doi : ℕ) (label : Label) (checksum : ℕ) → 0 < doi → doi < 2 ^ 32 → label.level < 256 → IsCats label.cats → IsExpressible label → checksum < 2 ^ 16 → IsCalipsoShape (text_with doi label checksum) (record { doi = doi; label = label }, checksum)
 text_shape doi label checksum named fits level cats express stored =
@@ -35,7 +21,7 @@ text_shape doi label checksum named fits level cats express stored =
       is = refl;
       long = length-bitmap_of label.cats (4 * words);
       room = words_few label express;
-      octets = record { at = laid_octets doi words label.level checksum bitmap (words_few label express) level (bitmap_octets label.cats (4 * words)) };
+      octets = octets_laid doi words label.level checksum bitmap (words_few label express) level (bitmap_octets label.cats (4 * words));
       named = named;
       fits = fits;
       stored = stored;

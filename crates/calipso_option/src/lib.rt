@@ -6,8 +6,8 @@
 mod calipso;
 mod crc;
 mod fault;
-mod layout;
 pub mod laws;
+mod layout;
 mod read;
 #[cfg(test)]
 mod tests;

@@ -1,6 +1,6 @@
 use Rattle.std.proofs.Common.{arith}
 use Rattle.octet_grammar.proofs.Octets.{octets_of}
-use Rattle.calipso_option.proofs.Shapes.{so_far_ends}
+use Rattle.calipso_option.proofs.Faults.{so_far_ends}
 use Rattle.calipso_option.proofs.layout.read_layout.Goals as goal
 use Rattle.calipso_option.proofs.layout.read_layout.Goals.{then-end-lt2-via-then-end-lt2, then-end-lt2-via-else-end-lt2+then-end-bytes}
 

@@ -3,7 +3,7 @@ use Rattle.std.specs.Prelude.{slice_index}
 use Rattle.std.proofs.lemmas.Bool.{false≢true}
 use Rattle.octet_grammar.proofs.Octets.{octets_of}
 use Rattle.calipso_option.specs.Layout.{IsLength, doi_at}
-use Rattle.calipso_option.proofs.Shapes.{unfit_at, fits_first, fits_then, has_type, has_size, has_doi, has_words}
+use Rattle.calipso_option.proofs.Faults.{unfit_at, fits_first, fits_then, has_type, has_size, has_doi, has_words}
 use Rattle.calipso_option.proofs.layout.unfit_octet.Goals as goal
 use Rattle.calipso_option.proofs.layout.unfit_octet.Goals.{else-end-gt0-via-then-end-gt0+else-bytes-ne7, else-end-gt0-via-else-end-gt0, else-end-gt1-via-then-end-gt1+else-not-is_length, else-end-gt1-via-else-end-gt1, else-end-gt5-via-then-end-gt5+else-doi_of-eq0, else-end-gt5-via-else-end-gt5}
 
