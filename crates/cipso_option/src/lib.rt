@@ -11,3 +11,6 @@ mod write;
 pub use cipso::Cipso;
 pub use read::read_cipso;
 pub use write::{first_tag, write_cipso};
+
+#[cfg(test)]
+mod tests;

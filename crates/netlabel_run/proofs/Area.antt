@@ -53,7 +53,7 @@ area_from_frame area doi size label octets f tag =
     let spelled : to_be_bytes w32 doi ≡ slice_range area 2 6 = be_bytes_4 (slice_range area 2 6) doi (length_of_four area f.six) (four_octets area octets) f.doi_is in
     let announced : slice_index area 1 ≡ 6 + length (tag_in area size) = omega (arith, long, f.announced) in
     let whole : area ≡ 134 ∷ (6 + length (tag_in area size)) ∷ to_be_bytes w32 doi ++ (tag_in area size ++ drop size area) =
-        six_cells area f.six ∙ same_cells _ _ _ _ _ _ _ _ f.type announced (sym spelled) (tag_then_padding area size f.least) in
+    six_cells area f.six ∙ same_cells _ _ _ _ _ _ _ _ f.type announced (sym spelled) (tag_then_padding area size f.least) in
     record {
       option = 134 ∷ (6 + length (tag_in area size)) ∷ to_be_bytes w32 doi ++ tag_in area size;
       padding = drop size area;
@@ -70,19 +70,22 @@ frame_from_area area doi label is =
     let behind : drop 6 area ≡ o.tag ++ is.padding = ap (drop 6) whole in
     let tag_is : tag_in area size ≡ o.tag = ap (take (size - 6)) behind ∙ take_at o.tag is.padding (size - 6) (omega arith) in
     let padding_is : drop size area ≡ is.padding =
-        sym (drop-drop (length o.tag) 6 area) ∙ ap (drop (length o.tag)) behind ∙ drop_at o.tag is.padding (length o.tag) refl in
-    let long : length area ≡ size + length is.padding = omega (arith, ap length whole, length-append o.tag is.padding) in
-    (size, record {
-      six = omega arith;
-      type = ap (λ t. slice_index t 0) whole;
-      announced = sym (ap (λ t. slice_index t 1) whole);
-      least = omega arith;
-      most = omega arith;
-      doi_is = sym (ap (λ t. from_be_bytes w32 (slice_range t 2 6)) whole ∙ from_be_bytes-to_be_bytes_4 doi o.fits);
-      named = o.named;
-      fits = o.fits;
-      zeros = subst (All (λ octet. octet ≡ 0)) (sym padding_is) is.zeros;
-    }, subst (λ t. IsTag t (One, label)) (sym tag_is) o.carries)
+    sym (drop-drop (length o.tag) 6 area) ∙ ap (drop (length o.tag)) behind ∙ drop_at o.tag is.padding (length o.tag) refl in
+    let long : length area ≡ size + length is.padding = omega (arith, ap length whole, length-append o.tag is.padding) in (
+      size,
+      record {
+        six = omega arith;
+        type = ap (λ t. slice_index t 0) whole;
+        announced = sym (ap (λ t. slice_index t 1) whole);
+        least = omega arith;
+        most = omega arith;
+        doi_is = sym (ap (λ t. from_be_bytes w32 (slice_range t 2 6)) whole ∙ from_be_bytes-to_be_bytes_4 doi o.fits);
+        named = o.named;
+        fits = o.fits;
+        zeros = subst (All (λ octet. octet ≡ 0)) (sym padding_is) is.zeros;
+      },
+      subst (λ t. IsTag t (One, label)) (sym tag_is) o.carries,
+    )
 
 -- what was read at the front of a whole tag is the whole tag
 pub whole_tag : (s : List ℕ) (n : ℕ) (tag : Tag) (label other : Label) → ReadsFront IsTag s (tag, label) n → IsTag s (One, other) → (tag ≡ One) × (n ≡ length s)

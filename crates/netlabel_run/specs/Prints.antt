@@ -28,8 +28,8 @@ IsFirst R status = (reported : ℕ) (text : List ℕ) → R reported text → (s
 abbrev pub Prints : Bool → List ℕ → Ending → Ending → List ℕ → List ℕ → ℕ → ℕ → Type 0
 Prints told line ending result old new before after =
     ((result ≡ ending) × (after ≡ before) × (IsTrue told → new ≡ old ++ line))
-  ⊎ ((result ≡ OutOfMemory) × (IsTrue told → WritesPrefix line old new))
-  ⊎ ((result ≡ after_write_fault_of ending) × Rose before after × (IsTrue told → WritesPrefix line old new))
+    ⊎ ((result ≡ OutOfMemory) × (IsTrue told → WritesPrefix line old new))
+    ⊎ ((result ≡ after_write_fault_of ending) × Rose before after × (IsTrue told → WritesPrefix line old new))
 
 -- How a call ends that is to report by R and reads one file: the numbers are the faults of reading that file and of
 -- writing, before and after.

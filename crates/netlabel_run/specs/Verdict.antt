@@ -25,11 +25,11 @@ delivered_line label = line_of (codes "delivered " ++ label_text label)
 abbrev pub IsAnswer : ℕ → Label → ℕ → Label → List ℕ → Type 0
 IsAnswer known level doi label line =
     ((doi ≢ known) × (line ≡ unknown_doi_line))
-  ⊎ ((doi ≡ known) × (Dominates level label → ⊥) × (line ≡ not_dominated_line))
-  ⊎ ((doi ≡ known) × Dominates level label × (line ≡ delivered_line label))
+    ⊎ ((doi ≡ known) × (Dominates level label → ⊥) × (line ≡ not_dominated_line))
+    ⊎ ((doi ≡ known) × Dominates level label × (line ≡ delivered_line label))
 
 -- of the octets of a file
 abbrev pub IsVerdict : ℕ → Label → List ℕ → List ℕ → Type 0
 IsVerdict known level octets line =
     (((doi : ℕ) (label : Label) → Carries octets doi label → ⊥) × (line ≡ bad_header_line))
-  ⊎ ((doi : ℕ) × (label : Label) × Carries octets doi label × IsAnswer known level doi label line)
+    ⊎ ((doi : ℕ) × (label : Label) × Carries octets doi label × IsAnswer known level doi label line)

@@ -12,7 +12,11 @@ pub(crate) fn is_header(octets: &[u8]) -> bool
     }
     let header = length_of(octets);
     let total = usize::from(word(octets[2], octets[3]));
-    octets[0] / 16 == 4 && header >= 20 && header <= total && total <= octets.len() && is_checked(&octets[..header])
+    octets[0] / 16 == 4
+        && header >= 20
+        && header <= total
+        && total <= octets.len()
+        && is_checked(&octets[..header])
 }
 
 /// The header's length in octets: IHL counts words of four.

@@ -39,7 +39,11 @@ pub(crate) fn judge<D: Depot, S: Sink>(
 {
     let octets = match read_whole(alloc, depot, file, PACKET_LIMIT) {
         Ok(octets) => octets,
-        Err(WholeFault::TooLong) => return report::print(out, report::packet_limit(), Ending::Limit),
+        Err(WholeFault::TooLong) => return report::print(
+            out,
+            report::packet_limit(),
+            Ending::Limit,
+        ),
         Err(WholeFault::Failed) => return Ending::ReadFault,
         Err(WholeFault::OutOfMemory) => return Ending::OutOfMemory,
     };
@@ -61,7 +65,12 @@ fn verdict(alloc: Global, known: u32, level: &Label, octets: &[u8]) -> Result<Ve
 }
 
 /// The same for what a packet carries.
-fn answer(alloc: Global, known: u32, level: &Label, carried: &Carried) -> Result<Vec<u8>, OutOfMemory>
+fn answer(
+    alloc: Global,
+    known: u32,
+    level: &Label,
+    carried: &Carried,
+) -> Result<Vec<u8>, OutOfMemory>
     ensures { IfOk result (λ line. IsAnswer known level.now carried.now.doi carried.now.label line.items) }
 {
     if carried.doi != known {

@@ -8,17 +8,15 @@ mod judge;
 mod option;
 mod outcome;
 mod report;
+#[cfg(test)]
+mod tests;
 mod top;
 mod words;
 
-#[cfg(test)]
-mod tests;
-
 use net_io::{RealDepot, RealSink};
 use std::alloc::AllocError;
-use std::env;
-use std::io;
 use std::process::ExitCode;
+use std::{env, io};
 use top::netlabel;
 
 /// The status where memory ran out before the call.
