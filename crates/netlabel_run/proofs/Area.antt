@@ -1,5 +1,5 @@
 -- A list of options that is one option and zeros, by its first six octets, its tag and its end.
-use Rattle.std.proofs.Common.{◌≡◌, ℕ, suc, ◌+◌, ◌-◌, ◌<◌, ◌≤◌, ◌^◌, List, [], ◌∷◌, ◌++◌, length, get_or, take, drop, All, refl, sym, ap, subst, ◌∙◌, append_assoc, arith, inl, inr}
+use Rattle.std.proofs.Common.{◌≡◌, ℕ, ◌+◌, ◌-◌, ◌<◌, ◌≤◌, List, [], ◌∷◌, ◌++◌, length, get_or, take, drop, All, refl, sym, ap, subst, ◌∙◌, arith, inl, inr}
 use Rattle.std.specs.Prelude.{slice_range, slice_index}
 use Rattle.std.specs.Int.{w32, to_be_bytes, from_be_bytes}
 use Rattle.std.proofs.lemmas.List.{take-append-drop, length-append, length-take, length-drop, get_or-take, get_or-drop, get_or_past, take_all, take_at, drop_at, drop-drop}
@@ -11,7 +11,7 @@ use Rattle.mls_label.specs.declared.label.Tag.TheVariants.{One}
 use Rattle.octet_grammar.specs.Front.{ReadsFront, HasNoMember}
 use Rattle.cipso_tags.specs.Tag.{IsTag}
 use Rattle.cipso_tags.proofs.Headers.{tags_free}
-use Rattle.netlabel_run.specs.Option.{IsOption, IsArea, Frames}
+use Rattle.netlabel_run.specs.Option.{IsArea, Frames}
 
 -- the octets of a tag behind the six
 abbrev pub tag_in : List ℕ → ℕ → List ℕ

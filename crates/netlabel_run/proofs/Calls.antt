@@ -1,18 +1,15 @@
 -- From how a command ends to how the call of the program ends.
-use Rattle.std.proofs.Common.{◌≡◌, ◌≢◌, ℕ, ◌^◌, ◌<◌, Bool, List, [], ◌∷◌, get_or, refl, sym, ap, subst, ◌∙◌, arith, inl, inr, ◌⊎◌, Option, Some, None}
-use Rattle.std.specs.Prelude.{IsTrue, codes}
-use Rattle.std.specs.Fmt.{decimal}
+use Rattle.std.proofs.Common.{◌≡◌, ◌≢◌, ℕ, Bool, List, [], get_or, refl, sym, ap, subst, ◌∙◌, arith, inl, inr, ◌⊎◌}
 use Rattle.std.proofs.lemmas.Fmt.{decimal_injective}
 use Rattle.net_io.specs.Faults.{Rose, SameCounts}
 use Rattle.mls_label.specs.declared.label.Label.{Label}
 use Rattle.mls_range.specs.LabelText.{IsLabelText}
 use Rattle.mls_range.proofs.Unique.{one_label}
 use Rattle.netlabel_run.specs.declared.ending.Ending.{Ending}
-use Rattle.netlabel_run.specs.declared.ending.Ending.TheVariants.{Done, NoForm, ReadFault, WriteFault, OutOfMemory, Limit}
+use Rattle.netlabel_run.specs.declared.ending.Ending.TheVariants.{Done, NoForm, ReadFault, OutOfMemory}
 use Rattle.netlabel_run.specs.Words.{AsksToJudge, IsForm}
-use Rattle.netlabel_run.specs.Report.{Folder, Reports, no_form, judges, ReportsJudge, NamesFile, CountRose, usage_line}
-use Rattle.netlabel_run.specs.Ending.{status_of, IsEvent, IsRefusal}
-use Rattle.netlabel_run.specs.Prints.{PrintsWhole, PrintsPart, IsReported, IsFirst, Prints, Ends}
+use Rattle.netlabel_run.specs.Report.{Folder, Reports, no_form, judges, ReportsJudge, NamesFile, usage_line}
+use Rattle.netlabel_run.specs.Prints.{Prints, Ends}
 use Rattle.netlabel_run.specs.Call.{EndsCall}
 use Rattle.netlabel_run.proofs.Endings.{ends_printed}
 
@@ -55,7 +52,9 @@ ends_as_judge words held a b doi level file result reads reads' writes writes' o
       done = λ told out done. (let w = ends.done told out done in record { text = w.text; reports = lift _ _ w.reports; printed = w.printed });
       part = λ told out. elim (ends.part told out) [ inl e ↦ inl e | inr p ↦ inr (p.0, p.1, lift _ _ p.2, p.3) ];
       read_fault = λ is. (file, names, ends.read_fault is);
+      silent = ends.silent;
       write_fault = ends.write_fault;
+      printing = λ told is. (let e = ends.printing told is in (e.0, lift _ _ e.1));
       unmoved = λ done. (unmoved done, (ends.unmoved done).1);
     }
 
@@ -94,6 +93,8 @@ ends_as_usage words held a b result reads writes writes' old new none prints =
       done = ends.done;
       part = ends.part;
       read_fault = λ is. absurd (others.0 is);
+      silent = λ out is. absurd (others.0 is);
       write_fault = ends.write_fault;
+      printing = ends.printing;
       unmoved = λ done. absurd (others.1 done);
     }

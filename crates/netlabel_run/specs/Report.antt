@@ -1,6 +1,6 @@
 -- What a call prints and the status that it ends with, where no read and no write fails and memory suffices: the first
 -- event decides. Words that are no form have status 1; a limit that is passed has status 7; else the status is 0.
-use Rattle.std.specs.Prelude.{ℕ, ◌≡◌, ◌⊎◌, ◌<◌, ◌≤◌, ◌++◌, List, [], ◌∷◌, length, take, codes, Option, Some}
+use Rattle.std.specs.Prelude.{ℕ, ◌≡◌, ◌⊎◌, ◌<◌, ◌≤◌, List, length, codes, Option, Some}
 use Rattle.mls_label.specs.declared.label.Label.{Label}
 use Rattle.net_io.specs.Faults.{Rose}
 use Rattle.netlabel_run.specs.Words.{AsksToJudge, IsForm}

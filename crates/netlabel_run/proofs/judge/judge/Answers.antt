@@ -1,8 +1,7 @@
-use Rattle.std.proofs.Common.{◌≡◌, ◌≤◌, length, ap, ℕ, List, ◌∙◌, Some, refl, sym, subst, inl, inr, arith}
+use Rattle.std.proofs.Common.{◌≤◌, length, ap, refl, inl, inr, arith}
 use Rattle.net_io.specs.Depot.{octets_of}
 use Rattle.netlabel_run.specs.declared.ending.Ending.TheVariants.{Done, Limit}
 use Rattle.netlabel_run.specs.Report.{ReportsJudge, too_long, judged, packet_limit_line}
-use Rattle.netlabel_run.specs.Prints.{Prints}
 use Rattle.netlabel_run.proofs.Endings.{ends_printed, only_too_long, only_judged, is_there}
 use Rattle.netlabel_run.proofs.judge.judge.Goals as goal
 

@@ -1,4 +1,4 @@
-use Rattle.std.proofs.Common.{◌≡◌, ◌∙◌, refl, inl}
+use Rattle.std.proofs.Common.{◌∙◌, refl, inl}
 use Rattle.netlabel_run.proofs.judge.verdict.Goals as goal
 
 pub returns-in_ok-from_slice-in-Err-NotCarried : goal.returns-in_ok-from_slice-in-Err-NotCarried

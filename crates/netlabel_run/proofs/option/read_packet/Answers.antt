@@ -1,5 +1,3 @@
-use Rattle.std.proofs.Common.{◌≡◌, List, ℕ, take, drop, ◌-◌, subst}
-use Rattle.netlabel_run.specs.Option.{IsArea}
 use Rattle.netlabel_run.proofs.option.read_packet.Goals as goal
 
 pub returns-clause-none : goal.returns-clause-none

@@ -1,4 +1,4 @@
-use Rattle.std.proofs.Common.{◌≡◌, true, inl, inr, arith}
+use Rattle.std.proofs.Common.{◌≡◌, true, inl, inr}
 use Rattle.netlabel_run.proofs.Area.{whole_tag, no_tag}
 use Rattle.netlabel_run.proofs.option.read_whole_tag.Goals as goal
 

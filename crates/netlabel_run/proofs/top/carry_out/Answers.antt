@@ -1,4 +1,4 @@
-use Rattle.std.proofs.Common.{◌≡◌, refl}
+use Rattle.std.proofs.Common.{refl}
 use Rattle.netlabel_run.specs.Words.{texts_of}
 use Rattle.netlabel_run.proofs.Calls.{ends_as_judge, ends_as_usage}
 use Rattle.netlabel_run.proofs.top.carry_out.Goals as goal

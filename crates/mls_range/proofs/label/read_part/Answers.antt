@@ -1,7 +1,7 @@
 use Rattle.std.proofs.lemmas.Result.{err_from_is_err_and}
 use Rattle.mls_label.specs.declared.label.Label.{Label}
 use Rattle.mls_range.proofs.Labels.{part_no_letter, part_no_number, stops_level, reads_label}
-use Rattle.mls_range.proofs.reading.read_part.Goals as goal
+use Rattle.mls_range.proofs.label.read_part.Goals as goal
 
 pub returns-in_err-number-clause-err : goal.returns-in_err-number-clause-err
 returns-in_err-number-clause-err c =

@@ -1,6 +1,6 @@
 use Rattle.std.proofs.lemmas.Result.{err_from_is_err_and}
 use Rattle.mls_range.proofs.Labels.{cats_none, cats_no_colon, stops_terms, cats_some}
-use Rattle.mls_range.proofs.reading.read_cats.Goals as goal
+use Rattle.mls_range.proofs.label.read_cats.Goals as goal
 
 pub returns-then-is_label_end-clause-ok : goal.returns-then-is_label_end-clause-ok
 returns-then-is_label_end-clause-ok c =

@@ -3,7 +3,7 @@ use Rattle.std.specs.Fmt.{decimal}
 use Rattle.mls_label.specs.Runs.{runs_of}
 use Rattle.mls_range.specs.Rest.{separated}
 use Rattle.mls_range.proofs.Written.{front_terms, next_separator}
-use Rattle.mls_range.proofs.writing.append_label.Given as goal
+use Rattle.mls_range.proofs.label.append_label.Given as goal
 
 abbrev pub invariant-loop-i : goal.invariant-loop-i
 invariant-loop-i l = record {

@@ -1,12 +1,12 @@
-use Rattle.std.proofs.Common.{◌≡◌, ℕ, ◌+◌, ◌<◌, ◌≤◌, List, [], ◌∷◌, ◌++◌, length, take, ap, sym, ◌∙◌, append_assoc, arith}
+use Rattle.std.proofs.Common.{◌≡◌, ℕ, ◌+◌, List, ◌∷◌, ◌++◌, take, ap, sym, ◌∙◌, append_assoc, arith}
 use Rattle.std.specs.Fmt.{decimal}
 use Rattle.std.specs.List.{flat_map}
 use Rattle.std.proofs.lemmas.List.{take_all}
 use Rattle.mls_label.specs.Runs.{runs_of}
-use Rattle.mls_range.specs.LabelText.{terms_of_run, terms_text}
+use Rattle.mls_range.specs.LabelText.{terms_of_run}
 use Rattle.mls_range.specs.Rest.{separated}
 use Rattle.mls_range.proofs.Written.{front_terms, next_separator, front_more, terms_text_is}
-use Rattle.mls_range.proofs.writing.append_label.Goals as goal
+use Rattle.mls_range.proofs.label.append_label.Goals as goal
 
 pub loop-i-preserved : goal.loop-i-preserved
 loop-i-preserved c =

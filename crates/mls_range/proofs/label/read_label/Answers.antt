@@ -1,6 +1,6 @@
 use Rattle.std.proofs.lemmas.Result.{err_from_is_err_and}
 use Rattle.mls_range.proofs.Wholes.{stops_label, whole_label}
-use Rattle.mls_range.proofs.reading.read_label.Goals as goal
+use Rattle.mls_range.proofs.label.read_label.Goals as goal
 
 pub returns-in_err-label-clause-err : goal.returns-in_err-label-clause-err
 returns-in_err-label-clause-err c =
