@@ -5,6 +5,7 @@
 
 mod denial;
 mod fault;
+pub mod laws;
 mod option;
 mod packet;
 mod read;

@@ -1,7 +1,7 @@
 //! Packets written again.
 
-ghost use Rattle.std.specs.Prelude.{◌≡◌, ◌↔◌, ◌<◌, ◌≤◌, [], OnOk, OnErr, Err};
-ghost use Rattle.std.specs.Option.{ForSome, option_copied, option_map};
+ghost use Rattle.std.specs.Prelude.{◌≡◌, ◌↔◌, ◌<◌, ◌≤◌, [], IfSome, OnOk, OnErr, Err};
+ghost use Rattle.std.specs.Option.{option_copied, option_map};
 ghost use Rattle.ip_headers.specs.Written.{packet_octets, rebuilt_length, rebuilt_room, room_limit};
 ghost use Rattle.packet_label.specs.Packet.{version_of};
 ghost use Rattle.packet_label.specs.Option.{Suits, octets_of, rebuilt};
@@ -20,7 +20,7 @@ pub fn relabel(
     hops: u8,
     out: &mut Vec<u8>,
 ) -> Result<(), Rebuild>
-    requires { ForSome option (λ o. Suits packet.now o.now) }
+    requires { IfSome option (λ o. Suits packet.now o.now) }
     ensures ok { OnOk result (out.new.items ≡ packet_octets (rebuilt packet.now (option_copied option.entry) hops)) }
     ensures no_room { (result ≡ Err Rebuild.NoRoom) ↔ (room_limit (version_of packet.now) < rebuilt_room (rebuilt packet.now (option_copied option.entry) hops)) }
     ensures too_long { (result ≡ Err Rebuild.TooLong) ↔ ((rebuilt_room (rebuilt packet.now (option_copied option.entry) hops) ≤ room_limit (version_of packet.now))
