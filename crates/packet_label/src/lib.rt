@@ -5,12 +5,15 @@
 
 mod denial;
 mod fault;
+pub mod laws;
 mod option;
 mod packet;
 mod read;
+mod write;
 
 pub use denial::{Carrier, Denial, Stop, cause_name};
 pub use fault::CarryFault;
 pub use option::WireOption;
 pub use packet::{Carried, Packet, Wire};
 pub use read::{carried, label_at};
+pub use write::relabel;

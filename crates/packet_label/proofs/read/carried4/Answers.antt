@@ -17,4 +17,4 @@ read_cipso_at-requires-clause-whole c =
 pub read_cipso_at-requires-clause-fits : goal.read_cipso_at-requires-clause-fits
 read_cipso_at-requires-clause-fits c =
     let o : Placed = record { place = c.in-Some.at; octets = c.in-Some.option.now } in
-    let f = label_found (list_fault V4) V4 c.args.bytes.now c.in-Ok.packet o c.in-Ok.ensures.ok (sym c.in-Some.ensures) in omega (arith, f.ends, c.type_inv.bytes)
+    let f = label_found (list_fault V4) V4 c.args.bytes.now c.in-Ok.packet o c.in-Ok.ensures.ok (sym c.in-Some.ensures) in omega (arith, f.ends)

@@ -17,7 +17,7 @@ read_calipso_at-requires-clause-whole c =
 pub read_calipso_at-requires-clause-fits : goal.read_calipso_at-requires-clause-fits
 read_calipso_at-requires-clause-fits c =
     let o : Placed = record { place = c.in-Some.at; octets = c.in-Some.option.now } in
-    let f = label_found (list_fault V6) V6 c.args.bytes.now c.in-Ok.packet o c.in-Ok.ensures.ok (sym c.in-Some.ensures) in omega (arith, f.ends, c.type_inv.bytes)
+    let f = label_found (list_fault V6) V6 c.args.bytes.now c.in-Ok.packet o c.in-Ok.ensures.ok (sym c.in-Some.ensures) in omega (arith, f.ends)
 
 pub returns-in-Err-read_calipso_at-clause-err : goal.returns-in-Err-read_calipso_at-clause-err
 returns-in-Err-read_calipso_at-clause-err c =
