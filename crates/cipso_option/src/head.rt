@@ -9,6 +9,10 @@ use cipso_tags::{has_length, tag_of_type};
 use mls_label::WireStop;
 use octet_grammar::{octet_at, unfit};
 
+// The octets of the shortest option, whose tag has no category, and of the longest that an IPv4 header has room for.
+const SHORTEST: u8 = 10;
+const LONGEST: u8 = 40;
+
 /// Reads the option's type and its length, which is from 10 to 40.
 pub(crate) fn read_start(bytes: &[u8]) -> Result<(), WireStop>
     ensures ok { OnOk result (IsStart bytes.now) }
@@ -19,7 +23,7 @@ pub(crate) fn read_start(bytes: &[u8]) -> Result<(), WireStop>
         return Err(unfit(0));
     }
     let length = octet_at(bytes, 1)?;
-    if length < 10 || length > 40 {
+    if length < SHORTEST || length > LONGEST {
         return Err(unfit(1));
     }
     Ok(())
