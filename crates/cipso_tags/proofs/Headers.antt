@@ -4,12 +4,9 @@ use Rattle.std.specs.Prelude.{slice_index}
 use Rattle.std.specs.List.{range_with_len}
 use Rattle.std.proofs.lemmas.List.{get_or_append_left, append-nil, nil_from_length, take_more}
 use Rattle.std.proofs.lemmas.List.FromFn.{length-range_with_len}
-use Rattle.octet_grammar.specs.declared.fault.WireKind.{WireKind}
-use Rattle.octet_grammar.specs.declared.fault.WireKind.TheVariants.{Octet, End}
 use Rattle.octet_grammar.specs.declared.fault.WireStop.{WireStop}
-use Rattle.octet_grammar.specs.declared.fault.WireStop.TheVariants.{Fault, OutOfMemory}
 use Rattle.octet_grammar.specs.Front.{IsFront, IsPrefixFree, ReadsFront}
-use Rattle.octet_grammar.specs.Fault.{FailsFront, StopsFront, StopsAt, IsUnfit}
+use Rattle.octet_grammar.specs.Fault.{StopsFront}
 use Rattle.octet_grammar.proofs.Fronts.{at_agree, front_take}
 use Rattle.octet_grammar.proofs.Faults.{HasAt, IsWithin, reads_under}
 use Rattle.octet_grammar.proofs.Places.{part_stops}
@@ -244,3 +241,11 @@ ranges_size tag size h is =
 
 pub there_low : (tag : Tag) (n : ℕ) → HasLength tag n → 4 ≤ n
 there_low tag n h = size_low tag n (there_size tag n h)
+
+size_bounds : (tag : Tag) (n : ℕ) → IsSize tag n → (4 ≤ n) × (n ≤ 34)
+size_bounds One n size = size
+size_bounds Two n size = (size.0, size.1)
+size_bounds Five n size = (size.0, omega (arith, size.1))
+
+pub there_bounds : (tag : Tag) (n : ℕ) → HasLength tag n → (4 ≤ n) × (n ≤ 34)
+there_bounds tag n h = size_bounds tag n (there_size tag n h)

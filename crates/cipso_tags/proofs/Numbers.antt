@@ -3,7 +3,6 @@ use Rattle.std.proofs.Common.{◌≡◌, ℕ, ◌+◌, ◌*◌, ◌/◌, ◌%◌
 use Rattle.std.specs.Prelude.{slice_index}
 use Rattle.std.proofs.lemmas.List.{take-append-drop, take_more, append-nil, nil_from_length, get_or-drop}
 use Rattle.octet_grammar.specs.declared.fault.WireStop.{WireStop}
-use Rattle.octet_grammar.specs.declared.fault.WireStop.TheVariants.{Fault, OutOfMemory}
 use Rattle.octet_grammar.specs.Front.{IsFront, IsPrefixFree, ReadsFront}
 use Rattle.octet_grammar.specs.Fault.{StopsFront}
 use Rattle.octet_grammar.proofs.Fronts.{long_agree}

@@ -13,4 +13,7 @@ mod write;
 
 pub use header::{has_length, tag_of_type};
 pub use tag::read_tag;
-pub use write::{append_tag, can_express, write_tag};
+pub use write::{append_tag, can_express, tag_octets, write_tag};
+
+#[cfg(test)]
+mod tests;

@@ -42,7 +42,7 @@ pub fn append_tag<const N: usize>(tag: Tag, label: &Label, out: &mut ArrayVec<u8
     ensures { out.new.items ≡ out.old.items ++ tag_text tag label.now }
 {
     out.push(type_octet(tag));
-    out.push(4 + body_octets(tag, label));
+    out.push(tag_octets(tag, label));
     out.push(0);
     out.push(label.level);
     append_body(tag, label, out);
@@ -68,6 +68,15 @@ fn type_octet(tag: Tag) -> u8
         Tag::Two => 2,
         Tag::Five => 5,
     }
+}
+
+/// The octets of the written form of a label.
+pub fn tag_octets(tag: Tag, label: &Label) -> u8
+    requires { Fits tag label.now }
+    ensures length { result ≡ length (tag_text tag label.now) }
+    ensures most { result ≤ 34 }
+{
+    4 + body_octets(tag, label)
 }
 
 // The octets of a written body.

@@ -1,6 +1,6 @@
 //! The runs behind a set: where a run belongs among them, and how it takes the place of those that it touches.
 
-ghost use Rattle.std.specs.Prelude.{◌≡◌, ℕ, ◌+◌, ◌<◌, ◌≤◌, ◌||◌, ◌↔◌, [], ◌∷◌, length, fold, vec_len, IsTrue, MatchOption, OnOk, OnErr, IsErrOf};
+ghost use Rattle.std.specs.Prelude.{◌≡◌, ℕ, ◌+◌, ◌<◌, ◌≤◌, ◌||◌, ◌↔◌, [], ◌∷◌, ◌++◌, length, take, drop, fold, vec_len, IsTrue, MatchOption, OnOk, OnErr, IsErrOf};
 ghost use Rattle.std.specs.List.{AllWithin, splice};
 ghost use Rattle.mls_label.specs.Cats.{has, is_within, cats_where, IsSubset};
 ghost use Rattle.mls_label.specs.Runs.{runs_of};
@@ -100,9 +100,21 @@ fn replace(runs: &mut Vec<Run>, start: usize, end: usize, run: Run)
     ensures items { runs.new.items ≡ splice runs.old.items start end (run ∷ []) }
     ensures len { vec_len runs.new ≤ vec_len runs.old }
 {
-    let left = runs.len() - (end - start - 1);
     runs[start] = run;
-    runs.copy_within(end.., start + 1);
+    // Mostly one run grows, and those behind it stay where they are.
+    if start + 1 < end {
+        remove(runs, start + 1, end);
+    }
+}
+
+fn remove(runs: &mut Vec<Run>, start: usize, end: usize)
+    requires order { start ≤ end }
+    requires within { end ≤ vec_len runs.old }
+    ensures items { runs.new.items ≡ take start runs.old.items ++ drop end runs.old.items }
+    ensures len { vec_len runs.new ≤ vec_len runs.old }
+{
+    let left = runs.len() - (end - start);
+    runs.copy_within(end.., start);
     runs.truncate(left);
 }
 

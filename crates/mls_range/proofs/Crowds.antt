@@ -1,6 +1,6 @@
 -- What the reader of terms keeps, and when it finds the term that is too much.
-use Rattle.std.proofs.Common.{◌≡◌, ℕ, zero, suc, ◌+◌, ◌-◌, ◌<◌, ◌≤◌, Bool, true, false, ◌||◌, cond, List, [], ◌∷◌, ◌++◌, length, get_or, take, drop, refl, sym, ap, subst, ◌∙◌, append_assoc, length-append, arith, inl, inr, ◌⊎◌}
-use Rattle.std.specs.List.{All, flat_map, list_any}
+use Rattle.std.proofs.Common.{◌≡◌, ℕ, zero, suc, ◌+◌, ◌<◌, ◌≤◌, Bool, ◌||◌, List, [], ◌∷◌, ◌++◌, length, get_or, take, drop, refl, sym, ap, subst, ◌∙◌, append_assoc, length-append, arith, inl, inr, ◌⊎◌}
+use Rattle.std.specs.List.{All, flat_map}
 use Rattle.std.proofs.lemmas.Bool.{cases_lt}
 use Rattle.std.proofs.Math.Bool.{or-false}
 use Rattle.std.proofs.lemmas.List.{append-nil, take-append-le, take_all, get_or_past}
@@ -18,9 +18,9 @@ use Rattle.mls_range.specs.declared.fault.TextKind.TheVariants.{Grammar, End, To
 use Rattle.mls_range.specs.LabelText.{IsTerm, term_text, term_has, cats_of_terms}
 use Rattle.mls_range.specs.Crowd.{IsCounted, with_comma, run_count, CrowdsTerms}
 use Rattle.mls_range.specs.Rest.{Reads, FaultIn, StopsIn, separated, Terms, TermOn, ReadsTerm, ReadsTerms, IsLabelEnd, FailsTerms, StopsRun, StopsTerms}
-use Rattle.mls_range.proofs.Places.{reads_none, reads_octet, reads_on, reads_length, drop_at, first_is}
+use Rattle.mls_range.proofs.Places.{reads_none, reads_octet, reads_on, reads_length, first_is}
 use Rattle.mls_range.proofs.Rests.{fault_goes}
-use Rattle.mls_range.proofs.TermLists.{comma_is, Among, Behind, First, peel, first_of_terms, term_unique, goes_terms, fault_terms, fault_no_counted}
+use Rattle.mls_range.proofs.TermLists.{comma_is, Behind, First, peel, first_of_terms, term_unique, goes_terms, fault_terms, fault_no_counted}
 
 -- ---- sets of categories
 
@@ -30,8 +30,8 @@ none_of_terms = cats_where_is [] (term_has []) tt (λ c lt. refl)
 pub cats_push : (cats : List ℕ) (terms : List (ℕ × ℕ)) (term : ℕ × ℕ) → cats ≡ cats_of_terms terms → cats_where (λ c. has cats c || is_within term.0 term.1 c) ≡ cats_of_terms (terms ++ term ∷ [])
 cats_push cats terms term e =
     cats_where_same (λ c. has cats c || is_within term.0 term.1 c) (term_has (terms ++ term ∷ [])) (λ c lt.
-        let old : has cats c ≡ term_has terms c = ap (λ x. has x c) e ∙ has-cats_where (term_has terms) c lt in
-        ap (λ b. b || is_within term.0 term.1 c) old ∙ ap (λ b. term_has terms c || b) (sym (or-false (is_within term.0 term.1 c))) ∙ sym (list_any-append (λ t. is_within t.0 t.1 c) terms (term ∷ [])))
+    let old : has cats c ≡ term_has terms c = ap (λ x. has x c) e ∙ has-cats_where (term_has terms) c lt in
+    ap (λ b. b || is_within term.0 term.1 c) old ∙ ap (λ b. term_has terms c || b) (sym (or-false (is_within term.0 term.1 c))) ∙ sym (list_any-append (λ t. is_within t.0 t.1 c) terms (term ∷ [])))
 
 -- ---- what is kept
 
@@ -127,19 +127,22 @@ pub crowds_term : (dash : Bool) (text : List ℕ) (start at end first last : ℕ
 crowds_term dash text start at end first last cats h r many =
     let term : ℕ × ℕ = (first, last) in
     let octet = length (flat_map with_comma h.terms) in
-    let place : at ≡ start + octet = omega (arith, reads_length text start at (flat_map with_comma h.terms) h.reads, h.reads.forward) in
-    (octet, place, record {
-      before = h.terms;
-      term = term;
-      rest = drop end text;
-      are = h.are;
-      is_term = r.is_term;
-      is = h.reads.is ∙ ap (λ t. flat_map with_comma h.terms ++ t) r.reads.is;
-      counts = r.counts;
-      few = h.few;
-      many = omega (arith, many, ap (λ x. length (runs_of x)) (cats_push cats h.terms term h.is));
-      place = refl;
-    })
+    let place : at ≡ start + octet = omega (arith, reads_length text start at (flat_map with_comma h.terms) h.reads, h.reads.forward) in (
+      octet,
+      place,
+      record {
+        before = h.terms;
+        term = term;
+        rest = drop end text;
+        are = h.are;
+        is_term = r.is_term;
+        is = h.reads.is ∙ ap (λ t. flat_map with_comma h.terms ++ t) r.reads.is;
+        counts = r.counts;
+        few = h.few;
+        many = omega (arith, many, ap (λ x. length (runs_of x)) (cats_push cats h.terms term h.is));
+        place = refl;
+      },
+    )
 
 -- the last term
 separated_last : (s : ℕ) (terms : List (ℕ × ℕ)) (term : ℕ × ℕ) → separated s (terms ++ term ∷ []) ≡ s ∷ (flat_map with_comma terms ++ term_text term)
@@ -160,10 +163,10 @@ no_comma dash (x ∷ t) w ends e = let q : x ≡ 44 = cc in omega (arith, ends.1
 ends_here : (dash : Bool) (text : List ℕ) (end : ℕ) → IsCounted dash (drop end text) → (end ≡ length text) ⊎ (get_or text end 0 ≡ 44 → ⊥) → IsLabelEnd dash (drop end text)
 ends_here dash text end c over =
     ends_of dash (drop end text) c (λ x w is comma.
-        elim over [
-          | inl e ↦ omega (arith, first_is text end x w is, get_or_past text end 0 (omega arith))
-          | inr ne ↦ ne (first_is text end x w is ∙ comma)
-        ])
+    elim over [
+      | inl e ↦ omega (arith, first_is text end x w is, get_or_past text end 0 (omega arith))
+      | inr ne ↦ ne (first_is text end x w is ∙ comma)
+    ])
 
 -- of the crowding terms the first is the last that was read: then it isn't too much
 no_crowd : (dash : Bool) (text : List ℕ) (start at end first last octet : ℕ) (cats : List ℕ) → (h : HasTerms text start at cats) → ReadsTerm dash text at first last end → run_count (h.terms ++ (first, last) ∷ []) ≤ 1952 → IsLabelEnd dash (drop end text) → CrowdsTerms dash (drop start text) octet → ⊥

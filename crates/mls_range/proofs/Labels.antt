@@ -1,8 +1,7 @@
 -- What may come within a label's text, and its faults.
-use Rattle.std.proofs.Common.{◌≡◌, ℕ, zero, suc, ◌+◌, ◌-◌, ◌^◌, ◌<◌, ◌≤◌, Bool, true, false, IsTrue, List, [], ◌∷◌, ◌++◌, length, get_or, take, drop, refl, sym, ap, subst, ◌∙◌, append_assoc, length-append, arith, inl, inr, ◌⊎◌}
+use Rattle.std.proofs.Common.{◌≡◌, ℕ, ◌+◌, ◌-◌, ◌≤◌, Bool, IsTrue, List, [], ◌∷◌, ◌++◌, length, drop, refl, sym, ap, subst, ◌∙◌, append_assoc, arith, inl, inr, ◌⊎◌}
 use Rattle.std.specs.Fmt.{decimal}
 use Rattle.std.specs.List.{All}
-use Rattle.std.proofs.lemmas.List.{append-nil, get_or_past}
 use Rattle.std.proofs.lemmas.List.Elements.{All-nil, All-cons, All-head, All-tail}
 use Rattle.mls_label.specs.declared.label.Label.{Label}
 use Rattle.mls_range.specs.declared.fault.TextFault.{TextFault}
@@ -10,11 +9,10 @@ use Rattle.mls_range.specs.declared.fault.TextStop.{TextStop}
 use Rattle.mls_range.specs.declared.fault.TextStop.TheVariants.{Fault, OutOfMemory}
 use Rattle.mls_range.specs.declared.fault.TextKind.{TextKind}
 use Rattle.mls_range.specs.declared.fault.TextKind.TheVariants.{Grammar, End, TooManyRuns, NotOrdered}
-use Rattle.mls_range.specs.LabelText.{IsTerm, term_text, terms_text, cats_of_terms, IsLabelText}
+use Rattle.mls_range.specs.LabelText.{IsTerm, term_text}
 use Rattle.mls_range.specs.Crowd.{CrowdsTerms, CrowdsLabel, IsRoomy}
-use Rattle.mls_range.specs.Number.{IsDigit}
-use Rattle.mls_range.specs.Rest.{Reads, FaultIn, StopsIn, MissesOctet, IsLabelEnd, separated, Terms, MoreTerms, BehindLevel, LabelOn, FailsNumber, ReadsNumber, ReadsTerms, FailsTerms, StopsTerms, ReadsCats, FailsCats, StopsCats, CrowdsBehind, IsRoomyBehind, ReadsPart, FailsPart, StopsPart}
-use Rattle.mls_range.proofs.Places.{reads_none, reads_on, reads_length, drop_end, first_is}
+use Rattle.mls_range.specs.Rest.{Reads, FaultIn, StopsIn, MissesOctet, IsLabelEnd, separated, Terms, BehindLevel, LabelOn, FailsNumber, ReadsNumber, ReadsTerms, FailsTerms, StopsTerms, ReadsCats, FailsCats, StopsCats, CrowdsBehind, IsRoomyBehind, ReadsPart, FailsPart, StopsPart}
+use Rattle.mls_range.proofs.Places.{reads_none, reads_on, reads_length}
 use Rattle.mls_range.proofs.Rests.{Goes, goes_octet, goes_number, NumberThen, IsApart, fault_goes, fault_now, number_then, stops_octet}
 use Rattle.mls_range.proofs.TermLists.{NoDigit, stops_not}
 use Rattle.mls_range.proofs.TermRests.{fault_number}
@@ -59,23 +57,23 @@ colon_terms_of dash x rest (u ∷ us) are e ends =
 pub goes_colon : (dash : Bool) (s : List ℕ) → Goes (BehindLevel dash) (58 ∷ []) s (Terms dash)
 goes_colon dash s =
     goes_octet 58 s (BehindLevel dash) (Terms dash) (λ t b. colon_terms_of dash t b.rest b.terms b.are b.is b.ends) (λ t w.
-        let b = w.behind in
-        record {
-          terms = w.term ∷ b.terms;
-          rest = b.rest;
-          are = All-cons IsTerm w.term b.terms w.is_term b.are;
-          is = ap (λ x. 58 ∷ x) (w.is ∙ ap (λ x. term_text w.term ++ x) b.is ∙ sym (append_assoc (term_text w.term) (separated 44 b.terms) b.rest));
-          ends = b.ends;
-        })
+    let b = w.behind in
+    record {
+      terms = w.term ∷ b.terms;
+      rest = b.rest;
+      are = All-cons IsTerm w.term b.terms w.is_term b.are;
+      is = ap (λ x. 58 ∷ x) (w.is ∙ ap (λ x. term_text w.term ++ x) b.is ∙ sym (append_assoc (term_text w.term) (separated 44 b.terms) b.rest));
+      ends = b.ends;
+    })
 
 -- ---- the whole label
 
 pub goes_letter_s : (dash : Bool) (s : List ℕ) → Goes (LabelOn dash) (115 ∷ []) s (NumberThen 0 255 (λ n. BehindLevel dash))
 goes_letter_s dash s =
     goes_octet 115 s (LabelOn dash) (NumberThen 0 255 (λ n. BehindLevel dash)) (λ t l.
-        let e = l.is in
-        record { number = l.level; more = l.more; is = cc; above = omega arith; below = omega (arith, l.small); behind = l.behind }) (λ t n.
-        record { level = n.number; more = n.more; small = omega (arith, n.below); is = ap (λ x. 115 ∷ x) n.is; behind = n.behind })
+    let e = l.is in
+    record { number = l.level; more = l.more; is = cc; above = omega arith; below = omega (arith, l.small); behind = l.behind }) (λ t n.
+    record { level = n.number; more = n.more; small = omega (arith, n.below); is = ap (λ x. 115 ∷ x) n.is; behind = n.behind })
 
 pub label_first : (dash : Bool) (x : ℕ) (t : List ℕ) → LabelOn dash (x ∷ t) → x ≡ 115
 label_first dash x t l = let e = l.is in cc
@@ -122,12 +120,16 @@ misses wanted rest w TooManyRuns m e = m
 misses wanted rest w NotOrdered m e = m
 
 stops_colon : (dash : Bool) (rest : List ℕ) (kind : TextKind) → (IsLabelEnd dash rest → ⊥) → MissesOctet 58 rest kind → StopsIn (BehindLevel dash) [] rest kind
-stops_colon dash rest Grammar over m =
-    (m.0, m.1, m.2, λ end b.
-        elim (level_first dash m.0 end b) [
-          | inl e ↦ m.3 e
-          | inr e ↦ over (subst (IsLabelEnd dash) (sym m.2) e)
-        ])
+stops_colon dash rest Grammar over m = (
+  m.0,
+  m.1,
+  m.2,
+  λ end b.
+      elim (level_first dash m.0 end b) [
+        | inl e ↦ m.3 e
+        | inr e ↦ over (subst (IsLabelEnd dash) (sym m.2) e)
+      ],
+)
 stops_colon dash rest End over m = absurd (over (subst (IsLabelEnd dash) (sym m) tt))
 stops_colon dash rest TooManyRuns over m = m
 stops_colon dash rest NotOrdered over m = m
@@ -200,10 +202,10 @@ pub part_no_number : (dash : Bool) (text : List ℕ) (start at : ℕ) (fault : T
 part_no_number dash text start at fault reads f =
     let fails = number_then 0 255 (λ n. BehindLevel dash) text at fault (omega arith) (level_apart dash) (λ n low high. ([], level_none dash)) f in
     fails_part dash text start fault (fault_letter_s dash text start at fault reads fails) (λ octet c.
-        let free = number_then 0 255 (λ n. NoDigit) text at fault (omega arith) free_apart (λ n low high. ([], tt)) f in
-        let whole : NumberThen 0 255 (λ n. NoDigit) (drop at text) =
-        record { number = c.level; more = 58 ∷ c.terms; is = crowd_number dash text start at octet reads c; above = omega arith; below = omega (arith, c.small); behind = λ d. omega (arith, d.1) } in
-        stops_not (NumberThen 0 255 (λ n. NoDigit)) free.part (drop fault.octet text) fault.kind (subst (NumberThen 0 255 (λ n. NoDigit)) free.reads.is whole) free.stops)
+    let free = number_then 0 255 (λ n. NoDigit) text at fault (omega arith) free_apart (λ n low high. ([], tt)) f in
+    let whole : NumberThen 0 255 (λ n. NoDigit) (drop at text) =
+    record { number = c.level; more = 58 ∷ c.terms; is = crowd_number dash text start at octet reads c; above = omega arith; below = omega (arith, c.small); behind = λ d. omega (arith, d.1) } in
+    stops_not (NumberThen 0 255 (λ n. NoDigit)) free.part (drop fault.octet text) fault.kind (subst (NumberThen 0 255 (λ n. NoDigit)) free.reads.is whole) free.stops)
 
 -- a term that is too much stands behind the level that was read
 record CrowdsFrom (dash : Bool) (octet : ℕ) (level : ℕ) (text : List ℕ) : Type 0 where

@@ -10,3 +10,4 @@ pub mod Labels
 pub mod Wholes
 pub mod Unique
 pub mod ReadBack
+pub mod RangeTexts

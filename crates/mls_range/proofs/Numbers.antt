@@ -1,14 +1,13 @@
 -- What the reader of numbers keeps.
-use Rattle.std.proofs.Common.{◌≡◌, ℕ, ◌+◌, ◌-◌, ◌*◌, ◌^◌, ◌<◌, ◌≤◌, List, [], ◌∷◌, ◌++◌, length, get_or, drop, refl, sym, ap, subst, ◌∙◌, append_assoc, arith, inl, inr, ◌⊎◌}
+use Rattle.std.proofs.Common.{◌≡◌, ℕ, ◌+◌, ◌-◌, ◌*◌, ◌<◌, ◌≤◌, List, [], ◌∷◌, ◌++◌, length, get_or, drop, refl, sym, ap, subst, ◌∙◌, append_assoc, arith, inl, inr, ◌⊎◌}
 use Rattle.std.specs.Fmt.{decimal}
-use Rattle.std.proofs.lemmas.List.{append-nil}
 use Rattle.std.proofs.lemmas.Fmt.{decimal_nonempty}
 use Rattle.mls_range.specs.declared.fault.TextFault.{TextFault}
 use Rattle.mls_range.specs.declared.fault.TextKind.{TextKind}
 use Rattle.mls_range.specs.declared.fault.TextKind.TheVariants.{Grammar, End, TooManyRuns, NotOrdered}
 use Rattle.mls_range.specs.Number.{BeginsNumber, number_after, GoesOn}
 use Rattle.mls_range.specs.Rest.{Reads, FaultIn, FailsNumber, IsNumber, ReadsNumber, StopsHere, StopsIn}
-use Rattle.mls_range.proofs.Digits.{begins_goes, goes_begins, number-decimal, decimal-number, number_after-append, begins_small, begins_number, grows}
+use Rattle.mls_range.proofs.Digits.{begins_goes, goes_begins, number-decimal, number_after-append, begins_small, begins_number, grows}
 use Rattle.mls_range.proofs.Places.{drop_at, drop_end, reads_none, reads_octet, reads_on, reads_length, reads_nothing}
 
 -- the digits from start on, and their number
@@ -58,10 +57,14 @@ ends_past text at low high digits le octet more is b =
     cc
 
 stops_digits : (text : List ℕ) (at low high : ℕ) (digits : List ℕ) (kind : TextKind) → EndsDigits text at low high digits → (IsNumber low high digits → ⊥) → StopsHere (drop at text) kind → StopsIn (IsNumber low high) digits (drop at text) kind
-stops_digits text at low high digits Grammar ends none here =
-    (here.0, here.1, here.2, λ end n.
-        let is : decimal n.number ≡ (digits ++ here.0 ∷ []) ++ end = sym n.is ∙ sym (append_assoc digits (here.0 ∷ []) end) in
-        ends here.0 here.1 here.2 (record { number = n.number; more = end; is = is; above = n.above; below = n.below }))
+stops_digits text at low high digits Grammar ends none here = (
+  here.0,
+  here.1,
+  here.2,
+  λ end n.
+      let is : decimal n.number ≡ (digits ++ here.0 ∷ []) ++ end = sym n.is ∙ sym (append_assoc digits (here.0 ∷ []) end) in
+      ends here.0 here.1 here.2 (record { number = n.number; more = end; is = is; above = n.above; below = n.below }),
+)
 stops_digits text at low high digits End ends none here = (here, none)
 stops_digits text at low high digits TooManyRuns ends none here = here
 stops_digits text at low high digits NotOrdered ends none here = here

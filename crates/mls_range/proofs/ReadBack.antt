@@ -1,7 +1,7 @@
 -- The written form of a label has its categories.
-use Rattle.std.proofs.Common.{◌≡◌, ℕ, zero, suc, ◌+◌, ◌-◌, ◌<◌, ◌≤◌, Bool, true, false, ◌||◌, ◌&&◌, cond, nat_le, nat_lt, List, [], ◌∷◌, ◌++◌, length, refl, sym, ap, subst, ◌∙◌, arith, inl, inr, ◌⊎◌}
-use Rattle.std.specs.List.{All, flat_map, list_any, range_with_len}
-use Rattle.std.proofs.lemmas.Bool.{cases_eq, cases_lt, eq-eqb, ne_eqb, and_from}
+use Rattle.std.proofs.Common.{◌≡◌, ℕ, ◌+◌, ◌-◌, ◌<◌, ◌≤◌, Bool, true, false, ◌||◌, ◌&&◌, cond, nat_le, nat_lt, List, [], ◌∷◌, refl, sym, ap, subst, ◌∙◌, arith, inl, inr}
+use Rattle.std.specs.List.{All, flat_map, range_with_len}
+use Rattle.std.proofs.lemmas.Bool.{cases_eq, eq-eqb, ne_eqb}
 use Rattle.std.proofs.lemmas.Bool.Decides.{nat_tests}
 use Rattle.std.proofs.Math.Bool.{or-false}
 use Rattle.std.proofs.lemmas.List.Folds.{list_any-append}
@@ -11,7 +11,7 @@ use Rattle.mls_label.specs.Cats.{has, IsCats, is_within}
 use Rattle.mls_label.specs.Runs.{runs_of, numbers_of}
 use Rattle.mls_label.proofs.Cats.{has-append, has-range_with_len, has_bounds, cats_where_is}
 use Rattle.mls_label.proofs.Runs.{AreInOrder, cats_of_runs, runs_in_order}
-use Rattle.mls_range.specs.LabelText.{IsTerm, IsLabelText, label_text, term_has, cats_of_terms, terms_of_run}
+use Rattle.mls_range.specs.LabelText.{IsTerm, IsLabelText, label_text, term_has, terms_of_run}
 
 or_true : (b : Bool) → (b || true) ≡ true
 or_true true = refl

@@ -1,5 +1,5 @@
 -- What may still come behind a part of a text, and the faults there.
-use Rattle.std.proofs.Common.{◌≡◌, ℕ, zero, suc, ◌+◌, ◌-◌, ◌*◌, ◌^◌, ◌<◌, ◌≤◌, Bool, List, [], ◌∷◌, ◌++◌, length, get_or, take, drop, refl, sym, ap, subst, ◌∙◌, append_assoc, arith, inl, inr, ◌⊎◌}
+use Rattle.std.proofs.Common.{◌≡◌, ℕ, ◌^◌, ◌<◌, ◌≤◌, Bool, List, [], ◌∷◌, ◌++◌, length, take, drop, refl, sym, ap, subst, ◌∙◌, append_assoc, arith, inl, inr, ◌⊎◌}
 use Rattle.std.specs.Fmt.{decimal}
 use Rattle.std.proofs.lemmas.List.{append-nil}
 use Rattle.std.proofs.lemmas.Fmt.{decimal_injective}
@@ -7,7 +7,7 @@ use Rattle.mls_range.specs.declared.fault.TextFault.{TextFault}
 use Rattle.mls_range.specs.declared.fault.TextKind.{TextKind}
 use Rattle.mls_range.specs.declared.fault.TextKind.TheVariants.{Grammar, End, TooManyRuns, NotOrdered}
 use Rattle.mls_range.specs.Number.{BeginsNumber, IsDigit, AllDigits}
-use Rattle.mls_range.specs.Rest.{Reads, FaultIn, FailsNumber, IsNumber, MissesEnd, MissesOctet, ReadsNumber, StopsIn}
+use Rattle.mls_range.specs.Rest.{Reads, FaultIn, FailsNumber, IsNumber, MissesEnd, MissesOctet, StopsIn}
 use Rattle.mls_range.specs.Crowd.{IsCounted}
 use Rattle.mls_range.proofs.Digits.{digits_of_decimal, digits_back, digits_front}
 use Rattle.mls_range.proofs.Places.{reads_none, reads_on}
@@ -36,15 +36,21 @@ goes_octet x s R Q to from = record { into = λ t q. from t q; back = λ t e r. 
 
 -- the fault of what comes is the fault of the whole
 stops_goes : (L : List ℕ → Type 0) (p s : List ℕ) (R : List ℕ → Type 0) → Goes L p s R → (part rest : List ℕ) (kind : TextKind) → s ≡ part ++ rest → StopsIn R part rest kind → StopsIn L (p ++ part) rest kind
-stops_goes L p s R g part rest Grammar is stops =
-    (stops.0, stops.1, stops.2, λ end l.
-        let same : take 1 (part ++ stops.0 ∷ end) ≡ take 1 (part ++ stops.0 ∷ stops.1) = first_same part (stops.0 ∷ stops.1) (stops.0 ∷ end) refl in
-        let here : take 1 (part ++ stops.0 ∷ end) ≡ take 1 s = same ∙ ap (λ x. take 1 (part ++ x)) (sym stops.2) ∙ ap (take 1) (sym is) in
-        stops.3 end (g.back (part ++ stops.0 ∷ end) here (subst L (append_assoc p part (stops.0 ∷ end)) l)))
-stops_goes L p s R g part rest End is stops =
-    (stops.0, λ l.
-        let here : take 1 part ≡ take 1 s = ap (take 1) (sym (append-nil part) ∙ ap (λ x. part ++ x) (sym stops.0) ∙ sym is) in
-        stops.1 (g.back part here l))
+stops_goes L p s R g part rest Grammar is stops = (
+  stops.0,
+  stops.1,
+  stops.2,
+  λ end l.
+      let same : take 1 (part ++ stops.0 ∷ end) ≡ take 1 (part ++ stops.0 ∷ stops.1) = first_same part (stops.0 ∷ stops.1) (stops.0 ∷ end) refl in
+      let here : take 1 (part ++ stops.0 ∷ end) ≡ take 1 s = same ∙ ap (λ x. take 1 (part ++ x)) (sym stops.2) ∙ ap (take 1) (sym is) in
+      stops.3 end (g.back (part ++ stops.0 ∷ end) here (subst L (append_assoc p part (stops.0 ∷ end)) l)),
+)
+stops_goes L p s R g part rest End is stops = (
+  stops.0,
+  λ l.
+      let here : take 1 part ≡ take 1 s = ap (take 1) (sym (append-nil part) ∙ ap (λ x. part ++ x) (sym stops.0) ∙ sym is) in
+      stops.1 (g.back part here l),
+)
 stops_goes L p s R g part rest TooManyRuns is stops = stops
 stops_goes L p s R g part rest NotOrdered is stops = stops
 
@@ -167,14 +173,20 @@ not_then low high Q part rest small apart digits none longer r =
     ]
 
 stops_then : (low high : ℕ) (Q : ℕ → List ℕ → Type 0) (part rest : List ℕ) (kind : TextKind) → high < 65536 → IsApart Q → AllDigits part → (IsNumber low high part → ⊥) → StopsIn (IsNumber low high) part rest kind → StopsIn (NumberThen low high Q) part rest kind
-stops_then low high Q part rest Grammar small apart digits none stops =
-    (stops.0, stops.1, stops.2, λ end r.
-        not_then low high Q part (stops.0 ∷ end) small apart digits none (λ x w e is number.
-            let same : stops.0 ≡ x = cc in
-            stops.3 e (subst (λ y. IsNumber low high (part ++ y ∷ e)) (sym same) number)) r)
-stops_then low high Q part rest End small apart digits none stops =
-    (stops.0, λ r.
-        not_then low high Q part [] small apart digits none (λ x w e is number. absurd (omega (arith, ap length is))) (subst (NumberThen low high Q) (sym (append-nil part)) r))
+stops_then low high Q part rest Grammar small apart digits none stops = (
+  stops.0,
+  stops.1,
+  stops.2,
+  λ end r.
+      not_then low high Q part (stops.0 ∷ end) small apart digits none (λ x w e is number.
+      let same : stops.0 ≡ x = cc in
+      stops.3 e (subst (λ y. IsNumber low high (part ++ y ∷ e)) (sym same) number)) r,
+)
+stops_then low high Q part rest End small apart digits none stops = (
+  stops.0,
+  λ r.
+      not_then low high Q part [] small apart digits none (λ x w e is number. absurd (omega (arith, ap length is))) (subst (NumberThen low high Q) (sym (append-nil part)) r),
+)
 stops_then low high Q part rest TooManyRuns small apart digits none stops = stops
 stops_then low high Q part rest NotOrdered small apart digits none stops = stops
 

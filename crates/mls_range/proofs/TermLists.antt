@@ -1,20 +1,20 @@
 -- Terms one after another: each text has one way to be cut into terms, and what the reader of terms keeps.
-use Rattle.std.proofs.Common.{◌≡◌, ℕ, zero, suc, ◌+◌, ◌-◌, ◌*◌, ◌^◌, ◌<◌, ◌≤◌, Bool, true, false, ◌||◌, cond, List, [], ◌∷◌, ◌++◌, length, get_or, take, drop, refl, sym, ap, subst, ◌∙◌, append_assoc, length-append, arith, inl, inr, ◌⊎◌}
+use Rattle.std.proofs.Common.{◌≡◌, ℕ, suc, ◌^◌, ◌<◌, ◌≤◌, Bool, List, [], ◌∷◌, ◌++◌, length, take, drop, refl, sym, ap, subst, ◌∙◌, append_assoc, arith, inl, inr, ◌⊎◌}
 use Rattle.std.specs.Fmt.{decimal}
-use Rattle.std.specs.List.{All, flat_map, list_any}
-use Rattle.std.proofs.lemmas.Bool.{cases_lt, cases_eq}
+use Rattle.std.specs.List.{All, flat_map}
+use Rattle.std.proofs.lemmas.Bool.{cases_lt}
 use Rattle.std.proofs.lemmas.List.{append-nil}
 use Rattle.std.proofs.lemmas.List.Elements.{All-nil, All-cons, All-head, All-tail}
 use Rattle.std.proofs.lemmas.Fmt.{decimal_injective}
 use Rattle.mls_range.specs.declared.fault.TextFault.{TextFault}
 use Rattle.mls_range.specs.declared.fault.TextKind.{TextKind}
 use Rattle.mls_range.specs.declared.fault.TextKind.TheVariants.{Grammar, End, TooManyRuns, NotOrdered}
-use Rattle.mls_range.specs.LabelText.{IsTerm, term_text, cats_of_terms}
-use Rattle.mls_range.specs.Crowd.{IsCounted, with_comma, run_count, CrowdsTerms}
+use Rattle.mls_range.specs.LabelText.{IsTerm, term_text}
+use Rattle.mls_range.specs.Crowd.{IsCounted, with_comma}
 use Rattle.mls_range.specs.Number.{IsDigit, AllDigits}
-use Rattle.mls_range.specs.Rest.{Reads, FaultIn, StopsIn, IsLabelEnd, separated, last_text, MoreTerms, Terms, TermOn}
+use Rattle.mls_range.specs.Rest.{FaultIn, StopsIn, IsLabelEnd, separated, last_text, MoreTerms, Terms, TermOn}
 use Rattle.mls_range.proofs.Digits.{digits_of_decimal, digits_back}
-use Rattle.mls_range.proofs.Rests.{Goes, goes_self, goes_then, Cuts, cuts}
+use Rattle.mls_range.proofs.Rests.{Goes, goes_self, goes_then, cuts}
 use Rattle.mls_range.proofs.TermRests.{term_text_is, last_none, last_some}
 
 -- ---- one way to cut

@@ -1,17 +1,15 @@
 -- What may come within a term and behind it.
-use Rattle.std.proofs.Common.{◌≡◌, ℕ, zero, suc, ◌+◌, ◌-◌, ◌*◌, ◌^◌, ◌<◌, ◌≤◌, Bool, true, false, cond, nat_eq, List, [], ◌∷◌, ◌++◌, length, get_or, take, drop, refl, sym, ap, subst, ◌∙◌, append_assoc, arith, inl, inr, ◌⊎◌}
+use Rattle.std.proofs.Common.{◌≡◌, ℕ, ◌+◌, ◌<◌, ◌≤◌, Bool, cond, List, [], ◌∷◌, ◌++◌, length, get_or, drop, refl, sym, ap, subst, ◌∙◌, append_assoc, arith, inl, inr, ◌⊎◌}
 use Rattle.std.specs.Fmt.{decimal}
 use Rattle.std.proofs.lemmas.Bool.{cases_lt, cases_eq, eq-eqb, ne_eqb}
 use Rattle.std.proofs.lemmas.List.{append-nil}
 use Rattle.mls_range.specs.declared.fault.TextFault.{TextFault}
-use Rattle.mls_range.specs.declared.fault.TextKind.{TextKind}
-use Rattle.mls_range.specs.declared.fault.TextKind.TheVariants.{Grammar, End, TooManyRuns, NotOrdered}
-use Rattle.mls_range.specs.LabelText.{IsTerm, term_text}
+use Rattle.mls_range.specs.LabelText.{term_text}
 use Rattle.mls_range.specs.Crowd.{IsCounted}
 use Rattle.mls_range.specs.Number.{IsDigit}
 use Rattle.mls_range.specs.Rest.{Reads, ReadsNumber, FaultIn, MissesOctet, MissesEnd, TermOn, BehindFirst, last_text}
 use Rattle.mls_range.proofs.Places.{first_is}
-use Rattle.mls_range.proofs.Rests.{Goes, goes_octet, goes_number, NumberThen, IsApart, fault_goes, fault_now, number_then, stops_octet, stops_end}
+use Rattle.mls_range.proofs.Rests.{Goes, goes_octet, goes_number, NumberThen, IsApart, fault_goes, fault_now, stops_octet, stops_end}
 
 -- ---- the two forms of a term
 
@@ -92,28 +90,28 @@ terms_some dash t w e =
 pub goes_letter : (dash : Bool) (s : List ℕ) → Goes (TermOn dash) (99 ∷ []) s (NumberThen 0 65534 (BehindFirst dash))
 goes_letter dash s =
     goes_octet 99 s (TermOn dash) (NumberThen 0 65534 (BehindFirst dash)) (λ t w.
-        let m = w.term.0 in
-        let n = w.term.1 in
-        let e : 99 ∷ t ≡ 99 ∷ ((decimal m ++ last_text m n) ++ w.more) = w.is ∙ ap (λ x. x ++ w.more) (term_text_is m n) in
-        let q : t ≡ (decimal m ++ last_text m n) ++ w.more = cc in
-        record {
-          number = m;
-          more = last_text m n ++ w.more;
-          is = q ∙ append_assoc (decimal m) (last_text m n) w.more;
-          above = omega arith;
-          below = omega (arith, w.is_term);
-          behind = record { last = n; more = w.more; order = w.is_term.0; small = w.is_term.1; is = refl; counts = w.counts };
-        }) (λ t n.
-        let b = n.behind in
-        let e : t ≡ (decimal n.number ++ last_text n.number b.last) ++ b.more =
-        n.is ∙ ap (λ x. decimal n.number ++ x) b.is ∙ sym (append_assoc (decimal n.number) (last_text n.number b.last) b.more) in
-        record {
-          term = (n.number, b.last);
-          more = b.more;
-          is_term = (b.order, b.small);
-          is = ap (λ x. 99 ∷ x) e ∙ ap (λ x. x ++ b.more) (sym (term_text_is n.number b.last));
-          counts = b.counts;
-        })
+    let m = w.term.0 in
+    let n = w.term.1 in
+    let e : 99 ∷ t ≡ 99 ∷ ((decimal m ++ last_text m n) ++ w.more) = w.is ∙ ap (λ x. x ++ w.more) (term_text_is m n) in
+    let q : t ≡ (decimal m ++ last_text m n) ++ w.more = cc in
+    record {
+      number = m;
+      more = last_text m n ++ w.more;
+      is = q ∙ append_assoc (decimal m) (last_text m n) w.more;
+      above = omega arith;
+      below = omega (arith, w.is_term);
+      behind = record { last = n; more = w.more; order = w.is_term.0; small = w.is_term.1; is = refl; counts = w.counts };
+    }) (λ t n.
+    let b = n.behind in
+    let e : t ≡ (decimal n.number ++ last_text n.number b.last) ++ b.more =
+    n.is ∙ ap (λ x. decimal n.number ++ x) b.is ∙ sym (append_assoc (decimal n.number) (last_text n.number b.last) b.more) in
+    record {
+      term = (n.number, b.last);
+      more = b.more;
+      is_term = (b.order, b.small);
+      is = ap (λ x. 99 ∷ x) e ∙ ap (λ x. x ++ b.more) (sym (term_text_is n.number b.last));
+      counts = b.counts;
+    })
 
 -- behind the dot of a term
 pub record BehindDot (dash : Bool) (m : ℕ) (text : List ℕ) : Type 0 where
@@ -127,20 +125,20 @@ pub record BehindDot (dash : Bool) (m : ℕ) (text : List ℕ) : Type 0 where
 pub goes_dot : (dash : Bool) (m : ℕ) (s : List ℕ) → Goes (BehindFirst dash m) (46 ∷ []) s (BehindDot dash m)
 goes_dot dash m s =
     goes_octet 46 s (BehindFirst dash m) (BehindDot dash m) (λ t b.
-        elim (behind_first dash m (46 ∷ t) b) [
-          | inl more ↦ absurd (counted_dot dash 46 more refl)
-          | inr dot ↦
-              let e : t ≡ 99 ∷ (decimal b.last ++ b.more) = cc (dot.1) in
-              record { last = b.last; more = b.more; order = dot.0; small = b.small; is = e; counts = b.counts }
-        ]) (λ t d.
-        record {
-          last = d.last;
-          more = d.more;
-          order = omega (arith, d.order);
-          small = d.small;
-          is = ap (λ x. 46 ∷ x) d.is ∙ ap (λ x. x ++ d.more) (sym (last_some m d.last d.order));
-          counts = d.counts;
-        })
+    elim (behind_first dash m (46 ∷ t) b) [
+      | inl more ↦ absurd (counted_dot dash 46 more refl)
+      | inr dot ↦
+          let e : t ≡ 99 ∷ (decimal b.last ++ b.more) = cc (dot.1) in
+          record { last = b.last; more = b.more; order = dot.0; small = b.small; is = e; counts = b.counts }
+    ]) (λ t d.
+    record {
+      last = d.last;
+      more = d.more;
+      order = omega (arith, d.order);
+      small = d.small;
+      is = ap (λ x. 46 ∷ x) d.is ∙ ap (λ x. x ++ d.more) (sym (last_some m d.last d.order));
+      counts = d.counts;
+    })
 
 pub dot_first : (dash : Bool) (m x : ℕ) (t : List ℕ) → BehindDot dash m (x ∷ t) → x ≡ 99
 dot_first dash m x t d = let e = d.is in cc
@@ -151,9 +149,9 @@ dot_none dash m d = let e = d.is in cc
 pub goes_second : (dash : Bool) (m : ℕ) (s : List ℕ) → Goes (BehindDot dash m) (99 ∷ []) s (NumberThen (m + 1) 65534 (λ n. IsCounted dash))
 goes_second dash m s =
     goes_octet 99 s (BehindDot dash m) (NumberThen (m + 1) 65534 (λ n. IsCounted dash)) (λ t d.
-        let e = d.is in
-        record { number = d.last; more = d.more; is = cc; above = omega (arith, d.order); below = omega (arith, d.small); behind = d.counts }) (λ t n.
-        record { last = n.number; more = n.more; order = omega (arith, n.above); small = omega (arith, n.below); is = ap (λ x. 99 ∷ x) n.is; counts = n.behind })
+    let e = d.is in
+    record { number = d.last; more = d.more; is = cc; above = omega (arith, d.order); below = omega (arith, d.small); behind = d.counts }) (λ t n.
+    record { last = n.number; more = n.more; order = omega (arith, n.above); small = omega (arith, n.below); is = ap (λ x. 99 ∷ x) n.is; counts = n.behind })
 
 pub dot_some : (dash : Bool) (m : ℕ) → m < 65534 → BehindDot dash m (99 ∷ (decimal 65534 ++ []))
 dot_some dash m lt = record { last = 65534; more = []; order = lt; small = omega arith; is = refl; counts = tt }
@@ -181,13 +179,13 @@ fault_number low high n Q text start at fault small apart r f =
 pub fault_undotted : (dash : Bool) (m : ℕ) (text : List ℕ) (at : ℕ) (fault : TextFault) → at ≤ length text → m < 65535 → fault.octet ≡ at → MissesEnd dash (drop at text) fault.kind → (m ≡ 65534) ⊎ (get_or text at 0 ≡ 46 → ⊥) → FaultIn (BehindFirst dash m) text at fault
 fault_undotted dash m text at fault within small place misses undotted =
     fault_now (BehindFirst dash m) text at fault [] within place (behind_none dash m small) (stops_end (BehindFirst dash m) dash (drop at text) fault.kind misses (λ x w t is b.
-        elim (behind_octet dash m x t b) [
-          | inl counts ↦ counts
-          | inr dot ↦ absurd (elim undotted [
-            | inl e ↦ omega (arith, dot.1)
-            | inr ne ↦ ne (first_is text at x w is ∙ dot.0)
-          ])
-        ]))
+    elim (behind_octet dash m x t b) [
+      | inl counts ↦ counts
+      | inr dot ↦ absurd (elim undotted [
+        | inl e ↦ omega (arith, dot.1)
+        | inr ne ↦ ne (first_is text at x w is ∙ dot.0)
+      ])
+    ]))
 
 pub fault_behind : (dash : Bool) (text : List ℕ) (at : ℕ) (fault : TextFault) → at ≤ length text → fault.octet ≡ at → MissesEnd dash (drop at text) fault.kind → FaultIn (IsCounted dash) text at fault
 fault_behind dash text at fault within place misses =

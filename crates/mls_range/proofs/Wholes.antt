@@ -1,10 +1,10 @@
 -- The faults of whole texts, from those of their parts.
-use Rattle.std.proofs.Common.{◌≡◌, ℕ, zero, suc, ◌+◌, ◌-◌, ◌<◌, ◌≤◌, Bool, true, false, IsTrue, List, [], ◌∷◌, ◌++◌, length, take, drop, refl, sym, ap, subst, ◌∙◌, append_assoc, length-append, arith, inl, inr, ◌⊎◌}
+use Rattle.std.proofs.Common.{◌≡◌, ℕ, ◌+◌, Bool, false, List, [], ◌∷◌, ◌++◌, length, take, drop, refl, sym, ap, subst, ◌∙◌, append_assoc, length-append, arith}
 use Rattle.std.specs.Fmt.{decimal}
 use Rattle.std.proofs.lemmas.Bool.{false≢true}
 use Rattle.std.proofs.lemmas.List.{append-nil, take_all, take-append-le}
 use Rattle.mls_label.specs.declared.label.Label.{Label}
-use Rattle.octet_grammar.specs.Front.{IsFront, IsNoMember}
+use Rattle.octet_grammar.specs.Front.{IsFront}
 use Rattle.octet_grammar.specs.Fault.{IsFault}
 use Rattle.mls_range.specs.declared.fault.TextFault.{TextFault}
 use Rattle.mls_range.specs.declared.fault.TextStop.{TextStop}
@@ -12,10 +12,10 @@ use Rattle.mls_range.specs.declared.fault.TextStop.TheVariants.{Fault, OutOfMemo
 use Rattle.mls_range.specs.declared.fault.TextKind.{TextKind}
 use Rattle.mls_range.specs.declared.fault.TextKind.TheVariants.{Grammar, End, TooManyRuns, NotOrdered}
 use Rattle.mls_range.specs.LabelText.{IsLabelText, cats_of_terms}
-use Rattle.mls_range.specs.Crowd.{CrowdsLabel, IsRoomy}
+use Rattle.mls_range.specs.Crowd.{CrowdsLabel}
 use Rattle.mls_range.specs.Place.{octet_fault, end_fault}
 use Rattle.mls_range.specs.TextFault.{FailsLabel, StopsLabel}
-use Rattle.mls_range.specs.Rest.{FaultIn, StopsIn, IsLabelEnd, separated, BehindLevel, LabelOn, FailsPart, StopsPart, ReadsPart}
+use Rattle.mls_range.specs.Rest.{FaultIn, StopsIn, IsLabelEnd, separated, LabelOn, FailsPart, StopsPart, ReadsPart}
 use Rattle.mls_range.proofs.Places.{reads_length}
 use Rattle.mls_range.proofs.Written.{terms_text_is}
 
@@ -98,7 +98,7 @@ label_and dash t l =
       ends = b.ends;
     }
 
-no_dash : (rest : List ℕ) → IsLabelEnd false rest → rest ≡ []
+pub no_dash : (rest : List ℕ) → IsLabelEnd false rest → rest ≡ []
 no_dash [] e = refl
 no_dash (x ∷ w) e = absurd (false≢true e.0)
 

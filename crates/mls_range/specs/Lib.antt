@@ -2,5 +2,7 @@ pub mod LabelText
 pub mod Crowd
 pub mod Place
 pub mod TextFault
+pub mod Range
+pub mod RangeText
 pub mod Number
 pub mod Rest

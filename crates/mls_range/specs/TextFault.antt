@@ -9,10 +9,14 @@ use Rattle.mls_range.specs.LabelText.{IsLabelText}
 use Rattle.mls_range.specs.Crowd.{CrowdsLabel, IsRoomy}
 use Rattle.mls_range.specs.Place.{octet_fault, end_fault}
 
+-- nowhere in a text that is read as a label are too many runs
+abbrev pub IsRoomyLabel : List ℕ → Type 0
+IsRoomyLabel text = IsRoomy false text
+
 -- the fault of a text that is read as a label
 abbrev pub FailsLabel : List ℕ → ℕ → TextKind → Type 0
-FailsLabel text octet Grammar = IsFault IsLabelText text (octet_fault octet) × IsRoomy false text
-FailsLabel text octet End = IsFault IsLabelText text (end_fault octet) × IsRoomy false text
+FailsLabel text octet Grammar = IsFault IsLabelText text (octet_fault octet) × IsRoomyLabel text
+FailsLabel text octet End = IsFault IsLabelText text (end_fault octet) × IsRoomyLabel text
 FailsLabel text octet TooManyRuns = CrowdsLabel false text octet
 FailsLabel text octet NotOrdered = ⊥
 

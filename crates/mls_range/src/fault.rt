@@ -1,5 +1,7 @@
 ghost use Rattle.std.specs.Prelude.{◌≡◌};
 
+use mls_label::OutOfMemory;
+
 /// What is wrong with a text.
 #[derive(Clone, Copy, Debug, PartialEq, Eq)]
 pub enum TextKind {
@@ -26,6 +28,16 @@ pub struct TextFault {
 pub enum TextStop {
     Fault(TextFault),
     OutOfMemory,
+}
+
+impl From<OutOfMemory> for TextStop {
+    ghost use Rattle.mls_range.specs.declared.fault.TextStop.TheVariants.{OutOfMemory};
+
+    ghost from_gives = { λ _ stop. stop ≡ OutOfMemory };
+
+    fn from(_failed: OutOfMemory) -> TextStop {
+        TextStop::OutOfMemory
+    }
 }
 
 impl From<TextFault> for TextStop {

@@ -4,16 +4,28 @@ ghost use Rattle.std.specs.Prelude.{◌≡◌, List, ℕ, ◌<◌};
 ghost use Rattle.mls_label.specs.Cats.{IsCats};
 ghost use Rattle.mls_label.specs.declared.label.Label.{Label};
 ghost use Rattle.mls_range.specs.LabelText.{IsLabelText, label_text};
+ghost use Rattle.mls_range.specs.Range.{Ends};
+ghost use Rattle.mls_range.specs.RangeText.{IsRangeText, range_text};
 
 /// A label's written form is a text of that label.
 pub fn written_label_reads_back()
     ensures { (label : Label) → label.level < 256 → IsCats label.cats
         → IsLabelText (label_text label) label }
-{
-}
+{}
 
 /// A text is the text of one label at most.
 pub fn a_text_has_one_label()
     ensures { (text : List ℕ) (a b : Label) → IsLabelText text a → IsLabelText text b → a ≡ b }
-{
-}
+{}
+
+/// A range's written form is a text of that range.
+pub fn written_range_reads_back()
+    ensures { (range : Ends) → range.low.level < 256 → range.high.level < 256
+        → IsCats range.low.cats → IsCats range.high.cats
+        → IsRangeText (range_text range) range }
+{}
+
+/// A text is the text of one range at most.
+pub fn a_text_has_one_range()
+    ensures { (text : List ℕ) (a b : Ends) → IsRangeText text a → IsRangeText text b → a ≡ b }
+{}

@@ -2,13 +2,16 @@
 #![tactic(auto)]
 
 mod fault;
+mod label;
 pub mod laws;
 mod number;
 mod octet;
-mod reading;
+mod range;
 mod terms;
-mod writing;
 
 pub use fault::{TextFault, TextKind, TextStop};
-pub use reading::read_label;
-pub use writing::write_label;
+pub use label::{read_label, write_label};
+pub use range::{Range, read_range, write_range};
+
+#[cfg(test)]
+mod tests;

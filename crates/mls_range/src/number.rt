@@ -32,18 +32,26 @@ fn goes_on(count: usize, number: u32, octet: u8, low: u32, high: u32) -> bool
     requires small { number < 65536 }
     requires order { low ≤ high }
     requires bound { high < 65536 }
-    ensures { MatchBool result (GoesOn count number octet low high) (GoesOn count number octet low high → ⊥) }
+    ensures { MatchBool result
+        (GoesOn count number octet low high) (GoesOn count number octet low high → ⊥) }
 {
     let is_led_by_zero = if count == 0 {
         octet == b'0' && low > 0
     } else {
         number == 0
     };
-    octet.is_ascii_digit() && !is_led_by_zero && reaches(10 * number + u32::from(octet - b'0'), low, high)
+    octet.is_ascii_digit()
+        && !is_led_by_zero
+        && reaches(10 * number + u32::from(octet - b'0'), low, high)
 }
 
 /// Reads the longest number from `low` to `high` that begins at `start`, and gives it with its end.
-pub(crate) fn read_number(text: &[u8], start: usize, low: u32, high: u32) -> Result<(u32, usize), TextFault>
+pub(crate) fn read_number(
+    text: &[u8],
+    start: usize,
+    low: u32,
+    high: u32,
+) -> Result<(u32, usize), TextFault>
     requires within { start ≤ length text.now }
     requires order { low ≤ high }
     requires bound { high < 65536 }

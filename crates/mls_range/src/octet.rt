@@ -36,7 +36,8 @@ pub(crate) fn read_octet(text: &[u8], at: usize, wanted: u8) -> Result<usize, Te
 /// Whether a label may end at a place: at the end of the text or, with `dash`, at a dash.
 pub(crate) fn is_label_end(text: &[u8], at: usize, dash: bool) -> bool
     requires { at ≤ length text.now }
-    ensures { MatchBool result (IsLabelEnd dash (drop at text.now)) (IsLabelEnd dash (drop at text.now) → ⊥) }
+    ensures { MatchBool result
+        (IsLabelEnd dash (drop at text.now)) (IsLabelEnd dash (drop at text.now) → ⊥) }
 {
     at == text.len() || dash && text[at] == b'-'
 }

@@ -76,21 +76,28 @@ fn read_term(text: &[u8], start: usize, dash: bool) -> Result<Term, TextFault>
 /// Adds the categories of a term to the set. The fault of a set that can't have them stands where the term begins.
 fn add_term(cats: &mut CatSet, term: &Term, start: usize) -> Result<(), TextStop>
     requires { IsTerm (term.now.first, term.now.last) }
-    ensures ok { OnOk result (cats.new ≡ cats_where (λ c. has cats.old c || is_within term.now.first term.now.last c)) }
+    ensures ok { OnOk result
+        (cats.new ≡ cats_where (λ c. has cats.old c || is_within term.now.first term.now.last c)) }
     ensures few { OnOk result (length (runs_of cats.new) ≤ 1952) }
     ensures err { IfErr result (StopsRun cats.old term.now.first term.now.last start) }
 {
-    cats.add_run(term.first, term.last).map_err(|stop| match stop {
-        SetStop::TooManyRuns => TextStop::Fault(TextFault {
-            octet: start,
-            kind: TextKind::TooManyRuns,
-        }),
-        SetStop::OutOfMemory => TextStop::OutOfMemory,
-    })
+    cats.add_run(term.first, term.last)
+        .map_err(|stop| match stop {
+            SetStop::TooManyRuns => TextStop::Fault(TextFault {
+                octet: start,
+                kind: TextKind::TooManyRuns,
+            }),
+            SetStop::OutOfMemory => TextStop::OutOfMemory,
+        })
 }
 
 /// Reads terms up to their end, and gives their categories with that place.
-pub(crate) fn read_terms(alloc: Global, text: &[u8], start: usize, dash: bool) -> Result<(CatSet, usize), TextStop>
+pub(crate) fn read_terms(
+    alloc: Global,
+    text: &[u8],
+    start: usize,
+    dash: bool,
+) -> Result<(CatSet, usize), TextStop>
     requires { start ≤ length text.now }
     ensures ok { IfOk result (λ read. ReadsTerms dash text.now start read.0 read.1) }
     ensures err { IfErr result (StopsTerms dash text.now start) }

@@ -1,18 +1,15 @@
 -- From how a command ends to how the call of the program ends.
-use Rattle.std.proofs.Common.{◌≡◌, ◌≢◌, ℕ, ◌^◌, ◌<◌, Bool, List, [], ◌∷◌, get_or, refl, sym, ap, subst, ◌∙◌, arith, inl, inr, ◌⊎◌, Option, Some, None}
-use Rattle.std.specs.Prelude.{IsTrue, codes}
-use Rattle.std.specs.Fmt.{decimal}
+use Rattle.std.proofs.Common.{◌≡◌, ◌≢◌, ℕ, Bool, List, [], get_or, refl, sym, ap, subst, ◌∙◌, arith, inl, inr, ◌⊎◌}
 use Rattle.std.proofs.lemmas.Fmt.{decimal_injective}
 use Rattle.net_io.specs.Faults.{Rose, SameCounts}
 use Rattle.mls_label.specs.declared.label.Label.{Label}
 use Rattle.mls_range.specs.LabelText.{IsLabelText}
 use Rattle.mls_range.proofs.Unique.{one_label}
 use Rattle.netlabel_run.specs.declared.ending.Ending.{Ending}
-use Rattle.netlabel_run.specs.declared.ending.Ending.TheVariants.{Done, NoForm, ReadFault, WriteFault, OutOfMemory, Limit}
+use Rattle.netlabel_run.specs.declared.ending.Ending.TheVariants.{Done, NoForm, ReadFault, OutOfMemory}
 use Rattle.netlabel_run.specs.Words.{AsksToJudge, IsForm}
-use Rattle.netlabel_run.specs.Report.{Folder, Reports, no_form, judges, ReportsJudge, NamesFile, CountRose, usage_line}
-use Rattle.netlabel_run.specs.Ending.{status_of, IsEvent, IsRefusal}
-use Rattle.netlabel_run.specs.Prints.{PrintsWhole, PrintsPart, IsReported, IsFirst, Prints, Ends}
+use Rattle.netlabel_run.specs.Report.{Folder, Reports, no_form, judges, ReportsJudge, NamesFile, usage_line}
+use Rattle.netlabel_run.specs.Prints.{Prints, Ends}
 use Rattle.netlabel_run.specs.Call.{EndsCall}
 use Rattle.netlabel_run.proofs.Endings.{ends_printed}
 
@@ -22,10 +19,11 @@ asks_once words doi doi' level level' file file' a b =
     let same = sym a.are ∙ b.are in
     let d : a.doi_text ≡ b.doi_text = ap (λ ws. get_or ws 1 []) same in
     let l : a.level_text ≡ b.level_text = ap (λ ws. get_or ws 2 []) same in
-    let f : file ≡ file' = ap (λ ws. get_or ws 3 []) same in
-    ( decimal_injective doi doi' (omega (arith, a.is_doi.fits)) (omega (arith, b.is_doi.fits)) (sym a.is_doi.is ∙ d ∙ b.is_doi.is)
-    , one_label b.level_text level level' (subst (λ t. IsLabelText t level) l a.is_level.reads) b.is_level.reads
-    , f)
+    let f : file ≡ file' = ap (λ ws. get_or ws 3 []) same in (
+      decimal_injective doi doi' (omega (arith, a.is_doi.fits)) (omega (arith, b.is_doi.fits)) (sym a.is_doi.is ∙ d ∙ b.is_doi.is),
+      one_label b.level_text level level' (subst (λ t. IsLabelText t level) l a.is_level.reads) b.is_level.reads,
+      f,
+    )
 
 -- what the words report is what `judge` does
 only_judge : (words : List (List ℕ)) (held : Folder) (doi : ℕ) (level : Label) (file : List ℕ) (n : ℕ) (text : List ℕ) → AsksToJudge words doi level file → Reports words held n text → ReportsJudge doi level (held file) n text
@@ -33,8 +31,8 @@ only_judge words held doi level file n text asks (no_form none) = absurd (none (
 only_judge words held doi level file n text asks (judges doi' level' file' status text' asks' r) =
     let same = asks_once words doi' doi level' level file' file asks' asks in
     subst (λ f. ReportsJudge doi level (held f) n text) same.2
-      (subst (λ l. ReportsJudge doi l (held file') n text) same.1
-        (subst (λ d. ReportsJudge d level' (held file') n text) same.0 r))
+    (subst (λ l. ReportsJudge doi l (held file') n text) same.1
+    (subst (λ d. ReportsJudge d level' (held file') n text) same.0 r))
 
 pub ends_as_judge : (words : List (List ℕ)) (held : Folder) (a b : Bool) (doi : ℕ) (level : Label) (file : List ℕ) (result : Ending) (reads reads' : List ℕ → ℕ) (writes writes' : ℕ) (old new : List ℕ)
     → AsksToJudge words doi level file → result ≢ NoForm → (result ≡ Done → SameCounts reads reads')
@@ -54,7 +52,9 @@ ends_as_judge words held a b doi level file result reads reads' writes writes' o
       done = λ told out done. (let w = ends.done told out done in record { text = w.text; reports = lift _ _ w.reports; printed = w.printed });
       part = λ told out. elim (ends.part told out) [ inl e ↦ inl e | inr p ↦ inr (p.0, p.1, lift _ _ p.2, p.3) ];
       read_fault = λ is. (file, names, ends.read_fault is);
+      silent = ends.silent;
       write_fault = ends.write_fault;
+      printing = λ told is. (let e = ends.printing told is in (e.0, lift _ _ e.1));
       unmoved = λ done. (unmoved done, (ends.unmoved done).1);
     }
 
@@ -81,7 +81,7 @@ pub ends_as_usage : (words : List (List ℕ)) (held : Folder) (a b : Bool) (resu
     → (IsForm words → ⊥) → Prints b usage_line NoForm result old new writes writes' → EndsCall words held a b result reads reads writes writes' old new
 ends_as_usage words held a b result reads writes writes' old new none prints =
     let ends : Ends (Reports words held) a b result 0 0 writes writes' old new =
-        ends_printed (Reports words held) a b NoForm result usage_line 0 0 writes writes' old new (inr (inl refl)) (λ told. no_form none) (λ told n text r. only_usage words held n text none r) refl prints in
+    ends_printed (Reports words held) a b NoForm result usage_line 0 0 writes writes' old new (inr (inl refl)) (λ told. no_form none) (λ told n text r. only_usage words held n text none r) refl prints in
     let which = usage_or_memory b result writes writes' old new prints in
     let others = not_refused result which in
     record {
@@ -93,6 +93,8 @@ ends_as_usage words held a b result reads writes writes' old new none prints =
       done = ends.done;
       part = ends.part;
       read_fault = λ is. absurd (others.0 is);
+      silent = λ out is. absurd (others.0 is);
       write_fault = ends.write_fault;
+      printing = ends.printing;
       unmoved = λ done. absurd (others.1 done);
     }

@@ -1,6 +1,6 @@
 -- The words of the command line, one by one.
-use Rattle.std.proofs.Common.{◌≡◌, ℕ, zero, suc, ◌+◌, ◌<◌, ◌≤◌, ◌^◌, Bool, true, false, List, [], ◌∷◌, length, get_or, refl, sym, ap, subst, ◌∙◌, arith, inl, inr, ◌⊎◌, Result, Ok, Err}
-use Rattle.std.specs.Prelude.{codes, string_bytes, String, IfOk, IsErrOf}
+use Rattle.std.proofs.Common.{◌≡◌, ℕ, ◌<◌, ◌≤◌, ◌^◌, List, [], ◌∷◌, length, get_or, sym, ap, subst, ◌∙◌, arith, inl, inr, ◌⊎◌, Result, Ok, Err}
+use Rattle.std.specs.Prelude.{codes, string_bytes, String, IfOk}
 use Rattle.std.specs.declared.alloc.Global.{Global}
 use Rattle.std.specs.Fmt.{decimal}
 use Rattle.std.proofs.lemmas.Fmt.{decimal_injective}
@@ -14,8 +14,7 @@ use Rattle.mls_range.specs.TextFault.{FailsLabel}
 use Rattle.mls_range.specs.Place.{octet_fault, end_fault}
 use Rattle.netlabel_run.specs.declared.words.Judge.{Judge}
 use Rattle.netlabel_run.specs.declared.words.WordsStop.{WordsStop}
-use Rattle.netlabel_run.specs.declared.words.WordsStop.TheVariants.{NoForm, OutOfMemory}
-use Rattle.netlabel_run.specs.Words.{texts_of, IsDoi, IsLevel, IsFileName, AsksToJudge, IsForm}
+use Rattle.netlabel_run.specs.Words.{texts_of, IsDoi, IsLevel, IsFileName, IsForm}
 use Rattle.netlabel_run.specs.Command.{Asks, AsksBy, NoneAsks}
 
 -- a number out of range is no DOI

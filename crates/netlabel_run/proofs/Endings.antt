@@ -1,17 +1,14 @@
 -- How a call ends, over plain values.
-use Rattle.std.proofs.Common.{◌≡◌, ◌≢◌, ℕ, ◌+◌, ◌<◌, ◌≤◌, Bool, List, [], ◌∷◌, ◌++◌, length, take, refl, sym, ap, subst, ◌∙◌, arith, inl, inr, ◌⊎◌, Option, Some, None}
+use Rattle.std.proofs.Common.{◌≡◌, ◌≢◌, ℕ, ◌<◌, ◌≤◌, Bool, List, ◌++◌, length, refl, sym, ap, subst, ◌∙◌, arith, inl, inr, ◌⊎◌, Option, Some, None}
 use Rattle.std.specs.Prelude.{IsTrue}
 use Rattle.std.proofs.lemmas.List.{take_all}
 use Rattle.net_io.specs.Depot.{octets_of}
-use Rattle.net_io.specs.Faults.{Rose}
-use Rattle.net_io.specs.Sink.{WritesPrefix}
 use Rattle.mls_label.specs.declared.label.Label.{Label}
 use Rattle.netlabel_run.specs.declared.ending.Ending.{Ending}
 use Rattle.netlabel_run.specs.declared.ending.Ending.TheVariants.{Done, NoForm, ReadFault, WriteFault, OutOfMemory, Limit}
-use Rattle.netlabel_run.specs.Verdict.{IsVerdict}
-use Rattle.netlabel_run.specs.Report.{ReportsJudge, too_long, judged, packet_limit, packet_limit_line}
-use Rattle.netlabel_run.specs.Ending.{status_of, IsEvent, IsRefusal, after_write_fault_of}
-use Rattle.netlabel_run.specs.Prints.{PrintsWhole, PrintsPart, IsReported, IsFirst, Prints, Ends}
+use Rattle.netlabel_run.specs.Report.{ReportsJudge, too_long, judged, packet_limit}
+use Rattle.netlabel_run.specs.Ending.{status_of, IsEvent, after_write_fault_of}
+use Rattle.netlabel_run.specs.Prints.{Prints, Ends}
 
 -- the other variants of an ending, from its status
 no_refusal : (e : Ending) → IsEvent (status_of e) → (e ≢ OutOfMemory) × (e ≢ ReadFault) × (e ≢ WriteFault)
@@ -52,7 +49,9 @@ ends_printed R a b event result line reads reads' writes writes' old new is_even
   done = λ told out done. record { text = line; reports = subst (λ s. R s line) (ap status_of done) (reports told); printed = whole out };
   part = λ told out. inr (status_of event, line, reports told, record { count = length line; within = omega arith; written = whole out ∙ ap (λ t. old ++ t) (sym (take_all (length line) line (omega arith))) });
   read_fault = λ is. absurd ((no_refusal event is_event).1 is);
+  silent = λ out is. absurd ((no_refusal event is_event).1 is);
   write_fault = λ is. absurd ((no_refusal event is_event).2 is);
+  printing = λ told is. absurd ((no_refusal event is_event).2 is);
   unmoved = λ _. (same, unmoved);
 })
 ends_printed R a b event result line reads reads' writes writes' old new is reports only same (inr (inl (e, part))) = subst (λ r. Ends R a b r reads reads' writes writes' old new) (sym e) (record {
@@ -62,7 +61,9 @@ ends_printed R a b event result line reads reads' writes writes' old new is repo
   done = λ told out is. absurd cc;
   part = λ told out. inr (status_of event, line, reports told, part out);
   read_fault = λ is. absurd cc;
+  silent = λ out is. absurd cc;
   write_fault = λ is. absurd cc;
+  printing = λ told is. absurd cc;
   unmoved = λ is. absurd cc;
 })
 ends_printed R a b event result line reads reads' writes writes' old new is reports only same (inr (inr (e, rose, part))) =
@@ -74,7 +75,9 @@ ends_printed R a b event result line reads reads' writes writes' old new is repo
         done = λ told out is. absurd cc;
         part = λ told out. inr (status_of event, line, reports told, part out);
         read_fault = λ is. absurd cc;
+        silent = λ out is. absurd cc;
         write_fault = λ is. rose;
+        printing = λ told is. (line, subst (λ e. R (status_of e) line) failed.1 (reports told));
         unmoved = λ is. absurd cc;
       })
       | inr kept ↦ subst (λ r. Ends R a b r reads reads' writes writes' old new) (sym (e ∙ kept.0)) (record {
@@ -84,7 +87,9 @@ ends_printed R a b event result line reads reads' writes writes' old new is repo
         done = λ told out done. absurd (kept.1 done);
         part = λ told out. inr (status_of event, line, reports told, part out);
         read_fault = λ read. absurd ((no_refusal event is).1 read);
+        silent = λ out read. absurd ((no_refusal event is).1 read);
         write_fault = λ _. rose;
+        printing = λ told write. absurd ((no_refusal event is).2 write);
         unmoved = λ done. absurd (kept.1 done);
       })
     ]
@@ -95,11 +100,11 @@ same_octets o p file e f = let same : o ≡ p = cc in ap length same
 -- the only event of a file that is too long, and of one that isn't
 pub only_too_long : (doi : ℕ) (level : Label) (octets : List ℕ) (file : Option (List ℕ)) (n : ℕ) (text : List ℕ) → file ≡ Some octets → packet_limit < length octets → ReportsJudge doi level file n text → n ≡ 7
 only_too_long doi level octets file n text e long (too_long o f more) = refl
-only_too_long doi level octets file n text e long (judged o line f less verdict) = absurd (omega (arith, same_octets o octets file f e))
+only_too_long doi level octets file n text e long (judged o verdict f less is) = absurd (omega (arith, same_octets o octets file f e))
 
 pub only_judged : (doi : ℕ) (level : Label) (octets : List ℕ) (file : Option (List ℕ)) (n : ℕ) (text : List ℕ) → file ≡ Some octets → length octets ≤ packet_limit → ReportsJudge doi level file n text → n ≡ 0
 only_judged doi level octets file n text e short (too_long o f more) = absurd (omega (arith, same_octets o octets file f e))
-only_judged doi level octets file n text e short (judged o line f less verdict) = refl
+only_judged doi level octets file n text e short (judged o verdict f less is) = refl
 
 -- a file with more octets than none is there
 pub is_there : (file : Option (List ℕ)) → packet_limit < length (octets_of file) → file ≡ Some (octets_of file)

@@ -1,4 +1,3 @@
-pub mod Area
 pub mod Commands
 pub mod Endings
 pub mod Calls

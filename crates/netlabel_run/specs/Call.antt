@@ -18,5 +18,7 @@ pub record EndsCall (words : List (List ℕ)) (held : Folder) (held_told out_tol
   pub done : IsTrue held_told → IsTrue out_told → result ≡ Done → PrintsWhole (Reports words held) 0 old new
   pub part : IsTrue held_told → IsTrue out_told → PrintsPart (Reports words held) old new
   pub read_fault : result ≡ ReadFault → (file : List ℕ) × NamesFile words file × Rose (reads file) (reads' file)
+  pub silent : IsTrue out_told → result ≡ ReadFault → new ≡ old
   pub write_fault : result ≡ WriteFault → Rose writes writes'
+  pub printing : IsTrue held_told → result ≡ WriteFault → IsReported (Reports words held) 0
   pub unmoved : result ≡ Done → SameCounts reads reads' × (writes' ≡ writes)

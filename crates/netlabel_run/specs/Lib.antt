@@ -1,8 +1,7 @@
 pub mod Words
 pub mod Command
-pub mod Header
-pub mod Option
 pub mod Verdict
+pub mod Line
 pub mod Report
 pub mod Ending
 pub mod Prints

@@ -4,7 +4,7 @@ use Rattle.net_io.specs.Faults.{Rose}
 use Rattle.net_io.specs.Sink.{WritesPrefix}
 use Rattle.netlabel_run.specs.Ending.{status_of, IsEvent, IsRefusal, after_write_fault_of}
 use Rattle.netlabel_run.specs.declared.ending.Ending.{Ending}
-use Rattle.netlabel_run.specs.declared.ending.Ending.TheVariants.{Done, NoForm, ReadFault, WriteFault, OutOfMemory, Limit}
+use Rattle.netlabel_run.specs.declared.ending.Ending.TheVariants.{Done, ReadFault, WriteFault, OutOfMemory}
 
 -- the whole text that goes with the status
 pub record PrintsWhole (R : ℕ → List ℕ → Type 0) (status : ℕ) (old new : List ℕ) : Type 0 where
@@ -28,8 +28,8 @@ IsFirst R status = (reported : ℕ) (text : List ℕ) → R reported text → (s
 abbrev pub Prints : Bool → List ℕ → Ending → Ending → List ℕ → List ℕ → ℕ → ℕ → Type 0
 Prints told line ending result old new before after =
     ((result ≡ ending) × (after ≡ before) × (IsTrue told → new ≡ old ++ line))
-  ⊎ ((result ≡ OutOfMemory) × (IsTrue told → WritesPrefix line old new))
-  ⊎ ((result ≡ after_write_fault_of ending) × Rose before after × (IsTrue told → WritesPrefix line old new))
+    ⊎ ((result ≡ OutOfMemory) × (IsTrue told → WritesPrefix line old new))
+    ⊎ ((result ≡ after_write_fault_of ending) × Rose before after × (IsTrue told → WritesPrefix line old new))
 
 -- How a call ends that is to report by R and reads one file: the numbers are the faults of reading that file and of
 -- writing, before and after.
@@ -40,5 +40,7 @@ pub record Ends (R : ℕ → List ℕ → Type 0) (held_told out_told : Bool) (r
   pub done : IsTrue held_told → IsTrue out_told → result ≡ Done → PrintsWhole R 0 old new
   pub part : IsTrue held_told → IsTrue out_told → PrintsPart R old new
   pub read_fault : result ≡ ReadFault → Rose reads reads'
+  pub silent : IsTrue out_told → result ≡ ReadFault → new ≡ old
   pub write_fault : result ≡ WriteFault → Rose writes writes'
+  pub printing : IsTrue held_told → result ≡ WriteFault → IsReported R 0
   pub unmoved : result ≡ Done → (reads' ≡ reads) × (writes' ≡ writes)

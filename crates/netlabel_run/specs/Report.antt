@@ -1,10 +1,12 @@
 -- What a call prints and the status that it ends with, where no read and no write fails and memory suffices: the first
 -- event decides. Words that are no form have status 1; a limit that is passed has status 7; else the status is 0.
-use Rattle.std.specs.Prelude.{ℕ, ◌≡◌, ◌⊎◌, ◌<◌, ◌≤◌, ◌++◌, List, [], ◌∷◌, length, take, codes, Option, Some}
+use Rattle.std.specs.Prelude.{ℕ, ◌≡◌, ◌⊎◌, ◌<◌, ◌≤◌, List, length, codes, Option, Some}
 use Rattle.mls_label.specs.declared.label.Label.{Label}
 use Rattle.net_io.specs.Faults.{Rose}
 use Rattle.netlabel_run.specs.Words.{AsksToJudge, IsForm}
-use Rattle.netlabel_run.specs.Verdict.{line_of, IsVerdict}
+use Rattle.netlabel_run.specs.declared.verdict.Verdict.{Verdict}
+use Rattle.netlabel_run.specs.Verdict.{IsVerdict}
+use Rattle.netlabel_run.specs.Line.{line_of, verdict_line}
 
 -- what each name of the depot holds
 abbrev pub Folder : Type 0
@@ -23,7 +25,7 @@ packet_limit = 65575
 -- `judge` over what its file holds: a file that is too long, else the verdict
 pub data ReportsJudge (doi : ℕ) (level : Label) (file : Option (List ℕ)) : ℕ → List ℕ → Type 0 where
   too_long : (octets : List ℕ) → file ≡ Some octets → packet_limit < length octets → ReportsJudge doi level file 7 packet_limit_line
-  judged : (octets line : List ℕ) → file ≡ Some octets → length octets ≤ packet_limit → IsVerdict doi level octets line → ReportsJudge doi level file 0 line
+  judged : (octets : List ℕ) (verdict : Verdict) → file ≡ Some octets → length octets ≤ packet_limit → IsVerdict doi level octets verdict → ReportsJudge doi level file 0 (verdict_line verdict)
 
 -- the status and the printed octets that words have over a folder
 pub data Reports (words : List (List ℕ)) (held : Folder) : ℕ → List ℕ → Type 0 where

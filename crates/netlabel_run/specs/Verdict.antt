@@ -1,35 +1,38 @@
--- What is printed for the octets of a file: the first case that holds.
-use Rattle.std.specs.Prelude.{ℕ, ◌≡◌, ◌≢◌, ◌⊎◌, ◌++◌, List, [], ◌∷◌, codes}
+-- What is decided of the octets of a file: `judge` receives one packet on a node that knows one DOI, with CIPSO's tags 1,
+-- 2 and 5, and accepts no packet without a label option.
+use Rattle.std.specs.Prelude.{ℕ, ◌≡◌, ◌≢◌, ◌+◌, List, Option, Some, None}
 use Rattle.mls_label.specs.declared.label.Label.{Label}
 use Rattle.mls_label.specs.Label.{Dominates}
-use Rattle.mls_range.specs.LabelText.{label_text}
-use Rattle.netlabel_run.specs.Option.{Carries}
+use Rattle.packet_label.specs.declared.denial.Denial.{Denial}
+use Rattle.packet_label.specs.declared.denial.Denial.TheVariants.{BadHeader, BadOption, Unlabelled, UnknownDoi, NotDominated}
+use Rattle.packet_label.specs.declared.fault.CarryFault.TheVariants as fault
+use Rattle.packet_label.specs.declared.packet.Wire.{Wire}
+use Rattle.packet_label.specs.Wire.{place_of, doi_of, label_of}
+use Rattle.packet_label.specs.Packet.{LabelledPacket, IsPacket}
+use Rattle.packet_label.specs.Fault.{IsPacketFault}
+use Rattle.netlabel_run.specs.declared.verdict.Verdict.{Verdict}
+use Rattle.netlabel_run.specs.declared.verdict.Verdict.TheVariants.{Delivered, Denied}
 
--- a text and the end of its line
-abbrev pub line_of : List ℕ → List ℕ
-line_of text = text ++ 10 ∷ []
+-- of a label option at this place with this DOI and label, for a receiver of this level
+abbrev pub AnswersTo : ℕ → Label → ℕ → ℕ → Label → Verdict → Type 0
+AnswersTo known level at doi label (Denied (UnknownDoi octet)) = (doi ≢ known) × (octet ≡ at + 2)
+AnswersTo known level at doi label (Denied NotDominated) = (doi ≡ known) × (Dominates level label → ⊥)
+AnswersTo known level at doi label (Delivered told) = (doi ≡ known) × Dominates level label × (told ≡ label)
+AnswersTo known level at doi label verdict = ⊥
 
-unfoldable pub bad_header_line : List ℕ
-bad_header_line = line_of (codes "denied 1 BadHeader octet 0")
+-- the same of a packet that may have no label option
+abbrev pub IsAnswer : ℕ → Label → Option Wire → Verdict → Type 0
+IsAnswer known level None verdict = verdict ≡ Denied Unlabelled
+IsAnswer known level (Some wire) verdict = AnswersTo known level (place_of wire) (doi_of wire) (label_of wire) verdict
 
-unfoldable pub unknown_doi_line : List ℕ
-unknown_doi_line = line_of (codes "denied 5 UnknownDoi octet 22")
+-- the octets are a packet, and this is decided of it
+pub record IsJudged (known : ℕ) (level : Label) (octets : List ℕ) (verdict : Verdict) : Type 0 where
+  pub packet : LabelledPacket
+  pub is : IsPacket octets packet
+  pub answer : IsAnswer known level packet.wire verdict
 
-unfoldable pub not_dominated_line : List ℕ
-not_dominated_line = line_of (codes "denied 12 NotDominated")
-
-unfoldable pub delivered_line : Label → List ℕ
-delivered_line label = line_of (codes "delivered " ++ label_text label)
-
--- of a label under a DOI, for a receiver of this level whose node knows this DOI alone
-abbrev pub IsAnswer : ℕ → Label → ℕ → Label → List ℕ → Type 0
-IsAnswer known level doi label line =
-    ((doi ≢ known) × (line ≡ unknown_doi_line))
-  ⊎ ((doi ≡ known) × (Dominates level label → ⊥) × (line ≡ not_dominated_line))
-  ⊎ ((doi ≡ known) × Dominates level label × (line ≡ delivered_line label))
-
--- of the octets of a file
-abbrev pub IsVerdict : ℕ → Label → List ℕ → List ℕ → Type 0
-IsVerdict known level octets line =
-    (((doi : ℕ) (label : Label) → Carries octets doi label → ⊥) × (line ≡ bad_header_line))
-  ⊎ ((doi : ℕ) × (label : Label) × Carries octets doi label × IsAnswer known level doi label line)
+-- of the octets of a file: their first fault, where they are no packet
+abbrev pub IsVerdict : ℕ → Label → List ℕ → Verdict → Type 0
+IsVerdict known level octets (Denied (BadHeader octet)) = IsPacketFault octets (fault.Header octet)
+IsVerdict known level octets (Denied (BadOption octet)) = IsPacketFault octets (fault.Option octet)
+IsVerdict known level octets verdict = IsJudged known level octets verdict

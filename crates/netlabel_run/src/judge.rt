@@ -3,13 +3,15 @@
 ghost use Rattle.std.specs.Prelude.{◌≡◌, ◌≢◌, ◌≤◌, ◌^◌, ◌-◌, ◌⊎◌, ℕ, IsTrue, IfOk};
 ghost use Rattle.net_io.specs.Depot.{SameHeld};
 ghost use Rattle.net_io.specs.Faults.{Rose, SameCounts};
-ghost use Rattle.netlabel_run.specs.Verdict.{IsVerdict, IsAnswer};
+ghost use Rattle.netlabel_run.specs.declared.verdict.Verdict.{Verdict};
+ghost use Rattle.netlabel_run.specs.Verdict.{IsVerdict};
+ghost use Rattle.netlabel_run.specs.Line.{verdict_line};
 ghost use Rattle.netlabel_run.specs.Report.{ReportsJudge};
 ghost use Rattle.netlabel_run.specs.Prints.{Ends};
 
 use crate::ending::Ending;
-use crate::option::{Carried, CarriedStop, read_packet};
 use crate::report;
+use crate::verdict::judge_packet;
 use mls_label::{Label, OutOfMemory};
 use net_io::{Depot, Sink, WholeFault, read_whole};
 use std::alloc::Global;
@@ -39,36 +41,25 @@ pub(crate) fn judge<D: Depot, S: Sink>(
 {
     let octets = match read_whole(alloc, depot, file, PACKET_LIMIT) {
         Ok(octets) => octets,
-        Err(WholeFault::TooLong) => return report::print(out, report::packet_limit(), Ending::Limit),
+        Err(WholeFault::TooLong) => return report::print(
+            out,
+            report::packet_limit(),
+            Ending::Limit,
+        ),
         Err(WholeFault::Failed) => return Ending::ReadFault,
         Err(WholeFault::OutOfMemory) => return Ending::OutOfMemory,
     };
-    match verdict(alloc, doi, level, &octets) {
+    match judge_line(alloc, doi, level, &octets) {
         Ok(line) => report::print(out, &line, Ending::Done),
         Err(OutOfMemory) => Ending::OutOfMemory,
     }
 }
 
 /// The line that says whether a receiver of this level may have the packet, and why not.
-fn verdict(alloc: Global, known: u32, level: &Label, octets: &[u8]) -> Result<Vec<u8>, OutOfMemory>
-    ensures { IfOk result (λ line. IsVerdict known level.now octets.now line.items) }
+fn judge_line(alloc: Global, doi: u32, level: &Label, octets: &[u8]) -> Result<Vec<u8>, OutOfMemory>
+    ensures { IfOk result (λ line. (verdict : Verdict) × IsVerdict doi level.now octets.now verdict
+        × (line.items ≡ verdict_line verdict)) }
 {
-    match read_packet(alloc, octets) {
-        Ok(carried) => answer(alloc, known, level, &carried),
-        Err(CarriedStop::NotCarried) => Ok(Vec::from_slice(alloc, report::bad_header())?),
-        Err(CarriedStop::OutOfMemory) => Err(OutOfMemory),
-    }
-}
-
-/// The same for what a packet carries.
-fn answer(alloc: Global, known: u32, level: &Label, carried: &Carried) -> Result<Vec<u8>, OutOfMemory>
-    ensures { IfOk result (λ line. IsAnswer known level.now carried.now.doi carried.now.label line.items) }
-{
-    if carried.doi != known {
-        return Ok(Vec::from_slice(alloc, report::unknown_doi())?);
-    }
-    if !level.dominates(&carried.label) {
-        return Ok(Vec::from_slice(alloc, report::not_dominated())?);
-    }
-    report::delivered(alloc, &carried.label)
+    let verdict = judge_packet(alloc, doi, level, octets)?;
+    report::verdict_line(alloc, &verdict)
 }

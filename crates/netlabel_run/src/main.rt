@@ -3,22 +3,19 @@
 #![tactic(auto)]
 
 mod ending;
-mod header;
 mod judge;
-mod option;
 mod outcome;
 mod report;
-mod top;
-mod words;
-
 #[cfg(test)]
 mod tests;
+mod top;
+mod verdict;
+mod words;
 
 use net_io::{RealDepot, RealSink};
-use std::alloc::AllocError;
-use std::env;
-use std::io;
+use std::alloc::{AllocError, Global};
 use std::process::ExitCode;
+use std::{env, io};
 use top::netlabel;
 
 /// The status where memory ran out before the call.
@@ -32,13 +29,29 @@ fn main(rt: HostRuntime) -> ExitCode {
 /// Calls the program with the words of the command line.
 fn call(rt: HostRuntime) -> io::Result<u8> {
     let alloc = rt.alloc();
-    let mut words = Vec::new(alloc);
-    for word in env::args(&rt)?.skip(1) {
-        words.push(word)?;
-    }
+    let words = match words_of(&rt) {
+        Err(fault) if fault.kind() == io::ErrorKind::InvalidData => no_form(alloc)?,
+        words => words?,
+    };
     let Ok(mut depot) = RealDepot::new(rt.clone()?, alloc) else {
         return Ok(OUT_OF_MEMORY);
     };
     let mut sink = RealSink::new(rt);
     Ok(netlabel(alloc, &words, &mut depot, &mut sink).status)
+}
+
+/// The words of the command line without the program's name. A word that isn't UTF-8 is invalid data.
+fn words_of(rt: &HostRuntime) -> io::Result<Vec<String>> {
+    let mut words = Vec::new(rt.alloc());
+    for word in env::args(rt)?.skip(1) {
+        words.push(word)?;
+    }
+    Ok(words)
+}
+
+/// Words that are no form, in place of such as can't be told: each form has nothing but ASCII.
+fn no_form(alloc: Global) -> Result<Vec<String>, AllocError> {
+    let mut words = Vec::new(alloc);
+    words.push(String::new(alloc))?;
+    Ok(words)
 }

@@ -1,17 +1,18 @@
 //! The printed lines. Each is a definition of `specs/`, and printing one is one write of the whole line.
 
-ghost use Rattle.std.specs.Prelude.{◌≡◌, ◌≢◌, ◌++◌, IsTrue, OnOk, OnErr, IfOk};
-ghost use Rattle.net_io.specs.Faults.{Rose};
-ghost use Rattle.net_io.specs.Sink.{WritesPrefix};
-ghost use Rattle.netlabel_run.specs.Verdict.{bad_header_line, unknown_doi_line, not_dominated_line, delivered_line};
+ghost use Rattle.std.specs.Prelude.{◌≡◌, ◌++◌, codes, OnOk, IfOk};
+ghost use Rattle.netlabel_run.specs.Line.{octet_detail, detail_of, denial_text, delivered_text, verdict_line};
 ghost use Rattle.netlabel_run.specs.Report.{usage_line, packet_limit_line};
 ghost use Rattle.netlabel_run.specs.Prints.{Prints};
 
 use crate::ending::Ending;
+use crate::verdict::Verdict;
+use decimal_text::write_decimal;
 use mls_label::{Label, OutOfMemory};
 use mls_range::write_label;
 use net_io::{IoFault, Sink, write_all_to};
-use std::alloc::Global;
+use packet_label::{Denial, cause_name};
+use std::alloc::{AllocError, Global};
 
 /// The forms of the command line.
 #[tactic(auto, unfolding(crate::specs::Report::usage_line))]
@@ -29,39 +30,69 @@ pub(crate) fn packet_limit() -> &'static [u8]
     b"limit packet 65575\n"
 }
 
-/// The octets are no packet that can be judged.
-#[tactic(auto, unfolding(crate::specs::Verdict::bad_header_line))]
-pub(crate) fn bad_header() -> &'static [u8]
-    ensures { result.now ≡ bad_header_line }
+/// The line of a verdict.
+pub(crate) fn verdict_line(alloc: Global, verdict: &Verdict) -> Result<Vec<u8>, OutOfMemory>
+    ensures { IfOk result (λ line. line.items ≡ verdict_line verdict.now) }
 {
-    b"denied 1 BadHeader octet 0\n"
-}
-
-/// The node doesn't know the option's DOI.
-#[tactic(auto, unfolding(crate::specs::Verdict::unknown_doi_line))]
-pub(crate) fn unknown_doi() -> &'static [u8]
-    ensures { result.now ≡ unknown_doi_line }
-{
-    b"denied 5 UnknownDoi octet 22\n"
-}
-
-/// The receiver's level doesn't dominate the label.
-#[tactic(auto, unfolding(crate::specs::Verdict::not_dominated_line))]
-pub(crate) fn not_dominated() -> &'static [u8]
-    ensures { result.now ≡ not_dominated_line }
-{
-    b"denied 12 NotDominated\n"
-}
-
-/// The receiver may have the packet, whose label this is.
-#[tactic(auto, unfolding(crate::specs::Verdict::delivered_line))]
-pub(crate) fn delivered(alloc: Global, label: &Label) -> Result<Vec<u8>, OutOfMemory>
-    ensures { IfOk result (λ line. line.items ≡ delivered_line label.now) }
-{
-    let mut line = Vec::from_slice(alloc, b"delivered ")?;
-    write_label(label, &mut line)?;
+    let mut line = Vec::new(alloc);
+    match verdict {
+        Verdict::Delivered(label) => write_delivered(label, &mut line)?,
+        Verdict::Denied(denial) => write_denied(denial, &mut line)?,
+    }
     line.push(b'\n')?;
     Ok(line)
+}
+
+/// Appends that the receiver may have the packet, whose label this is.
+#[tactic(auto, unfolding(crate::specs::Line::delivered_text))]
+fn write_delivered(label: &Label, line: &mut Vec<u8>) -> Result<(), OutOfMemory>
+    ensures { OnOk result (line.new.items ≡ line.old.items ++ delivered_text label.now) }
+{
+    line.extend_from_slice(b"delivered ")?;
+    write_label(label, line)
+}
+
+/// Appends why the receiver may not have it.
+#[tactic(auto, unfolding(crate::specs::Line::denial_text))]
+fn write_denied(denial: &Denial, line: &mut Vec<u8>) -> Result<(), OutOfMemory>
+    ensures { OnOk result (line.new.items ≡ line.old.items ++ denial_text denial.now) }
+{
+    line.extend_from_slice(b"denied ")?;
+    write_decimal(u64::from(denial.number()), line)?;
+    line.extend_from_slice(b" ")?;
+    line.extend_from_slice(denial.name().as_bytes())?;
+    write_detail(denial, line)?;
+    Ok(())
+}
+
+/// Appends the octet at fault, the category or the cause, where the denial has one.
+fn write_detail(denial: &Denial, line: &mut Vec<u8>) -> Result<(), AllocError>
+    ensures { OnOk result (line.new.items ≡ line.old.items ++ detail_of denial.now) }
+{
+    match denial {
+        Denial::BadHeader { octet }
+        | Denial::BadOption { octet }
+        | Denial::UnknownDoi { octet }
+        | Denial::TagNotAllowed { octet }
+        | Denial::AlreadyLabelled { octet } => write_octet(*octet, line),
+        Denial::CategoryUnmapped { category } => {
+            line.extend_from_slice(b" category ")?;
+            write_decimal(u64::from(*category), line)
+        }
+        Denial::NotCrossable { cause } => {
+            line.extend_from_slice(b" ")?;
+            line.extend_from_slice(cause_name(*cause).as_bytes())
+        }
+        _ => Ok(()),
+    }
+}
+
+/// Appends the octet at fault.
+fn write_octet(octet: usize, line: &mut Vec<u8>) -> Result<(), AllocError>
+    ensures { OnOk result (line.new.items ≡ line.old.items ++ octet_detail octet) }
+{
+    line.extend_from_slice(b" octet ")?;
+    write_decimal(octet as u64, line)
 }
 
 /// Prints a whole line, and tells how the call ends that is to end so. A write that fails ends it otherwise only where

@@ -35,30 +35,43 @@ pub fn netlabel<D: Depot, S: Sink>(
     ensures usage { (IsForm (texts_of words.now) → ⊥) → (result.status ≡ 1) ⊎ (result.status ≡ 6) }
 
     // 0, 1 and 7: only where the words and the file say so; and where they say so it is that one, or 3, 4 or 6.
-    ensures event { IsTrue (D.tells depot.old) → IsEvent result.status → IsReported (Reports (texts_of words.now) (D.held depot.old)) result.status }
-    ensures first { IsTrue (D.tells depot.old) → IsFirst (Reports (texts_of words.now) (D.held depot.old)) result.status }
+    ensures event { IsTrue (D.tells depot.old) → IsEvent result.status
+        → IsReported (Reports (texts_of words.now) (D.held depot.old)) result.status }
+    ensures first { IsTrue (D.tells depot.old)
+        → IsFirst (Reports (texts_of words.now) (D.held depot.old)) result.status }
 
-    // 3 and 4: only where a read of the named file, or a write, has failed in this call.
+    // 3: only where a read of the named file has failed in this call, and then nothing was printed.
     ensures read_fault { result.status ≡ 3 → (file : List ℕ) × NamesFile (texts_of words.now) file
         × Rose (D.read_faults depot.old file) (D.read_faults depot.new file) }
+    ensures silent { IsTrue (S.tells out.old) → result.status ≡ 3 → S.written out.new ≡ S.written out.old }
+
+    // 4: only where a write has failed in this call, and nothing else had decided before.
     ensures write_fault { result.status ≡ 4 → Rose (S.faults out.old) (S.faults out.new) }
+    ensures printing { IsTrue (D.tells depot.old) → result.status ≡ 4
+        → IsReported (Reports (texts_of words.now) (D.held depot.old)) 0 }
 
     // What was printed is the whole text where nothing has failed, and with status 0; and always a front of it.
     ensures whole { IsTrue (D.tells depot.old) → IsTrue (S.tells out.old)
-        → (CountRose (texts_of words.now) (D.read_faults depot.old) (D.read_faults depot.new) (S.faults out.old) (S.faults out.new) → ⊥)
-        → result.status ≢ 6 → PrintsWhole (Reports (texts_of words.now) (D.held depot.old)) result.status (S.written out.old) (S.written out.new) }
+        → (CountRose (texts_of words.now) (D.read_faults depot.old) (D.read_faults depot.new)
+        (S.faults out.old) (S.faults out.new) → ⊥)
+        → result.status ≢ 6
+        → PrintsWhole (Reports (texts_of words.now) (D.held depot.old)) result.status
+        (S.written out.old) (S.written out.new) }
     ensures done { IsTrue (D.tells depot.old) → IsTrue (S.tells out.old) → result.status ≡ 0
         → PrintsWhole (Reports (texts_of words.now) (D.held depot.old)) 0 (S.written out.old) (S.written out.new) }
     ensures part { IsTrue (D.tells depot.old) → IsTrue (S.tells out.old)
         → PrintsPart (Reports (texts_of words.now) (D.held depot.old)) (S.written out.old) (S.written out.new) }
 
     // With status 0 no count has moved.
-    ensures unmoved { result.status ≡ 0 → SameCounts (D.read_faults depot.old) (D.read_faults depot.new) × (S.faults out.new ≡ S.faults out.old) }
+    ensures unmoved { result.status ≡ 0 → SameCounts (D.read_faults depot.old) (D.read_faults depot.new)
+        × (S.faults out.new ≡ S.faults out.old) }
 
     ensures seen { result.seen.items ≡ [] }
     ensures kept { IsTrue (D.tells depot.old) → SameHeld (D.held depot.old) (D.held depot.new) }
     ensures creates { SameCounts (D.create_faults depot.old) (D.create_faults depot.new) }
     ensures appends { SameCounts (D.append_faults depot.old) (D.append_faults depot.new) }
+    ensures told { D.tells depot.new ≡ D.tells depot.old }
+    ensures out_told { S.tells out.new ≡ S.tells out.old }
 {
     let ending = carry_out(alloc, words, depot, out);
     Outcome {
@@ -80,6 +93,8 @@ fn carry_out<D: Depot, S: Sink>(
     ensures kept { IsTrue (D.tells depot.old) → SameHeld (D.held depot.old) (D.held depot.new) }
     ensures creates { SameCounts (D.create_faults depot.old) (D.create_faults depot.new) }
     ensures appends { SameCounts (D.append_faults depot.old) (D.append_faults depot.new) }
+    ensures told { D.tells depot.new ≡ D.tells depot.old }
+    ensures out_told { S.tells out.new ≡ S.tells out.old }
 {
     match read_words(alloc, words) {
         Ok(command) => judge(alloc, command.doi, &command.level, command.file, depot, out),

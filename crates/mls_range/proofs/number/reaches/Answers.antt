@@ -1,4 +1,4 @@
-use Rattle.std.proofs.Common.{◌≤◌, arith}
+use Rattle.std.proofs.Common.{arith}
 use Rattle.mls_range.proofs.Digits.{reaches_now, reaches_past, reaches_more, reaches_less}
 use Rattle.mls_range.proofs.number.reaches.Goals as goal
 

@@ -1,5 +1,5 @@
-use Rattle.std.proofs.Common.{◌≡◌, ℕ, ◌+◌, ◌-◌, ◌*◌, ◌<◌, ◌≤◌, length, drop, get_or, List, subst, ap, sym, arith, inl, inr, ◌⊎◌}
-use Rattle.mls_range.proofs.Numbers.{HasDigits, EndsDigits, has_none, has_small, has_more, ends_here, ends_past, number_fault, number_read}
+use Rattle.std.proofs.Common.{◌≡◌, ◌+◌, ◌-◌, ◌*◌, ◌<◌, get_or, subst, arith, inl, inr, ◌⊎◌}
+use Rattle.mls_range.proofs.Numbers.{HasDigits, EndsDigits, has_small, has_more, ends_here, ends_past, number_fault, number_read}
 use Rattle.mls_range.proofs.number.read_number.Goals as goal
 use Rattle.mls_range.proofs.number.read_number.Goals.{then-loop-at-test+else-goes_on, else-loop-at-test, then-at-start-via-then-at-start, then-at-start-via-else-at-start+then-number-low}
 

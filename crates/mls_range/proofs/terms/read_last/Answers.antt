@@ -1,11 +1,9 @@
-use Rattle.std.proofs.Common.{◌≡◌, ℕ, ◌+◌, ◌<◌, ◌≤◌, length, drop, get_or, List, [], ◌∷◌, ap, sym, ◌∙◌, arith, inl, inr, ◌⊎◌}
-use Rattle.std.specs.Fmt.{decimal}
+use Rattle.std.proofs.Common.{◌≡◌, ◌+◌, get_or, [], arith, inl, inr, ◌⊎◌}
 use Rattle.std.proofs.lemmas.List.{get_or_past}
 use Rattle.std.proofs.lemmas.Result.{err_from_is_err_and}
 use Rattle.mls_range.specs.Crowd.{IsCounted}
-use Rattle.mls_range.proofs.Places.{drop_end}
-use Rattle.mls_range.proofs.Rests.{NumberThen, number_then}
-use Rattle.mls_range.proofs.TermRests.{BehindDot, counted_apart, fault_dot, fault_second, fault_number, fault_undotted, fault_behind, fault_no_letter}
+use Rattle.mls_range.proofs.Rests.{number_then}
+use Rattle.mls_range.proofs.TermRests.{counted_apart, fault_dot, fault_second, fault_number, fault_undotted, fault_behind, fault_no_letter}
 use Rattle.mls_range.proofs.terms.read_last.Goals as goal
 use Rattle.mls_range.proofs.terms.read_last.Goals.{then-first-eq-MOST-via-then-first-eq-MOST, then-first-eq-MOST-via-else-first-eq-MOST+then-start-text, then-first-eq-MOST-via-else-first-eq-MOST+else-start-text+then-text-start-ne46}
 

@@ -1,10 +1,6 @@
-use Rattle.std.proofs.Common.{◌≡◌, ℕ, ◌+◌, ◌<◌, ◌≤◌, length, drop, get_or, List, subst, sym, arith, inl, inr, ◌⊎◌}
+use Rattle.std.proofs.Common.{◌≡◌, length, get_or, subst, sym, arith, inl, inr, ◌⊎◌}
 use Rattle.std.proofs.lemmas.Result.{err_from_is_err_and}
-use Rattle.mls_range.specs.declared.fault.TextFault.{TextFault}
-use Rattle.mls_range.specs.declared.fault.TextStop.{TextStop}
-use Rattle.mls_range.specs.declared.fault.TextStop.TheVariants.{Fault, OutOfMemory}
-use Rattle.mls_range.specs.Rest.{StopsRun, StopsTerms, FailsTerms, ReadsTerm}
-use Rattle.mls_range.proofs.Crowds.{HasTerms, has_none, has_more, fails_term, crowds_term, reads_terms, stops_run}
+use Rattle.mls_range.proofs.Crowds.{HasTerms, has_none, has_more, fails_term, reads_terms, stops_run}
 use Rattle.mls_range.proofs.terms.read_terms.Goals as goal
 use Rattle.mls_range.proofs.terms.read_terms.Goals.{then-term-text-via-then-term-text, then-term-text-via-else-term-text+then-text-term-ne44}
 

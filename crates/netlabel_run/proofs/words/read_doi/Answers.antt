@@ -1,4 +1,4 @@
-use Rattle.std.proofs.Common.{◌≡◌, ◌∙◌, sym, inl, inr, arith}
+use Rattle.std.proofs.Common.{◌∙◌, sym, inl, inr, arith}
 use Rattle.netlabel_run.proofs.Commands.{no_doi}
 use Rattle.netlabel_run.proofs.words.read_doi.Goals as goal
 use Rattle.netlabel_run.proofs.words.read_doi.Goals.{then-number-eq0-via-then-number-eq0, then-number-eq0-via-else-number-eq0+then-number-from}

@@ -1,4 +1,4 @@
-use Rattle.std.proofs.Common.{◌≡◌, refl, subst}
+use Rattle.std.proofs.Common.{refl}
 use Rattle.netlabel_run.proofs.Commands.{no_level}
 use Rattle.netlabel_run.proofs.words.read_judge.Goals as goal
 

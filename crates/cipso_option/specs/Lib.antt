@@ -1,0 +1,3 @@
+pub mod Cipso
+pub mod Text
+pub mod Head

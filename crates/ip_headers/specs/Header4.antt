@@ -1,0 +1,57 @@
+-- The header of version 4 (RFC 791, section 3.1).
+use Rattle.std.specs.Prelude.{ℕ, ◌*◌, ◌/◌, ◌%◌, not, ◌||◌, List, take, Option, Some, None, length, slice_index, slice_range, nat_lt, ◌==◌, if◌then◌else◌}
+use Rattle.ip_headers.specs.declared.version.Version.TheVariants.{V4}
+use Rattle.ip_headers.specs.declared.fault.HeadFault.{HeadFault}
+use Rattle.ip_headers.specs.declared.fault.HeadKind.{HeadKind}
+use Rattle.ip_headers.specs.declared.fault.HeadKind.TheVariants.{Short, Version, HeaderLength, TotalLength, Checksum}
+use Rattle.ip_headers.specs.Sum.{word_at, ones_sum}
+use Rattle.ip_headers.specs.Options.{Placed}
+use Rattle.ip_headers.specs.Packet.{ParsedPacket}
+
+-- the version of a packet of either version
+abbrev pub version_of : List ℕ → ℕ
+version_of octets = slice_index octets 0 / 16
+
+-- IHL counts words of four octets
+abbrev pub header_length : List ℕ → ℕ
+header_length octets = 4 * (slice_index octets 0 % 16)
+
+abbrev pub total_length : List ℕ → ℕ
+total_length octets = word_at octets 2
+
+-- a fault at this octet
+abbrev pub fault : ℕ → HeadKind → Option HeadFault
+fault octet kind = Some (record { octet = octet; kind = kind })
+
+-- the first test that fails before the options are read
+unfoldable pub fixed_fault4 : List ℕ → Option HeadFault
+fixed_fault4 octets =
+    if nat_lt (length octets) 20 then fault (length octets) Short else
+    (if not (version_of octets == 4) then fault 0 Version else
+    (if nat_lt (header_length octets) 20 then fault 0 HeaderLength else
+    (if nat_lt (total_length octets) (header_length octets) || nat_lt (length octets) (total_length octets) then fault 2 TotalLength else
+    (if not (ones_sum (take (header_length octets) octets) == 65535) then fault 10 Checksum else
+    None))))
+
+abbrev pub head4 : List ℕ → List ℕ
+head4 octets = take (header_length octets) octets
+
+abbrev pub payload4 : List ℕ → List ℕ
+payload4 octets = slice_range octets (header_length octets) (total_length octets)
+
+-- what the header's octets say, with these options and this payload
+abbrev pub parsed4 : List ℕ → Option Placed → List Placed → List ℕ → ParsedPacket
+parsed4 head label others payload = record {
+  version = V4;
+  class = slice_index head 1;
+  identification = word_at head 4;
+  flags_offset = word_at head 6;
+  flow_label = 0;
+  hops = slice_index head 8;
+  protocol = slice_index head 9;
+  source = slice_range head 12 16;
+  destination = slice_range head 16 20;
+  label = label;
+  others = others;
+  payload = payload;
+}

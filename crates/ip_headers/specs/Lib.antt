@@ -1,0 +1,12 @@
+pub mod Sum
+pub mod Options
+pub mod Packet
+pub mod Header4
+pub mod Header6
+pub mod Reading
+pub mod Written
+pub mod Walk
+pub mod View
+pub mod View4
+pub mod View6
+pub mod Laws

@@ -1,0 +1,435 @@
+// Worked values: packets made by hand from RFC 791 and RFC 8200, and the first test that fails of broken ones.
+
+ghost use Rattle.std.specs.Prelude.{◌<◌};
+ghost use Rattle.ip_headers.specs.declared.version.Version.TheVariants.{V4, V6};
+ghost use Rattle.ip_headers.specs.Written.{IsLabelOption};
+
+use super::*;
+use std::alloc::{AllocError, Global};
+use std::test::*;
+
+/// A packet of UDP with a CIPSO option of DOI 16, level 2, categories 1 and 3.
+const LABELLED: &str =
+    "480000280000000040118ca00a0000010a000002860b0000001001050002500003e8003500080000";
+
+/// A packet of UDP without options.
+const PLAIN: &str = "4500001c00004000401126cf0a0000010a00000203e800350008e7be";
+
+/// The fixed header of a packet of IPv6 with a Hop-by-Hop header of 8 octets and 8 octets of payload.
+const ALERT: &str =
+    "6000000000100040fd000000000000000000000000000001fd000000000000000000000000000002110005020000010003e8003500080000";
+
+const FAULTS4: [(&str, &str, usize, HeadKind); 27] = [
+    ("no octet", "", 0, HeadKind::Short),
+    ("one octet", "45", 1, HeadKind::Short),
+    (
+        "19 octets",
+        "480000280000000040118ca00a0000010a0000",
+        19,
+        HeadKind::Short,
+    ),
+    (
+        "version 5",
+        "580000280000000040118ca00a0000010a000002860b0000001001050002500003e8003500080000",
+        0,
+        HeadKind::Version,
+    ),
+    (
+        "version 0",
+        "080000280000000040118ca00a0000010a000002860b0000001001050002500003e8003500080000",
+        0,
+        HeadKind::Version,
+    ),
+    (
+        "version 6",
+        "680000280000000040118ca00a0000010a000002860b0000001001050002500003e8003500080000",
+        0,
+        HeadKind::Version,
+    ),
+    (
+        "IHL 0",
+        "400000280000000040118ca00a0000010a000002860b0000001001050002500003e8003500080000",
+        0,
+        HeadKind::HeaderLength,
+    ),
+    (
+        "IHL 4",
+        "440000280000000040118ca00a0000010a000002860b0000001001050002500003e8003500080000",
+        0,
+        HeadKind::HeaderLength,
+    ),
+    (
+        "total length 0",
+        "480000000000000040118ca00a0000010a000002860b0000001001050002500003e8003500080000",
+        2,
+        HeadKind::TotalLength,
+    ),
+    (
+        "total length below the header",
+        "4800001f0000000040118ca00a0000010a000002860b0000001001050002500003e8003500080000",
+        2,
+        HeadKind::TotalLength,
+    ),
+    (
+        "header past the octets",
+        "4800001c00004000401126cf0a0000010a00000203e800350008e7be",
+        2,
+        HeadKind::TotalLength,
+    ),
+    (
+        "without the last octet",
+        "480000280000000040118ca00a0000010a000002860b0000001001050002500003e80035000800",
+        2,
+        HeadKind::TotalLength,
+    ),
+    (
+        "checksum octet 10",
+        "480000280000000040118da00a0000010a000002860b0000001001050002500003e8003500080000",
+        10,
+        HeadKind::Checksum,
+    ),
+    (
+        "checksum octet 11",
+        "480000280000000040118ca10a0000010a000002860b0000001001050002500003e8003500080000",
+        10,
+        HeadKind::Checksum,
+    ),
+    (
+        "type of service changed",
+        "480100280000000040118ca00a0000010a000002860b0000001001050002500003e8003500080000",
+        10,
+        HeadKind::Checksum,
+    ),
+    (
+        "last octet of the header changed",
+        "480000280000000040118ca00a0000010a000002860b0000001001050002500103e8003500080000",
+        10,
+        HeadKind::Checksum,
+    ),
+    (
+        "first option, length 0",
+        "46000018000000004011dfd20a0000010a00000286000000",
+        21,
+        HeadKind::OptionList,
+    ),
+    (
+        "first option, length 1",
+        "4600001800000000401121d20a0000010a00000244010000",
+        21,
+        HeadKind::OptionList,
+    ),
+    (
+        "first option passes",
+        "4600001800000000401121ce0a0000010a00000244050000",
+        21,
+        HeadKind::OptionList,
+    ),
+    (
+        "middle option passes",
+        "4700001c000000004011de830a0000010a0000020144030082070000",
+        25,
+        HeadKind::OptionList,
+    ),
+    (
+        "last octet has no length octet",
+        "46000018000000004011638e0a0000010a00000201010144",
+        24,
+        HeadKind::OptionList,
+    ),
+    (
+        "last option passes",
+        "460000180000000040119bcd0a0000010a00000286024403",
+        23,
+        HeadKind::OptionList,
+    ),
+    (
+        "second label and then a broken option",
+        "4700001c00000000401114c10a0000010a0000028602860244090000",
+        25,
+        HeadKind::OptionList,
+    ),
+    (
+        "second label behind the first",
+        "4600001800000000401159ce0a0000010a00000286028602",
+        22,
+        HeadKind::SecondLabel,
+    ),
+    (
+        "second label in the middle",
+        "480000200000000040114eb60a0000010a0000028604aabb018604ccdd010101",
+        25,
+        HeadKind::SecondLabel,
+    ),
+    (
+        "second label at the end",
+        "4700001c00000000401156c80a0000010a0000028602010101018602",
+        26,
+        HeadKind::SecondLabel,
+    ),
+    (
+        "third label",
+        "4700001c000000004011d1c60a0000010a0000028602860286020101",
+        22,
+        HeadKind::SecondLabel,
+    ),
+];
+
+const FAULTS6: [(&str, &str, usize, HeadKind); 23] = [
+    ("no octet", "", 0, HeadKind::Short),
+    ("one octet", "60", 1, HeadKind::Short),
+    (
+        "39 octets",
+        "6000000000081140fd000000000000000000000000000001fd0000000000000000000000000000",
+        39,
+        HeadKind::Short,
+    ),
+    (
+        "version 4",
+        "4000000000081140fd000000000000000000000000000001fd00000000000000000000000000000203e8003500080000",
+        0,
+        HeadKind::Version,
+    ),
+    (
+        "version 15",
+        "f000000000081140fd000000000000000000000000000001fd00000000000000000000000000000203e8003500080000",
+        0,
+        HeadKind::Version,
+    ),
+    (
+        "payload length above the octets",
+        "6000000000081140fd000000000000000000000000000001fd00000000000000000000000000000203e80035000800",
+        4,
+        HeadKind::TotalLength,
+    ),
+    (
+        "header alone, payload length 1",
+        "6000000000011140fd000000000000000000000000000001fd000000000000000000000000000002",
+        4,
+        HeadKind::TotalLength,
+    ),
+    (
+        "Hop-by-Hop in 7 octets",
+        "6000000000070040fd000000000000000000000000000001fd00000000000000000000000000000203e8003500080000",
+        4,
+        HeadKind::TotalLength,
+    ),
+    (
+        "Hop-by-Hop in no octet",
+        "6000000000000040fd000000000000000000000000000001fd00000000000000000000000000000203e8003500080000",
+        4,
+        HeadKind::TotalLength,
+    ),
+    (
+        "Hop-by-Hop passes the payload",
+        "6000000000080040fd000000000000000000000000000001fd0000000000000000000000000000021101010400000000",
+        41,
+        HeadKind::HeaderLength,
+    ),
+    (
+        "Hop-by-Hop of 2048 octets passes",
+        "6000000000100040fd000000000000000000000000000001fd00000000000000000000000000000211ff01040000000003e8003500080000",
+        41,
+        HeadKind::HeaderLength,
+    ),
+    (
+        "first option passes",
+        "6000000000080040fd000000000000000000000000000001fd0000000000000000000000000000021100050500000000",
+        43,
+        HeadKind::OptionList,
+    ),
+    (
+        "middle option passes",
+        "6000000000080040fd000000000000000000000000000001fd000000000000000000000000000002110000000005ff00",
+        46,
+        HeadKind::OptionList,
+    ),
+    (
+        "last octet has no length octet",
+        "6000000000080040fd000000000000000000000000000001fd0000000000000000000000000000021100000000000005",
+        48,
+        HeadKind::OptionList,
+    ),
+    (
+        "last option passes",
+        "6000000000080040fd000000000000000000000000000001fd0000000000000000000000000000021100010200000501",
+        47,
+        HeadKind::OptionList,
+    ),
+    (
+        "jumbo and second label and then a broken option",
+        "6000000000100040fd000000000000000000000000000001fd0000000000000000000000000000021101c204000100000700070005080000",
+        53,
+        HeadKind::OptionList,
+    ),
+    (
+        "jumbo first",
+        "6000000000080040fd000000000000000000000000000001fd0000000000000000000000000000021100c20400010000",
+        42,
+        HeadKind::Jumbo,
+    ),
+    (
+        "jumbo in the middle",
+        "6000000000100040fd000000000000000000000000000001fd00000000000000000000000000000211010000c20400010000010400000000",
+        44,
+        HeadKind::Jumbo,
+    ),
+    (
+        "jumbo last",
+        "6000000000100040fd000000000000000000000000000001fd0000000000000000000000000000021101010800000000000000000000c200",
+        54,
+        HeadKind::Jumbo,
+    ),
+    (
+        "jumbo behind two labels",
+        "6000000000080040fd000000000000000000000000000001fd000000000000000000000000000002110007000700c200",
+        46,
+        HeadKind::Jumbo,
+    ),
+    (
+        "second label behind the first",
+        "6000000000080040fd000000000000000000000000000001fd0000000000000000000000000000021100070007000100",
+        44,
+        HeadKind::SecondLabel,
+    ),
+    (
+        "second label in the middle",
+        "6000000000100040fd000000000000000000000000000001fd00000000000000000000000000000211010702aabb000702ccdd0103000000",
+        47,
+        HeadKind::SecondLabel,
+    ),
+    (
+        "second label at the end",
+        "6000000000100040fd000000000000000000000000000001fd00000000000000000000000000000211010708000000100002bfd901000700",
+        54,
+        HeadKind::SecondLabel,
+    ),
+];
+
+/// DOI 16, tag 1, level 2, categories 1 and 3.
+fn cipso() -> [u8; 11]
+    ensures { IsLabelOption V4 result }
+{
+    [134, 11, 0, 0, 0, 16, 1, 5, 0, 2, 80]
+}
+
+/// DOI 16, level 2, no category.
+fn calipso() -> [u8; 10]
+    ensures { IsLabelOption V6 result }
+{
+    [7, 8, 0, 0, 0, 16, 0, 2, 0xbf, 0xd9]
+}
+
+fn nibble(digit: u8) -> u8
+    ensures { result < 16 }
+{
+    match digit {
+        b'0'..=b'9' => digit - b'0',
+        b'a'..=b'f' => digit - b'a' + 10,
+        _ => 0,
+    }
+}
+
+fn octets(alloc: Global, text: &str) -> Result<Vec<u8>, AllocError> {
+    let mut octets = Vec::new(alloc);
+    let mut rest = text.as_bytes();
+    while let [high, low, after @ ..] = rest {
+        octets.push(16 * nibble(*high) + nibble(*low))?;
+        rest = after;
+    }
+    Ok(octets)
+}
+
+#[test]
+fn first_faults_of_version_4(rt: HostRuntime) -> Result<(), Fail> {
+    for (name, text, octet, kind) in FAULTS4 {
+        let bytes = octets(rt.alloc(), text)?;
+        let got = read4(&bytes).err();
+        assert_eq!(rt; got, Some(HeadFault { octet, kind }), "{name}");
+        let front = front4(&bytes).err();
+        assert_eq!(rt; front.is_none(), kind == HeadKind::SecondLabel, "{name}");
+    }
+    Ok(())
+}
+
+#[test]
+fn first_faults_of_version_6(rt: HostRuntime) -> Result<(), Fail> {
+    for (name, text, octet, kind) in FAULTS6 {
+        let bytes = octets(rt.alloc(), text)?;
+        let got = read6(&bytes).err();
+        assert_eq!(rt; got, Some(HeadFault { octet, kind }), "{name}");
+        let front = front6(&bytes).err();
+        assert_eq!(rt; front.is_none(), kind == HeadKind::SecondLabel, "{name}");
+    }
+    Ok(())
+}
+
+#[test]
+fn a_labelled_packet_of_version_4(rt: HostRuntime) -> Result<(), Fail> {
+    let bytes = octets(rt.alloc(), LABELLED)?;
+    let option = cipso();
+    let packet = read4(&bytes).ok().ok_or("a packet")?;
+    assert_eq!(rt; packet.hops(), 64);
+    assert_eq!(rt; packet.protocol(), 17);
+    assert_eq!(rt; packet.source(), [10, 0, 0, 1]);
+    assert_eq!(rt; packet.destination(), [10, 0, 0, 2]);
+    assert_eq!(rt; packet.has_others(), false);
+    assert_eq!(rt; packet.payload().len(), 8);
+    let (place, found) = packet.label_option().ok_or("a label option")?;
+    assert_eq!(rt; place, 20);
+    assert_eq!(rt; found, &option[..]);
+    let mut out = Vec::new(rt.alloc());
+    assert_eq!(rt; rebuild4(&packet, Some(&option), 64, &mut out), Ok(()));
+    assert_eq!(rt; out.as_slice(), bytes.as_slice());
+    let bare = octets(
+        rt.alloc(),
+        "4500001c00000000401166cf0a0000010a00000203e8003500080000",
+    )?;
+    assert_eq!(rt; rebuild4(&packet, None, 64, &mut out), Ok(()));
+    assert_eq!(rt; out.as_slice(), bare.as_slice());
+    Ok(())
+}
+
+#[test]
+fn a_plain_packet_of_version_4(rt: HostRuntime) -> Result<(), Fail> {
+    let bytes = octets(rt.alloc(), PLAIN)?;
+    let option = cipso();
+    let packet = front4(&bytes).ok().ok_or("a packet")?;
+    assert_eq!(rt; packet.tos(), 0);
+    assert_eq!(rt; packet.id(), 0);
+    assert_eq!(rt; packet.flags_offset(), 0x4000);
+    assert_eq!(rt; packet.label_option().is_none(), true);
+    let mut out = Vec::new(rt.alloc());
+    assert_eq!(rt; rebuild4(&packet, Some(&option), 64, &mut out), Ok(()));
+    let labelled = octets(
+        rt.alloc(),
+        "480000280000400040114ca00a0000010a000002860b0000001001050002500003e800350008e7be",
+    )?;
+    assert_eq!(rt; out.as_slice(), labelled.as_slice());
+    Ok(())
+}
+
+#[test]
+fn a_router_alert_keeps_its_place(rt: HostRuntime) -> Result<(), Fail> {
+    let bytes = octets(rt.alloc(), ALERT)?;
+    let option = calipso();
+    let packet = read6(&bytes).ok().ok_or("a packet")?;
+    assert_eq!(rt; packet.class(), 0);
+    assert_eq!(rt; packet.flow_label(), 0);
+    assert_eq!(rt; packet.hops(), 64);
+    assert_eq!(rt; packet.protocol(), 17);
+    assert_eq!(rt; packet.source()[15], 1);
+    assert_eq!(rt; packet.destination()[15], 2);
+    assert_eq!(rt; packet.has_others(), true);
+    assert_eq!(rt; packet.label_option().is_none(), true);
+    assert_eq!(rt; packet.payload().len(), 8);
+    let mut out = Vec::new(rt.alloc());
+    assert_eq!(rt; rebuild6(&packet, Some(&option), 64, &mut out), Ok(()));
+    let labelled = octets(
+        rt.alloc(),
+        "6000000000200040fd000000000000000000000000000001fd00000000000000000000000000000211020708000000100002bfd901040000000005020000010003e8003500080000",
+    )?;
+    assert_eq!(rt; out.as_slice(), labelled.as_slice());
+    assert_eq!(rt; rebuild6(&packet, None, 64, &mut out), Ok(()));
+    assert_eq!(rt; out.as_slice(), bytes.as_slice());
+    Ok(())
+}

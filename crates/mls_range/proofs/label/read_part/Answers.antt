@@ -1,0 +1,28 @@
+use Rattle.std.proofs.lemmas.Result.{err_from_is_err_and}
+use Rattle.mls_label.specs.declared.label.Label.{Label}
+use Rattle.mls_range.proofs.Labels.{part_no_letter, part_no_number, stops_level, reads_label}
+use Rattle.mls_range.proofs.label.read_part.Goals as goal
+
+pub returns-in_err-number-clause-err : goal.returns-in_err-number-clause-err
+returns-in_err-number-clause-err c =
+    let a = c.args in
+    let p = err_from_is_err_and c.from_residual.result c.from_residual.ensures.1 in
+    rw (p.1, p.2) (part_no_letter a.dash a.text.now a.start c.in_err-number.field-0.0 c.requires c.in_err-number.ensures.place c.in_err-number.ensures.err)
+
+pub returns-in_err-level-clause-err : goal.returns-in_err-level-clause-err
+returns-in_err-level-clause-err c =
+    let a = c.args in
+    let p = err_from_is_err_and c.from_residual-in_err-level.result c.from_residual-in_err-level.ensures.1 in
+    rw (p.1, p.2) (part_no_number a.dash a.text.now a.start c.in_ok-number.number c.in_err-level.field-0.0 c.in_ok-number.ensures.ok c.in_err-level.ensures.err)
+
+pub returns-in_err-cats-clause-err : goal.returns-in_err-cats-clause-err
+returns-in_err-cats-clause-err c =
+    let a = c.args in
+    let p = err_from_is_err_and c.from_residual-in_err-cats.result c.from_residual-in_err-cats.ensures.1 in
+    rw (p.1, p.2) (stops_level a.dash a.text.now a.start c.in_ok-number.number c.in_ok-level.behind c.in_ok-level.level c.in_err-cats.field-0.0 c.in_ok-number.ensures.ok c.in_ok-level.ensures.ok c.in_err-cats.ensures.err)
+
+pub returns-clause-ok : goal.returns-clause-ok
+returns-clause-ok c =
+    let a = c.args in
+    let label : Label = record { level = c.in_ok-level.level; cats = c.in_ok-cats.cats } in
+    reads_label a.dash a.text.now a.start c.in_ok-number.number c.in_ok-level.behind c.in_ok-cats.end label c.in_ok-number.ensures.ok c.in_ok-level.ensures.ok c.in_ok-cats.ensures.ok

@@ -1,0 +1,130 @@
+//! Labels, read from their texts and written in their one form.
+
+ghost use Rattle.std.specs.Prelude.{◌≡◌, [], ◌∷◌, ◌++◌, ◌≤◌, length, IfOk, IfErr, OnOk, OnErr};
+ghost use Rattle.mls_range.specs.LabelText.{IsLabelText, label_text, terms_of_run};
+ghost use Rattle.mls_range.specs.Rest.{Extends, ReadsCats, ReadsPart, separated, StopsCats, StopsPart};
+ghost use Rattle.mls_range.specs.TextFault.{IsRoomyLabel, StopsLabel};
+
+use crate::fault::TextStop;
+use crate::number::read_number;
+use crate::octet::{is_label_end, read_octet};
+use crate::terms::read_terms;
+use decimal_text::write_decimal;
+use mls_label::{CatSet, Label, OutOfMemory};
+use std::alloc::Global;
+
+/// The greatest level.
+const MOST_LEVEL: u32 = 255;
+
+/// Reads a whole text as a label (SELinux MLS): `s<N>`, or `s<N>:` and terms `c<N>` or `c<M>.c<N>` separated by commas,
+/// in any order. Levels end at 255 and categories at 65534; numbers have no leading zero.
+pub fn read_label(alloc: Global, text: &[u8]) -> Result<Label, TextStop>
+    ensures ok { IfOk result (IsLabelText text.now) }
+    ensures roomy { OnOk result (IsRoomyLabel text.now) }
+    ensures err { IfErr result (StopsLabel text.now) }
+{
+    let (label, _end) = read_part(alloc, text, 0, false)?;
+    Ok(label)
+}
+
+/// Reads a label that begins at `start`, up to the text's end or, with `dash`, up to a dash. Gives it with its end.
+pub(crate) fn read_part(
+    alloc: Global,
+    text: &[u8],
+    start: usize,
+    dash: bool,
+) -> Result<(Label, usize), TextStop>
+    requires { start ≤ length text.now }
+    ensures ok { IfOk result (λ read. ReadsPart dash text.now start read.0 read.1) }
+    ensures err { IfErr result (StopsPart dash text.now start) }
+{
+    let number = read_octet(text, start, b's')?;
+    let (level, behind) = read_number(text, number, 0, MOST_LEVEL)?;
+    let (cats, end) = read_cats(alloc, text, behind, dash)?;
+    let label = Label {
+        level: level as u8,
+        cats,
+    };
+    Ok((label, end))
+}
+
+/// Reads what stands behind a level: a colon and terms, or nothing.
+fn read_cats(
+    alloc: Global,
+    text: &[u8],
+    start: usize,
+    dash: bool,
+) -> Result<(CatSet, usize), TextStop>
+    requires { start ≤ length text.now }
+    ensures ok { IfOk result (λ read. ReadsCats dash text.now start read.0 read.1) }
+    ensures err { IfErr result (StopsCats dash text.now start) }
+{
+    if is_label_end(text, start, dash) {
+        return Ok((CatSet::empty(alloc), start));
+    }
+    let terms = read_octet(text, start, b':')?;
+    let (cats, end) = read_terms(alloc, text, terms, dash)?;
+    Ok((cats, end))
+}
+
+/// Appends the label's one written form: its terms ascend by maximal runs, where a run of two categories is two terms
+/// and each other run one (SELinux MLS). After an error `out` is as it was.
+pub fn write_label(label: &Label, out: &mut Vec<u8>) -> Result<(), OutOfMemory>
+    ensures ok { OnOk result (out.new.items ≡ out.old.items ++ label_text label.now) }
+    ensures err { OnErr result (out.new.items ≡ out.old.items) }
+{
+    let before = out.len();
+    let written = append_label(label, out);
+    if written.is_err() {
+        out.truncate(before);
+    }
+    written
+}
+
+/// Appends the label's text, or a part of it where memory runs out.
+pub(crate) fn append_label(label: &Label, out: &mut Vec<u8>) -> Result<(), OutOfMemory>
+    ensures ok { OnOk result (out.new.items ≡ out.old.items ++ label_text label.now) }
+    ensures err { OnErr result (Extends out.old.items out.new.items) }
+{
+    out.push(b's')?;
+    write_decimal(u64::from(label.level), out)?;
+    let mut separator = b':';
+    for i in 0..label.cats.runs() {
+        let (first, last) = label.cats.run(i);
+        append_run(separator, first, last, out)?;
+        separator = b',';
+    }
+    Ok(())
+}
+
+/// Appends a run as its terms, or a part of them.
+fn append_run(separator: u8, first: u16, last: u16, out: &mut Vec<u8>) -> Result<(), OutOfMemory>
+    requires { first ≤ last }
+    ensures ok { OnOk result
+        (out.new.items ≡ out.old.items ++ separated separator (terms_of_run (first, last))) }
+    ensures err { OnErr result (Extends out.old.items out.new.items) }
+{
+    if last - first == 1 {
+        append_term(separator, first, first, out)?;
+        append_term(b',', last, last, out)
+    } else {
+        append_term(separator, first, last, out)
+    }
+}
+
+/// Appends a term behind a separator, or a part of that.
+fn append_term(separator: u8, first: u16, last: u16, out: &mut Vec<u8>) -> Result<(), OutOfMemory>
+    requires { first ≤ last }
+    ensures ok { OnOk result
+        (out.new.items ≡ out.old.items ++ separated separator ((first, last) ∷ [])) }
+    ensures err { OnErr result (Extends out.old.items out.new.items) }
+{
+    out.push(separator)?;
+    out.push(b'c')?;
+    write_decimal(u64::from(first), out)?;
+    if first != last {
+        out.extend_from_slice(b".c")?;
+        write_decimal(u64::from(last), out)?;
+    }
+    Ok(())
+}

@@ -1,0 +1,125 @@
+//! Ranges of labels, read from their texts and written in their one form.
+
+ghost use Rattle.std.specs.Prelude.{◌≡◌, ◌↔◌, ◌++◌, IsTrue, IfOk, IfErr, OnOk, OnErr};
+ghost use Rattle.mls_label.specs.Label.{Dominates};
+ghost use Rattle.mls_range.specs.Range.{Ends, RangeHolds};
+ghost use Rattle.mls_range.specs.RangeText.{IsRangeText, IsRoomyRange, range_text, StopsRange};
+ghost use Rattle.mls_range.specs.Rest.{Extends};
+
+use crate::fault::{TextFault, TextKind, TextStop};
+use crate::label::{append_label, read_part};
+use mls_label::{Label, OutOfMemory};
+use std::alloc::Global;
+use std::marker::Model;
+
+/// A range of labels, from a low one to a high one that dominates it (SELinux MLS).
+#[derive(Debug, Drop)]
+pub struct Range {
+    low: Label,
+    high: Label,
+}
+
+impl Model for Range {
+    ghost use Rattle.mls_label.specs.Label.{Dominates};
+    ghost use Rattle.mls_range.specs.Range.{Ends};
+
+    ghost Value = { Ends };
+
+    ghost view = { λ r. record { low = r.low; high = r.high } };
+
+    ghost invariant = { λ r. Dominates r.high r.low };
+}
+
+impl Range {
+    /// Whether the label is in the range: it dominates the low one, and the high one dominates it.
+    pub fn holds(&self, label: &Label) -> bool
+        ensures { IsTrue result ↔ RangeHolds self.now label.now }
+    {
+        label.dominates(&self.low) && self.high.dominates(label)
+    }
+
+    /// The low label.
+    pub fn low(&self) -> &Label
+        ensures low { result.now ≡ self.now.low }
+        ensures ordered { Dominates self.now.high self.now.low }
+    {
+        &self.low
+    }
+
+    /// The high label.
+    pub fn high(&self) -> &Label
+        ensures high { result.now ≡ self.now.high }
+        ensures ordered { Dominates self.now.high self.now.low }
+    {
+        &self.high
+    }
+
+    /// A copy, which takes the memory of both sets of categories.
+    pub fn copy(&self) -> Result<Range, OutOfMemory>
+        ensures { IfOk result (λ range. range ≡ self.now) }
+    {
+        Ok(Range {
+            low: self.low.copy()?,
+            high: self.high.copy()?,
+        })
+    }
+}
+
+/// Reads a whole text as a range: one label, which is both ends, or two labels joined by a dash. The high label has to
+/// dominate the low one.
+pub fn read_range(alloc: Global, text: &[u8]) -> Result<Range, TextStop>
+    ensures ok { IfOk result (IsRangeText text.now) }
+    ensures ordered { IfOk result (λ range. Dominates range.high range.low) }
+    ensures roomy { OnOk result (IsRoomyRange text.now) }
+    ensures err { IfErr result (StopsRange text.now) }
+{
+    let (low, end) = read_part(alloc, text, 0, true)?;
+    if end == text.len() {
+        return lone_range(low);
+    }
+    let start = end + 1;
+    let (high, _end) = read_part(alloc, text, start, false)?;
+    if !high.dominates(&low) {
+        return Err(TextStop::Fault(TextFault {
+            octet: start,
+            kind: TextKind::NotOrdered,
+        }));
+    }
+    Ok(Range { low, high })
+}
+
+/// The range of which both ends are the label.
+fn lone_range(label: Label) -> Result<Range, TextStop>
+    ensures ok { IfOk result (λ range. range ≡ record { low = label; high = label }) }
+    ensures err { IfErr result (λ stop. stop ≡ TextStop.OutOfMemory) }
+{
+    let high = label.copy()?;
+    Ok(Range { low: label, high })
+}
+
+/// Appends the range's one written form: one label where both ends are the same, else the low one, a dash and the high
+/// one. After an error `out` is as it was.
+pub fn write_range(range: &Range, out: &mut Vec<u8>) -> Result<(), OutOfMemory>
+    ensures ok { OnOk result (out.new.items ≡ out.old.items ++ range_text range.now) }
+    ensures err { OnErr result (out.new.items ≡ out.old.items) }
+{
+    let before = out.len();
+    let written = append_range(range, out);
+    if written.is_err() {
+        out.truncate(before);
+    }
+    written
+}
+
+/// Appends the range's text, or a part of it where memory runs out.
+fn append_range(range: &Range, out: &mut Vec<u8>) -> Result<(), OutOfMemory>
+    ensures ok { OnOk result (out.new.items ≡ out.old.items ++ range_text range.now) }
+    ensures err { OnErr result (Extends out.old.items out.new.items) }
+{
+    append_label(range.low(), out)?;
+    if !range.high().same(range.low()) {
+        out.push(b'-')?;
+        append_label(range.high(), out)?;
+    }
+    Ok(())
+}

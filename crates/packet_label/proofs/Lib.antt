@@ -1,0 +1,7 @@
+pub mod Wires
+pub mod Labels
+pub mod Faults
+pub mod Options
+pub mod Once
+pub mod Within
+pub mod Written

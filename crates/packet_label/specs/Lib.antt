@@ -1,0 +1,9 @@
+pub mod Wire
+pub mod Packet
+pub mod Choice
+pub mod Fault
+pub mod Option
+pub mod Written
+pub mod Denial
+pub mod Laws
+pub mod Read

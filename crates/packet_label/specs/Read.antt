@@ -1,0 +1,20 @@
+-- What the parts of the reader say. No public clause cites these words.
+use Rattle.std.specs.Prelude.{◌≡◌, ℕ, ◌+◌}
+use Rattle.ip_headers.specs.declared.version.Version.{Version}
+use Rattle.ip_headers.specs.declared.fault.HeadKind.{HeadKind}
+use Rattle.ip_headers.specs.declared.fault.HeadKind.TheVariants.{SecondLabel}
+use Rattle.ip_headers.specs.Options.{Placed}
+use Rattle.packet_label.specs.declared.fault.CarryFault.{CarryFault}
+use Rattle.packet_label.specs.declared.fault.CarryFault.TheVariants.{Header, Option, OutOfMemory}
+use Rattle.packet_label.specs.Wire.{IsWireFault}
+
+-- a second label option is a fault of the option, each other of the header
+abbrev pub told : ℕ → HeadKind → CarryFault
+told octet SecondLabel = Option octet
+told octet kind = Header octet
+
+-- the fault of a label option, at its octet of the packet
+abbrev pub BreaksWire : Version → Placed → CarryFault → Type 0
+BreaksWire version option (Header octet) = ⊥
+BreaksWire version option (Option octet) = (within : ℕ) × IsWireFault version option.octets within × (octet ≡ option.place + within)
+BreaksWire version option OutOfMemory = Unit {0}

@@ -1,0 +1,71 @@
+//! What was read.
+
+ghost use Rattle.std.specs.Prelude.{◌≡◌};
+ghost use Rattle.packet_label.specs.Wire.{place_of, doi_of, label_of};
+
+use ip_headers::{Packet4, Packet6};
+use mls_label::{Label, Tag};
+
+/// A packet of either version, borrowed from its octets.
+#[derive(Debug, Drop)]
+pub enum Packet<'a> {
+    V4(Packet4<'a>),
+    V6(Packet6<'a>),
+}
+
+/// What a label option says, with its place: the octet of its type in the packet.
+#[derive(Debug, Drop)]
+pub enum Wire {
+    /// A CIPSO option of IPv4 (FIPS 188; CIPSO draft 2.2).
+    Cipso {
+        at: usize,
+        doi: u32,
+        tag: Tag,
+        label: Label,
+    },
+    /// A CALIPSO option of IPv6 (RFC 5570).
+    Calipso {
+        at: usize,
+        doi: u32,
+        label: Label,
+    },
+}
+
+/// A packet, and what its label option says; `None` where it has none.
+#[derive(Debug, Drop)]
+pub struct Carried<'a> {
+    pub packet: Packet<'a>,
+    pub wire: Option<Wire>,
+}
+
+impl Wire {
+    /// The octet of the option's type in the packet.
+    pub fn at(&self) -> usize
+        ensures { result ≡ place_of self.now }
+    {
+        match self {
+            Wire::Cipso { at, .. } => *at,
+            Wire::Calipso { at, .. } => *at,
+        }
+    }
+
+    /// The domain of interpretation.
+    pub fn doi(&self) -> u32
+        ensures { result ≡ doi_of self.now }
+    {
+        match self {
+            Wire::Cipso { doi, .. } => *doi,
+            Wire::Calipso { doi, .. } => *doi,
+        }
+    }
+
+    /// The label, in the numbers of the domain of interpretation.
+    pub fn label(&self) -> &Label
+        ensures { result.now ≡ label_of self.now }
+    {
+        match self {
+            Wire::Cipso { label, .. } => label,
+            Wire::Calipso { label, .. } => label,
+        }
+    }
+}
