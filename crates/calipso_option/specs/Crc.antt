@@ -1,4 +1,4 @@
--- The check sequence of RFC 1662, Appendix C, as CALIPSO uses it (RFC 5570, section 5.1.5): a register of 16 bits.
+-- The check sequence of RFC 1662, Appendix C, as CALIPSO uses it (RFC 5570, section 5.1): a register of 16 bits.
 use Rattle.std.specs.Prelude.{ℕ, zero, suc, ◌/◌, ◌%◌, ◌==◌, if◌then◌else◌, List, [], ◌∷◌, bit_xor}
 use Rattle.std.specs.Int.{w16, bit_not}
 

@@ -1,8 +1,10 @@
-//! The check sequence of RFC 1662, Appendix C, bit by bit.
+//! The check sequence of RFC 1662, Appendix C, octet by octet.
 
 ghost use Rattle.std.specs.Prelude.{◌≡◌, ◌≤◌, length};
-ghost use Rattle.calipso_option.specs.Crc.{crc_of, register_after, shifted, with_octet};
+ghost use Rattle.calipso_option.specs.Crc.{crc_of, register_after, shifted_times, with_octet};
 ghost use Rattle.calipso_option.specs.Calipso.{checksum_of};
+
+use crate::table::SHIFTED_OUT;
 
 /// The checksum of octets: the 16-bit frame check sequence of RFC 1662, Appendix C, as a number.
 #[tactic(auto, unfolding(crate::specs::Crc::crc_of))]
@@ -32,23 +34,17 @@ fn after_octets(register: u16, bytes: &[u8]) -> u16
     now
 }
 
+// The low octet is looked up, and what lies above it moves down.
 fn after_octet(register: u16, octet: u8) -> u16
     ensures { result ≡ with_octet register octet }
 {
-    let mut now = register ^ u16::from(octet);
-    for _ in 0..8u32 {
-        now = shift(now);
-    }
-    now
+    let mixed = register ^ u16::from(octet);
+    mixed / 256 ^ shifted_out((mixed % 256) as u8)
 }
 
-#[tactic(auto, unfolding(crate::specs::Crc::shifted))]
-fn shift(register: u16) -> u16
-    ensures { result ≡ shifted register }
+// An octet, shifted eight times.
+fn shifted_out(octet: u8) -> u16
+    ensures { result ≡ shifted_times 8 octet }
 {
-    if register % 2 == 1 {
-        register / 2 ^ 0x8408
-    } else {
-        register / 2
-    }
+    SHIFTED_OUT[octet as usize]
 }

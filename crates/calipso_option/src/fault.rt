@@ -5,7 +5,7 @@ use mls_label::WireFault;
 pub enum CalipsoFault {
     /// No option has this octet there, whatever its checksum, or the octets end early.
     Wire(WireFault),
-    /// All but the checksum is as it should be (RFC 5570, section 5.1.5). The stored one stands at octets 8 and 9.
+    /// All but the checksum is as it should be (RFC 5570, section 5.1). The stored one stands at octets 8 and 9.
     BadChecksum { stored: u16, computed: u16 },
     OutOfMemory,
 }

@@ -9,6 +9,7 @@ mod fault;
 pub mod laws;
 mod layout;
 mod read;
+mod table;
 #[cfg(test)]
 mod tests;
 mod write;
