@@ -5,3 +5,4 @@ pub mod Options
 pub mod Once
 pub mod Within
 pub mod Written
+pub mod Fields

@@ -47,23 +47,24 @@ calipso_option s v m =
       exact = omega (arith, long, size, shape.long);
     }
 
--- the written form of what an option can say
+-- what an option can say is said by its written form
 said4 : (at doi : ℕ) (tag : Tag) (label : Label) → CanSay V4 (Cipso at doi tag label) → IsCipso (cipso_text doi tag label) (record { doi = doi; tag = tag; label = label })
 said4 at doi tag label can = cipso_member doi tag label can.0 can.1 can.2.level can.2.cats can.3
 
 said6 : (at doi : ℕ) (label : Label) → CanSay V6 (Calipso at doi label) → IsCalipso (calipso_text doi label) (record { doi = doi; label = label })
 said6 at doi label can = calipso_member doi label can.0 can.1 can.2.level can.2.cats can.3
 
-placed_at : ℕ → List ℕ → Placed
-placed_at place octets = record { place = place; octets = octets }
+-- the written form of what an option can say
+pub text_suits : (version : Version) (wire : Wire) → CanSay version wire → header.IsLabelOption version (wire_text wire)
+text_suits V4 (Cipso at doi tag label) can = cipso_option (cipso_text doi tag label) (record { doi = doi; tag = tag; label = label }) (said4 at doi tag label can)
+text_suits V4 (Calipso at doi label) can = absurd can
+text_suits V6 (Cipso at doi tag label) can = absurd can
+text_suits V6 (Calipso at doi label) can = calipso_option (calipso_text doi label) (record { doi = doi; label = label }) (said6 at doi label can)
 
 text_is : (version : Version) (wire : Option Wire) → IfSome wire (CanSay version)
     → IfSome (option_map (λ o. let p : Placed = record { place = first_place version; octets = o } in p) (option_map wire_text wire)) (λ o. header.IsLabelOption version o.octets)
 text_is version None can = tt
-text_is V4 (Some (Cipso at doi tag label)) can = cipso_option (cipso_text doi tag label) (record { doi = doi; tag = tag; label = label }) (said4 at doi tag label can)
-text_is V4 (Some (Calipso at doi label)) can = absurd can
-text_is V6 (Some (Cipso at doi tag label)) can = absurd can
-text_is V6 (Some (Calipso at doi label)) can = calipso_option (calipso_text doi label) (record { doi = doi; label = label }) (said6 at doi label can)
+text_is version (Some wire) can = text_suits version wire can
 
 text_says : (version : Version) (wire : Option Wire) → IfSome wire (CanSay version)
     → Says version (option_map (λ o. let p : Placed = record { place = first_place version; octets = o } in p) (option_map wire_text wire)) (option_map (moved_to (first_place version)) wire)

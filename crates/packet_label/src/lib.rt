@@ -17,3 +17,6 @@ pub use option::WireOption;
 pub use packet::{Carried, Packet, Wire};
 pub use read::{carried, label_at};
 pub use write::relabel;
+
+#[cfg(test)]
+mod tests;

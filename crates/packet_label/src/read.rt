@@ -19,6 +19,9 @@ use ip_headers::{HeadFault, HeadKind, Version, front4, front6, read4, read6};
 use mls_label::WireStop;
 use std::alloc::Global;
 
+/// Where the checksum of a CALIPSO option stands (RFC 5570, section 5.1).
+const CHECKSUM: usize = 8;
+
 /// The packet at the front of the octets, with what its label option says. What follows its own length is ignored.
 ///
 /// An error is the first fault: of the header, where the upper half of the first octet chooses between the versions, or else
@@ -132,15 +135,16 @@ fn read_cipso_at(alloc: Global, at: usize, option: &[u8]) -> Result<Wire, CarryF
     ensures err { IfErr result (λ fault. BreaksWire V4 (record { place = at; octets = option.now }) fault) }
 {
     match read_cipso(alloc, option) {
-        Ok((Cipso { doi, tag, label }, _)) => Ok(Wire::Cipso {
-            at,
-            doi,
-            tag,
-            label,
-        }),
-        Err(WireStop::Fault(fault)) => Err(CarryFault::Option {
-            octet: at + fault.octet,
-        }),
+        Ok((cipso, _)) => {
+            let Cipso { doi, tag, label } = cipso;
+            Ok(Wire::Cipso {
+                at,
+                doi,
+                tag,
+                label,
+            })
+        }
+        Err(WireStop::Fault(fault)) => Err(fault_in(at, fault.octet)),
         Err(WireStop::OutOfMemory) => Err(CarryFault::OutOfMemory),
     }
 }
@@ -153,13 +157,22 @@ fn read_calipso_at(alloc: Global, at: usize, option: &[u8]) -> Result<Wire, Carr
     ensures err { IfErr result (λ fault. BreaksWire V6 (record { place = at; octets = option.now }) fault) }
 {
     match read_calipso(alloc, option) {
-        Ok((Calipso { doi, label }, _)) => Ok(Wire::Calipso { at, doi, label }),
-        Err(CalipsoFault::Wire(fault)) => Err(CarryFault::Option {
-            octet: at + fault.octet,
-        }),
-        Err(CalipsoFault::BadChecksum { .. }) => Err(CarryFault::Option { octet: at + 8 }),
+        Ok((calipso, _)) => {
+            let Calipso { doi, label } = calipso;
+            Ok(Wire::Calipso { at, doi, label })
+        }
+        Err(CalipsoFault::Wire(fault)) => Err(fault_in(at, fault.octet)),
+        Err(CalipsoFault::BadChecksum { .. }) => Err(fault_in(at, CHECKSUM)),
         Err(CalipsoFault::OutOfMemory) => Err(CarryFault::OutOfMemory),
     }
+}
+
+// The fault at this octet of the option that begins there.
+fn fault_in(at: usize, octet: usize) -> CarryFault
+    requires { at + octet < 2 ^ 64 }
+    ensures { result ≡ CarryFault.Option (at + octet) }
+{
+    CarryFault::Option { octet: at + octet }
 }
 
 fn label_at4(bytes: &[u8]) -> Result<(Packet<'_>, Option<usize>), HeadFault>
