@@ -11,6 +11,7 @@ use octet_grammar::{octet_at, unfit};
 
 // The octets of the shortest option, whose tag has no category, and of the longest that an IPv4 header has room for.
 const SHORTEST: u8 = 10;
+
 const LONGEST: u8 = 40;
 
 /// Reads the option's type and its length, which is from 10 to 40.

@@ -1,4 +1,4 @@
--- What the functions that go over a list of options say of their parts. No public clause cites these words.
+-- What the functions that go over a list of options say of their parts, and the place of an option.
 use Rattle.std.specs.Prelude.{◌≡◌, ℕ, ◌+◌, ◌≤◌, List, length, take, slice_get}
 use Rattle.std.specs.Option.{option_map}
 use Rattle.std.specs.List.{filter, concat}

@@ -151,7 +151,7 @@ pub record IsKept (version : Version) (option : Placed) : Type 0 where
   pub no_jumbo : is_jumbo version option ≡ false
   pub place : option.place < alignment version
 
--- a packet whose values fit their fields, as each has that was read
+-- a packet whose values fit their fields, and whose options can stand in a header of its version
 pub record IsParsed (p : ParsedPacket) : Type 0 where
   pub class : p.class < 256
   pub hops : p.hops < 256
@@ -166,7 +166,7 @@ abbrev pub hides_payload : Version → ParsedPacket → Bool
 hides_payload V4 p = false
 hides_payload V6 p = p.protocol == 0 && not (has_options p)
 
--- what a packet is when it was written: its label option is the first option
+-- what a packet is when it was written, outside hides_payload: its label option is the first option
 abbrev pub next_packet : ParsedPacket → ParsedPacket
 next_packet p = record p { label = option_map (λ o. record { place = first_place p.version; octets = o.octets }) p.label }
 

@@ -44,7 +44,7 @@ abbrev pub moved_to : ℕ → Wire → Wire
 moved_to place (Cipso at doi tag label) = Cipso place doi tag label
 moved_to place (Calipso at doi label) = Calipso place doi label
 
--- what a packet is when it was written: its label option is the first option, in its written form
+-- what a packet is when it was written, outside hides_payload: its label option is the first option, in its written form
 abbrev pub next_packet : LabelledPacket → LabelledPacket
 next_packet p = record { headers = written_headers p; wire = option_map (moved_to (first_place p.headers.version)) p.wire }
 
