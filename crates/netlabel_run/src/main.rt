@@ -12,6 +12,8 @@ mod top;
 mod verdict;
 mod words;
 
+ghost use Rattle.netlabel_run.specs.Words.{texts_of, IsForm};
+
 use net_io::{RealDepot, RealSink};
 use std::alloc::{AllocError, Global};
 use std::process::ExitCode;
@@ -50,7 +52,9 @@ fn words_of(rt: &HostRuntime) -> io::Result<Vec<String>> {
 }
 
 /// Words that are no form, in place of such as can't be told: each form has nothing but ASCII.
-fn no_form(alloc: Global) -> Result<Vec<String>, AllocError> {
+fn no_form(alloc: Global) -> Result<Vec<String>, AllocError>
+    ensures ok { IfOk result (λ words. IsForm (texts_of words.items) → ⊥) }
+{
     let mut words = Vec::new(alloc);
     words.push(String::new(alloc))?;
     Ok(words)
