@@ -1,7 +1,9 @@
 -- What a packet says: its headers, and its label option.
 use Rattle.std.specs.Prelude.{◌≡◌, ℕ, List, Option}
+use Rattle.std.specs.Option.{option_map}
 use Rattle.ip_headers.specs.declared.version.Version.{Version}
 use Rattle.ip_headers.specs.declared.version.Version.TheVariants as version
+use Rattle.ip_headers.specs.Options.{Placed}
 use Rattle.ip_headers.specs.Packet.{ParsedPacket}
 use Rattle.ip_headers.specs.Reading.{IsPacket as AreHeaders}
 use Rattle.packet_label.specs.declared.packet.Packet.{Packet}
@@ -22,6 +24,10 @@ headers_of (V6 headers) = headers
 abbrev pub version_of : Packet → Version
 version_of (V4 headers) = version.V4
 version_of (V6 headers) = version.V6
+
+-- the octet of the first label option's type
+abbrev pub label_place : Packet → Option ℕ
+label_place packet = option_map (λ (o : Placed). o.place) (headers_of packet).label
 
 -- the headers in it are those of its version
 abbrev pub IsOfItsVersion : Packet → Type 0

@@ -4,9 +4,8 @@ ghost use Rattle.std.specs.Prelude.{◌≡◌, ◌+◌, ◌^◌, ◌<◌, length
 ghost use Rattle.std.specs.Option.{option_map};
 ghost use Rattle.ip_headers.specs.declared.version.Version.TheVariants.{V4, V6};
 ghost use Rattle.ip_headers.specs.Options.{IsOption};
-ghost use Rattle.ip_headers.specs.Walk.{place_of};
 ghost use Rattle.ip_headers.specs.Reading.{IsFront};
-ghost use Rattle.packet_label.specs.Packet.{IsOfItsVersion, IsPacket, headers_of, packet_of, version_of};
+ghost use Rattle.packet_label.specs.Packet.{IsOfItsVersion, IsPacket, headers_of, label_place, packet_of, version_of};
 ghost use Rattle.packet_label.specs.Choice.{chosen, no_version, IsFrontFault};
 ghost use Rattle.packet_label.specs.Wire.{IsWire, StandsIn};
 ghost use Rattle.packet_label.specs.Fault.{IsPacketFault};
@@ -44,7 +43,7 @@ pub fn carried(alloc: Global, bytes: &[u8]) -> Result<Carried<'_>, CarryFault>
 /// option is no fault here. Octets that name no version have the fault Version at octet 0.
 pub fn label_at(bytes: &[u8]) -> Result<(Packet<'_>, Option<usize>), HeadFault>
     ensures ok { IfOk result (λ found. IsFront (version_of found.0) bytes.now (headers_of found.0)) }
-    ensures place { IfOk result (λ found. found.1 ≡ option_map place_of (headers_of found.0).label) }
+    ensures place { IfOk result (λ found. found.1 ≡ label_place found.0) }
     ensures err { IfErr result (λ fault. IsFrontFault bytes.now fault) }
 {
     match version(bytes) {
@@ -178,7 +177,7 @@ fn fault_in(at: usize, octet: usize) -> CarryFault
 fn label_at4(bytes: &[u8]) -> Result<(Packet<'_>, Option<usize>), HeadFault>
     requires { chosen bytes.now ≡ Some V4 }
     ensures ok { IfOk result (λ found. IsFront (version_of found.0) bytes.now (headers_of found.0)) }
-    ensures place { IfOk result (λ found. found.1 ≡ option_map place_of (headers_of found.0).label) }
+    ensures place { IfOk result (λ found. found.1 ≡ label_place found.0) }
     ensures err { IfErr result (λ fault. IsFrontFault bytes.now fault) }
 {
     match front4(bytes) {
@@ -193,7 +192,7 @@ fn label_at4(bytes: &[u8]) -> Result<(Packet<'_>, Option<usize>), HeadFault>
 fn label_at6(bytes: &[u8]) -> Result<(Packet<'_>, Option<usize>), HeadFault>
     requires { chosen bytes.now ≡ Some V6 }
     ensures ok { IfOk result (λ found. IsFront (version_of found.0) bytes.now (headers_of found.0)) }
-    ensures place { IfOk result (λ found. found.1 ≡ option_map place_of (headers_of found.0).label) }
+    ensures place { IfOk result (λ found. found.1 ≡ label_place found.0) }
     ensures err { IfErr result (λ fault. IsFrontFault bytes.now fault) }
 {
     match front6(bytes) {
