@@ -26,7 +26,7 @@ asks_once words doi doi' level level' file file' a b =
     )
 
 -- what the words report is what `judge` does
-only_judge : (words : List (List ℕ)) (held : Folder) (doi : ℕ) (level : Label) (file : List ℕ) (n : ℕ) (text : List ℕ) → AsksToJudge words doi level file → Reports words held n text → ReportsJudge doi level (held file) n text
+pub only_judge : (words : List (List ℕ)) (held : Folder) (doi : ℕ) (level : Label) (file : List ℕ) (n : ℕ) (text : List ℕ) → AsksToJudge words doi level file → Reports words held n text → ReportsJudge doi level (held file) n text
 only_judge words held doi level file n text asks (no_form none) = absurd (none (record { doi = doi; level = level; file = file; asks = asks }))
 only_judge words held doi level file n text asks (judges doi' level' file' status text' asks' r) =
     let same = asks_once words doi' doi level' level file' file asks' asks in

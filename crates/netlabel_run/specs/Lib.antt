@@ -6,3 +6,4 @@ pub mod Report
 pub mod Ending
 pub mod Prints
 pub mod Call
+pub mod Laws

@@ -4,7 +4,7 @@ use Rattle.std.specs.Fmt.{decimal}
 use Rattle.mls_label.specs.declared.label.Label.{Label}
 use Rattle.mls_range.specs.LabelText.{label_text}
 use Rattle.packet_label.specs.declared.denial.Denial.{Denial}
-use Rattle.packet_label.specs.declared.denial.Denial.TheVariants.{BadHeader, BadOption, Unlabelled, NoStatic, UnknownDoi, TagNotAllowed, LevelUnmapped, CategoryUnmapped, OutsideRange, NoReceiver, MapRefuses, NotDominated, NoMap, AlreadyLabelled, Inexpressible, NoRoom, TooLong, Expired, WrongVersion, NoPair, NotCrossable, NotIp}
+use Rattle.packet_label.specs.declared.denial.Denial.TheVariants.{BadHeader, BadOption, UnknownDoi, TagNotAllowed, CategoryUnmapped, AlreadyLabelled, NotCrossable}
 use Rattle.packet_label.specs.Denial.{number_of, name_of, cause_name}
 use Rattle.netlabel_run.specs.declared.verdict.Verdict.{Verdict}
 use Rattle.netlabel_run.specs.declared.verdict.Verdict.TheVariants.{Delivered, Denied}

@@ -3,7 +3,6 @@
 use Rattle.std.specs.Prelude.{ℕ, ◌≡◌, ◌≢◌, ◌+◌, List, Option, Some, None}
 use Rattle.mls_label.specs.declared.label.Label.{Label}
 use Rattle.mls_label.specs.Label.{Dominates}
-use Rattle.packet_label.specs.declared.denial.Denial.{Denial}
 use Rattle.packet_label.specs.declared.denial.Denial.TheVariants.{BadHeader, BadOption, Unlabelled, UnknownDoi, NotDominated}
 use Rattle.packet_label.specs.declared.fault.CarryFault.TheVariants as fault
 use Rattle.packet_label.specs.declared.packet.Wire.{Wire}

@@ -4,6 +4,7 @@
 
 mod ending;
 mod judge;
+mod laws;
 mod outcome;
 mod report;
 #[cfg(test)]
@@ -12,6 +13,7 @@ mod top;
 mod verdict;
 mod words;
 
+ghost use Rattle.std.specs.Prelude.{IfOk};
 ghost use Rattle.netlabel_run.specs.Words.{texts_of, IsForm};
 
 use net_io::{RealDepot, RealSink};
