@@ -10,7 +10,7 @@ use Rattle.category_bitmap.specs.Bitmap.{bitmap_cats}
 use Rattle.calipso_option.specs.declared.calipso.Calipso.{Calipso}
 use Rattle.calipso_option.specs.Calipso.{option_octets, IsCalipsoShape, IsCalipso}
 use Rattle.calipso_option.specs.declared.fault.CalipsoFault.{CalipsoFault}
-use Rattle.calipso_option.specs.declared.fault.CalipsoFault.TheVariants.{Wire, BadChecksum, OutOfMemory}
+use Rattle.calipso_option.specs.declared.fault.CalipsoFault.TheVariants.{Wire, BadChecksum}
 use Rattle.calipso_option.specs.Fault.{IsFaulty}
 use Rattle.calipso_option.specs.Layout.{IsLength, doi_at, checksum_at, IsLaidOut, IsFalseChecksum}
 
@@ -169,7 +169,6 @@ false_checksum s n (BadChecksum stored computed) octets laid found =
       differ = found.2;
     }
 false_checksum s n (Wire fault) octets laid found = absurd found
-false_checksum s n OutOfMemory octets laid found = absurd found
 
 -- ---- no option begins another, and each has one value
 

@@ -4,7 +4,7 @@ use Rattle.octet_grammar.specs.Front.{ReadsFront}
 use Rattle.octet_grammar.specs.Fault.{FailsFront}
 use Rattle.calipso_option.specs.declared.calipso.Calipso.{Calipso}
 use Rattle.calipso_option.specs.declared.fault.CalipsoFault.{CalipsoFault}
-use Rattle.calipso_option.specs.declared.fault.CalipsoFault.TheVariants.{Wire, BadChecksum, OutOfMemory}
+use Rattle.calipso_option.specs.declared.fault.CalipsoFault.TheVariants.{Wire, BadChecksum}
 use Rattle.calipso_option.specs.Calipso.{IsCalipsoShape, checksum_of}
 
 -- all but the checksum of an option at the front of s is as it should be
@@ -19,4 +19,3 @@ pub record HasBadChecksum (s : List ℕ) (stored computed : ℕ) : Type 0 where
 abbrev pub IsFaulty : List ℕ → CalipsoFault → Type 0
 IsFaulty s (Wire fault) = FailsFront IsCalipsoShape s fault
 IsFaulty s (BadChecksum stored computed) = HasBadChecksum s stored computed
-IsFaulty s OutOfMemory = Unit {0}

@@ -1,7 +1,7 @@
 -- The fixed places of an option: what stands there.
 use Rattle.std.specs.Prelude.{ℕ, ◌≡◌, ◌+◌, ◌-◌, ◌*◌, ◌/◌, ◌%◌, ◌<◌, ◌≤◌, List, length, slice_index}
 use Rattle.calipso_option.specs.declared.fault.CalipsoFault.{CalipsoFault}
-use Rattle.calipso_option.specs.declared.fault.CalipsoFault.TheVariants.{Wire, BadChecksum, OutOfMemory}
+use Rattle.calipso_option.specs.declared.fault.CalipsoFault.TheVariants.{Wire, BadChecksum}
 use Rattle.calipso_option.specs.Calipso.{checksum_of}
 
 -- the length octet of an option of up to 61 words
@@ -38,4 +38,3 @@ checksum_at s = slice_index s 8 + 256 * slice_index s 9
 abbrev pub IsFalseChecksum : List ℕ → CalipsoFault → Type 0
 IsFalseChecksum s (BadChecksum stored computed) = (stored ≡ checksum_at s) × (computed ≡ checksum_of s) × (stored ≡ computed → ⊥)
 IsFalseChecksum s (Wire fault) = ⊥
-IsFalseChecksum s OutOfMemory = ⊥

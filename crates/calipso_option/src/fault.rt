@@ -7,7 +7,6 @@ pub enum CalipsoFault {
     Wire(WireFault),
     /// All but the checksum is as it should be (RFC 5570, section 5.1). The stored one stands at octets 8 and 9.
     BadChecksum { stored: u16, computed: u16 },
-    OutOfMemory,
 }
 
 impl From<WireFault> for CalipsoFault {

@@ -17,5 +17,5 @@ mod write;
 pub use calipso::Calipso;
 pub use crc::crc16;
 pub use fault::CalipsoFault;
-pub use read::read_calipso;
+pub use read::{CalipsoHead, read_calipso, read_calipso_into};
 pub use write::{can_express, write_calipso};

@@ -10,22 +10,40 @@ use crate::crc::option_checksum;
 use crate::layout::{doi_of, read_layout};
 use crate::{Calipso, CalipsoFault};
 use category_bitmap::read_bitmap;
-use mls_label::{Label, OutOfMemory};
-use std::alloc::Global;
+use mls_label::Label;
+
+/// What an option says beside its label, and how many octets it has.
+#[derive(Clone, Copy, Debug)]
+pub struct CalipsoHead {
+    pub doi: u32,
+    pub length: usize,
+}
 
 /// The CALIPSO option at the front of the octets, and how many octets it has (RFC 5570, section 5.1). A fault on the wire
 /// stands at the first octet that no option with the octets before it has there; the checksum is tested after that.
-pub fn read_calipso(alloc: Global, bytes: &[u8]) -> Result<(Calipso, usize), CalipsoFault>
+pub fn read_calipso(bytes: &[u8]) -> Result<(Calipso, usize), CalipsoFault>
     ensures ok { IfOk result (λ read. ReadsFront IsCalipso bytes.now read.0 read.1) }
     ensures err { IfErr result (λ fault. IsFaulty bytes.now fault) }
 {
-    let octets = read_layout(bytes)?;
-    let option = &bytes[..octets];
+    let mut label = Label::lowest();
+    let head = read_calipso_into(bytes, &mut label)?;
+    let calipso = Calipso {
+        doi: head.doi,
+        label,
+    };
+    Ok((calipso, head.length))
+}
+
+/// The same with the label in place of the one that is lent, which is as it was after a fault.
+pub fn read_calipso_into(bytes: &[u8], label: &mut Label) -> Result<CalipsoHead, CalipsoFault>
+    ensures ok { IfOk result (λ head. ReadsFront IsCalipso bytes.now (record { doi = head.doi; label = label.new }) head.length) }
+    ensures err { IfErr result (λ fault. IsFaulty bytes.now fault) }
+{
+    let length = read_layout(bytes)?;
+    let option = &bytes[..length];
     test_checksum(option)?;
-    match read_value(alloc, option) {
-        Ok(value) => Ok((value, octets)),
-        Err(OutOfMemory) => Err(CalipsoFault::OutOfMemory),
-    }
+    let doi = read_value(option, label);
+    Ok(CalipsoHead { doi, length })
 }
 
 // The checksum of a whole option, where it isn't the computed one.
@@ -42,17 +60,12 @@ fn test_checksum(option: &[u8]) -> Result<(), CalipsoFault>
     Ok(())
 }
 
-// What a whole option says.
-fn read_value(alloc: Global, option: &[u8]) -> Result<Calipso, OutOfMemory>
+// What a whole option says: its label in place of the one that is lent, and its DOI.
+fn read_value(option: &[u8], label: &mut Label) -> u32
     requires { IsLaidOut option.now (length option.now) }
-    ensures { IfOk result (λ value. IsCalipsoShape option.now (value, checksum_at option.now)) }
+    ensures { IsCalipsoShape option.now (record { doi = result; label = label.new }, checksum_at option.now) }
 {
-    let label = Label {
-        level: option[7],
-        cats: read_bitmap(alloc, &option[10..])?,
-    };
-    Ok(Calipso {
-        doi: doi_of(option),
-        label,
-    })
+    label.level = option[7];
+    read_bitmap(&option[10..], &mut label.cats);
+    doi_of(option)
 }

@@ -1,7 +1,6 @@
 use super::*;
 use arrayvec::ArrayVec;
 use mls_label::{CatSet, Label, WireFault, WireKind};
-use std::alloc::Global;
 use std::test::Fail;
 
 /// DOI 16, level 2, no category.
@@ -37,8 +36,8 @@ fn end(place: usize) -> CalipsoFault {
     })
 }
 
-fn fault_of(alloc: Global, octets: &[u8]) -> Option<CalipsoFault> {
-    read_calipso(alloc, octets).err()
+fn fault_of(octets: &[u8]) -> Option<CalipsoFault> {
+    read_calipso(octets).err()
 }
 
 // Worked by hand from the layout; a checksum counts only where all else is there and fits.
@@ -108,13 +107,13 @@ fn each_fault_stands_at_its_octet(rt: HostRuntime) {
         (&[], end(0)),
     ];
     for (octets, fault) in cases {
-        assert_eq!(rt; fault_of(rt.alloc(), octets), Some(fault), "{octets:?}");
+        assert_eq!(rt; fault_of(octets), Some(fault), "{octets:?}");
     }
     for length in 0..10 {
-        assert_eq!(rt; fault_of(rt.alloc(), &EMPTY[..length]), Some(end(length)));
+        assert_eq!(rt; fault_of(&EMPTY[..length]), Some(end(length)));
     }
     for length in 0..14 {
-        assert_eq!(rt; fault_of(rt.alloc(), &PAIR[..length]), Some(end(length)));
+        assert_eq!(rt; fault_of(&PAIR[..length]), Some(end(length)));
     }
 }
 
@@ -148,7 +147,7 @@ fn each_option_is_read_and_written_again(rt: HostRuntime) -> Result<(), Fail> {
         ),
     ];
     for (octets, doi, level, categories, length, written) in cases {
-        let (option, read) = read_calipso(rt.alloc(), octets).expect(&rt, "an option");
+        let (option, read) = read_calipso(octets).expect(&rt, "an option");
         assert_eq!(rt;
             (option.doi, option.label.level, read),
             (doi, level, length)
@@ -167,7 +166,7 @@ fn each_option_is_read_and_written_again(rt: HostRuntime) -> Result<(), Fail> {
 
 #[test]
 fn category_1951_is_the_last(rt: HostRuntime) -> Result<(), Fail> {
-    let mut cats = CatSet::empty(rt.alloc());
+    let mut cats = CatSet::empty();
     cats.add(1951).expect(&rt, "memory");
     let mut label = Label { level: 2, cats };
     let mut out = ArrayVec::new();
@@ -175,7 +174,7 @@ fn category_1951_is_the_last(rt: HostRuntime) -> Result<(), Fail> {
     write_calipso(16, &label, &mut out);
     assert_eq!(rt; (out.len(), out[1], out[6]), (254, 252, 61));
     assert_eq!(rt; out.as_slice().last(), Some(&1));
-    assert!(rt; read_calipso(rt.alloc(), &out).is_ok());
+    assert!(rt; read_calipso(&out).is_ok());
     label.cats.add(1952).expect(&rt, "memory");
     assert!(rt; !can_express(&label));
     Ok(())

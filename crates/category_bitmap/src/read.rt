@@ -1,27 +1,25 @@
 //! Reading: each stretch of ones becomes one run of the set.
 
-ghost use Rattle.std.specs.Prelude.{◌≡◌, ℕ, Bool, not, ◌||◌, ◌+◌, ◌*◌, ◌<◌, ◌≤◌, length, IfOk, OnOk};
+ghost use Rattle.std.specs.Prelude.{◌≡◌, ℕ, Bool, not, ◌||◌, ◌+◌, ◌*◌, ◌<◌, ◌≤◌, length};
 ghost use Rattle.mls_label.specs.Cats.{has, cats_where, is_within};
 ghost use Rattle.mls_label.specs.Runs.{runs_of};
 ghost use Rattle.category_bitmap.specs.Bitmap.{has_bit, bitmap_cats};
 
-use mls_label::{CatSet, OutOfMemory, SetStop};
-use std::alloc::Global;
+use mls_label::{CatSet, TooManyRuns};
 
 /// The categories of a bitmap of at most 244 octets: those whose bit is 1, category 0 being the most significant bit
 /// of the first octet. Such a bitmap needs at most 976 runs, so the set takes them all.
-pub fn read_bitmap(alloc: Global, bitmap: &[u8]) -> Result<CatSet, OutOfMemory>
+pub fn read_bitmap(bitmap: &[u8], cats: &mut CatSet)
     requires { length bitmap.now ≤ 244 }
-    ensures { IfOk result (λ cats. cats ≡ bitmap_cats bitmap.now) }
+    ensures { cats.new ≡ bitmap_cats bitmap.now }
 {
-    let mut cats = CatSet::empty(alloc);
+    cats.clear();
     let mut first = next_bit(bitmap, 0, true);
     while first < 8 * bitmap.len() {
         let after = next_bit(bitmap, first, false);
-        add(&mut cats, first, after - 1)?;
+        add(cats, first, after - 1);
         first = next_bit(bitmap, after, true);
     }
-    Ok(cats)
 }
 
 // The first place from `from` on whose bit is this one, or the bitmap's end.
@@ -49,16 +47,15 @@ fn is_set(bitmap: &[u8], place: usize) -> bool
 }
 
 // Adds a run to a set of few runs.
-fn add(cats: &mut CatSet, first: usize, last: usize) -> Result<(), OutOfMemory>
+fn add(cats: &mut CatSet, first: usize, last: usize)
     requires order { first ≤ last }
     requires categories { last < 65535 }
     requires few { length (runs_of cats.old) < 1952 }
-    ensures ok { OnOk result (cats.new ≡ cats_where (λ c. has cats.old c || is_within first last c)) }
-    ensures one_more { OnOk result (length (runs_of cats.new) ≤ length (runs_of cats.old) + 1) }
+    ensures cats { cats.new ≡ cats_where (λ c. has cats.old c || is_within first last c) }
+    ensures one_more { length (runs_of cats.new) ≤ length (runs_of cats.old) + 1 }
 {
     match cats.add_run(first as u16, last as u16) {
-        Ok(()) => Ok(()),
-        Err(SetStop::OutOfMemory) => Err(OutOfMemory),
-        Err(SetStop::TooManyRuns) => unreachable!(),
+        Ok(()) => {}
+        Err(TooManyRuns) => unreachable!(),
     }
 }

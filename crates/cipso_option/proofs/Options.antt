@@ -4,10 +4,10 @@ use Rattle.std.specs.Prelude.{slice_index}
 use Rattle.std.specs.List.{range_with_len}
 use Rattle.std.proofs.lemmas.List.{append-nil, nil_from_length, take_more, get_or_append_left, take-append-drop, get_or-drop, length-take}
 use Rattle.std.proofs.lemmas.List.FromFn.{map-range_with_len_more}
-use Rattle.octet_grammar.specs.declared.fault.WireStop.{WireStop}
+use Rattle.octet_grammar.specs.declared.fault.WireFault.{WireFault}
 use Rattle.octet_grammar.specs.Octets.{IsOctets}
 use Rattle.octet_grammar.specs.Front.{IsFront, IsPrefixFree, ReadsFront}
-use Rattle.octet_grammar.specs.Fault.{StopsFront}
+use Rattle.octet_grammar.specs.Fault.{FailsFront}
 use Rattle.octet_grammar.specs.Place.{moved_by}
 use Rattle.octet_grammar.proofs.Fronts.{at_agree, front_take}
 use Rattle.octet_grammar.proofs.Faults.{HasAt, IsWithin, reads_under}
@@ -287,9 +287,9 @@ option_reads bytes s doi size n tag label h reads =
     subst (λ x. ReadsFront IsCipso x (record { doi = doi; tag = tag; label = label }) (6 + n)) (sym h.is)
     (reads_under (with_doi doi) IsTag IsCipso (front_of size h.a h.b h.c h.d) s 2 n (tag, label) enough (tag_within doi size h.a h.b h.c h.d s h.second h.big h.parts h.named) reads)
 
-pub option_stops : (bytes s : List ℕ) (doi size : ℕ) (tag : Tag) (e : WireStop) → IsHeaded bytes s doi size → 2 ≤ length s → get_or s 0 0 ≡ type_of tag → HasLength tag (get_or s 1 0) → StopsFront IsTag s e → StopsFront IsCipso bytes (moved_by 6 e)
+pub option_stops : (bytes s : List ℕ) (doi size : ℕ) (tag : Tag) (e : WireFault) → IsHeaded bytes s doi size → 2 ≤ length s → get_or s 0 0 ≡ type_of tag → HasLength tag (get_or s 1 0) → FailsFront IsTag s e → FailsFront IsCipso bytes (moved_by 6 e)
 option_stops bytes s doi size tag e h long type there stops =
-    subst (λ x. StopsFront IsCipso x (moved_by 6 e)) (sym h.is)
+    subst (λ x. FailsFront IsCipso x (moved_by 6 e)) (sym h.is)
     (part_stops (with_doi doi) IsTag IsCipso options_free (front_of size h.a h.b h.c h.d) s 2 e long (tag_within doi size h.a h.b h.c h.d s h.second h.big h.parts h.named) (front_2 s tag long type there) stops)
 
 -- ---- written options

@@ -9,7 +9,7 @@ mod read;
 mod write;
 
 pub use cipso::Cipso;
-pub use read::read_cipso;
+pub use read::{CipsoHead, read_cipso, read_cipso_into};
 pub use write::{first_tag, write_cipso};
 
 #[cfg(test)]

@@ -2,27 +2,53 @@
 
 ghost use Rattle.std.specs.Prelude.{IfOk, IfErr};
 ghost use Rattle.octet_grammar.specs.Front.{ReadsFront};
-ghost use Rattle.octet_grammar.specs.Fault.{StopsFront};
+ghost use Rattle.octet_grammar.specs.Fault.{FailsFront};
 ghost use Rattle.cipso_option.specs.Cipso.{IsCipso};
 
 use crate::Cipso;
 use crate::head::{read_doi, read_start, read_tag_head};
-use cipso_tags::read_tag;
-use mls_label::WireStop;
-use octet_grammar::moved_stop;
-use std::alloc::Global;
+use cipso_tags::read_tag_into;
+use mls_label::{Label, Tag, WireFault};
+use octet_grammar::moved_fault;
+
+/// What an option says beside its label, and how many octets it has.
+#[derive(Clone, Copy, Debug)]
+pub struct CipsoHead {
+    pub doi: u32,
+    pub tag: Tag,
+    pub length: usize,
+}
 
 /// The CIPSO option at the front of the octets, and how many octets it has (FIPS 188; CIPSO draft 2.2). It has one tag of
 /// type 1, 2 or 5, which fills it. A fault stands at the first octet that no option with the octets before it has there.
-pub fn read_cipso(alloc: Global, bytes: &[u8]) -> Result<(Cipso, usize), WireStop>
+pub fn read_cipso(bytes: &[u8]) -> Result<(Cipso, usize), WireFault>
     ensures ok { IfOk result (λ read. ReadsFront IsCipso bytes.now read.0 read.1) }
-    ensures err { IfErr result (λ e. StopsFront IsCipso bytes.now e) }
+    ensures err { IfErr result (λ e. FailsFront IsCipso bytes.now e) }
+{
+    let mut label = Label::lowest();
+    let head = read_cipso_into(bytes, &mut label)?;
+    let cipso = Cipso {
+        doi: head.doi,
+        tag: head.tag,
+        label,
+    };
+    Ok((cipso, head.length))
+}
+
+/// The same with the label in place of the one that is lent, which is any label after a fault.
+pub fn read_cipso_into(bytes: &[u8], label: &mut Label) -> Result<CipsoHead, WireFault>
+    ensures ok { IfOk result (λ head. ReadsFront IsCipso bytes.now (record { doi = head.doi; tag = head.tag; label = label.new }) head.length) }
+    ensures err { IfErr result (λ e. FailsFront IsCipso bytes.now e) }
 {
     read_start(bytes)?;
     let doi = read_doi(bytes)?;
     read_tag_head(bytes)?;
-    match read_tag(alloc, &bytes[6..]) {
-        Ok((tag, label, length)) => Ok((Cipso { doi, tag, label }, 6 + length)),
-        Err(stop) => Err(moved_stop(stop, 6, bytes.len() - 6)),
+    match read_tag_into(&bytes[6..], label) {
+        Ok((tag, length)) => Ok(CipsoHead {
+            doi,
+            tag,
+            length: 6 + length,
+        }),
+        Err(fault) => Err(moved_fault(fault, 6, bytes.len() - 6)),
     }
 }

@@ -3,8 +3,7 @@ ghost use Rattle.std.specs.Prelude.{◌<◌, ◌≤◌};
 use super::*;
 use arrayvec::ArrayVec;
 use cipso_tags::can_express;
-use mls_label::{CatSet, Label, Tag, WireFault, WireKind, WireStop};
-use std::alloc::Global;
+use mls_label::{CatSet, Label, Tag, WireFault, WireKind};
 use std::test::Fail;
 
 const OCTET: WireKind = WireKind::Octet;
@@ -71,8 +70,8 @@ fn each_fault_stands_at_its_octet(rt: HostRuntime) -> Result<(), Fail> {
         (&[134, 10, 0, 0, 0, 16, 5, 4, 0], 9, END),
     ];
     for (octets, octet, kind) in cases {
-        let fault = WireStop::Fault(WireFault { octet, kind });
-        match read_cipso(rt.alloc(), octets) {
+        let fault = WireFault { octet, kind };
+        match read_cipso(octets) {
             Ok(_read) => assert!(rt; false, "{octets:?} was read"),
             Err(stop) => assert_eq!(rt; stop, fault, "{octets:?}"),
         }
@@ -157,7 +156,7 @@ fn each_option_is_read_and_written_again(rt: HostRuntime) -> Result<(), Fail> {
         ),
     ];
     for (octets, doi, tag, level, runs, text) in cases {
-        let (cipso, length) = read_cipso(rt.alloc(), octets)?;
+        let (cipso, length) = read_cipso(octets)?;
         assert_eq!(rt; length, octets.len(), "{octets:?}");
         assert_eq!(rt; cipso.doi, doi, "{octets:?}");
         assert_eq!(rt; cipso.tag, tag, "{octets:?}");
@@ -171,25 +170,25 @@ fn each_option_is_read_and_written_again(rt: HostRuntime) -> Result<(), Fail> {
     Ok(())
 }
 
-fn label_of(alloc: Global, first: u16, last: u16) -> Result<Label, Fail>
+fn label_of(first: u16, last: u16) -> Result<Label, Fail>
     requires order { first ≤ last }
     requires categories { last < 65535 }
 {
-    let mut cats = CatSet::empty(alloc);
+    let mut cats = CatSet::empty();
     cats.add_run(first, last)?;
     Ok(Label { level: 0, cats })
 }
 
 #[test]
 fn the_first_tag_that_can_express_a_label_is_taken(rt: HostRuntime) -> Result<(), Fail> {
-    let highest = label_of(rt.alloc(), 239, 239)?;
+    let highest = label_of(239, 239)?;
     assert_eq!(rt; first_tag(&[Tag::Two, Tag::One], &highest), Some(Tag::Two));
     assert_eq!(rt; first_tag(&[Tag::One, Tag::Two], &highest), Some(Tag::One));
-    let higher = label_of(rt.alloc(), 240, 240)?;
+    let higher = label_of(240, 240)?;
     assert_eq!(rt; first_tag(&[Tag::One], &higher), None);
     assert_eq!(rt; first_tag(&[Tag::One, Tag::Two], &higher), Some(Tag::Two));
     assert_eq!(rt; first_tag(&[], &higher), None);
-    let many = label_of(rt.alloc(), 0, 300)?;
+    let many = label_of(0, 300)?;
     assert_eq!(rt;
         first_tag(&[Tag::One, Tag::Two, Tag::Five], &many),
         Some(Tag::Five)

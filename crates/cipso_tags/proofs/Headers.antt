@@ -4,9 +4,9 @@ use Rattle.std.specs.Prelude.{slice_index}
 use Rattle.std.specs.List.{range_with_len}
 use Rattle.std.proofs.lemmas.List.{get_or_append_left, append-nil, nil_from_length, take_more}
 use Rattle.std.proofs.lemmas.List.FromFn.{length-range_with_len}
-use Rattle.octet_grammar.specs.declared.fault.WireStop.{WireStop}
+use Rattle.octet_grammar.specs.declared.fault.WireFault.{WireFault}
 use Rattle.octet_grammar.specs.Front.{IsFront, IsPrefixFree, ReadsFront}
-use Rattle.octet_grammar.specs.Fault.{StopsFront}
+use Rattle.octet_grammar.specs.Fault.{FailsFront}
 use Rattle.octet_grammar.proofs.Fronts.{at_agree, front_take}
 use Rattle.octet_grammar.proofs.Faults.{HasAt, IsWithin, reads_under}
 use Rattle.octet_grammar.proofs.Places.{part_stops}
@@ -222,9 +222,9 @@ body_reads tag size level bytes s cats small is reads =
     subst (λ x. ReadsFront IsTag x (with_cats tag level cats) (4 + size)) (sym is)
     (reads_under (with_cats tag level) (IsSized size (IsBody tag)) IsTag (header_of tag (4 + size) level) s 0 size cats (omega arith) (body_within tag size level s small) reads)
 
-pub body_stops : (tag : Tag) (size level : ℕ) (bytes s : List ℕ) (e : WireStop) → HasLength tag (4 + size) → level < 256 → bytes ≡ header_of tag (4 + size) level ++ s → StopsFront (IsSized size (IsBody tag)) s e → StopsFront IsTag bytes (moved_by 4 e)
+pub body_stops : (tag : Tag) (size level : ℕ) (bytes s : List ℕ) (e : WireFault) → HasLength tag (4 + size) → level < 256 → bytes ≡ header_of tag (4 + size) level ++ s → FailsFront (IsSized size (IsBody tag)) s e → FailsFront IsTag bytes (moved_by 4 e)
 body_stops tag size level bytes s e h small is stops =
-    subst (λ x. StopsFront IsTag x (moved_by 4 e)) (sym is)
+    subst (λ x. FailsFront IsTag x (moved_by 4 e)) (sym is)
     (part_stops (with_cats tag level) (IsSized size (IsBody tag)) IsTag tags_free (header_of tag (4 + size) level) s 0 e (omega arith) (body_within tag size level s small) (body_front tag size h) stops)
 
 -- the sizes of bodies

@@ -2,9 +2,9 @@
 use Rattle.std.proofs.Common.{◌≡◌, ℕ, ◌+◌, ◌*◌, ◌/◌, ◌%◌, ◌<◌, ◌≤◌, max, List, [], ◌∷◌, ◌++◌, length, get_or, take, drop, refl, sym, ap, subst, ◌∙◌, append_assoc, arith, inl, inr, length-append, length-drop}
 use Rattle.std.specs.Prelude.{slice_index}
 use Rattle.std.proofs.lemmas.List.{take-append-drop, take_more, append-nil, nil_from_length, get_or-drop}
-use Rattle.octet_grammar.specs.declared.fault.WireStop.{WireStop}
+use Rattle.octet_grammar.specs.declared.fault.WireFault.{WireFault}
 use Rattle.octet_grammar.specs.Front.{IsFront, IsPrefixFree, ReadsFront}
-use Rattle.octet_grammar.specs.Fault.{StopsFront}
+use Rattle.octet_grammar.specs.Fault.{FailsFront}
 use Rattle.octet_grammar.proofs.Fronts.{long_agree}
 use Rattle.octet_grammar.proofs.Faults.{HasAt}
 use Rattle.octet_grammar.specs.Place.{FaultsAt}
@@ -28,7 +28,7 @@ at_from_next G s p P o le read next t v m agree =
     let n = next (drop o t) v (subst (λ x. G x v) split m) in
     (omega (arith, n.0, length-drop o t), subst P (get_or-drop o t 0 0 ∙ ap (λ k. get_or t k 0) (omega arith)) n.1)
 
-stops_next : {V : Type 0} (G : List ℕ → V → Type 0) (free : IsPrefixFree G) (s p : List ℕ) (o : ℕ) (P : ℕ → Type 0) (e : WireStop) → o ≤ length s → take o s ≡ p → IsFront G p → HasNext G p P → FaultsAt s o P e → StopsFront G s e
+stops_next : {V : Type 0} (G : List ℕ → V → Type 0) (free : IsPrefixFree G) (s p : List ℕ) (o : ℕ) (P : ℕ → Type 0) (e : WireFault) → o ≤ length s → take o s ≡ p → IsFront G p → HasNext G p P → FaultsAt s o P e → FailsFront G s e
 stops_next G free s p o P e le read front next faults =
     stops_outside G free s o P e le (subst (IsFront G) (sym read) front) (at_from_next G s p P o le read next) faults
 
@@ -90,7 +90,7 @@ front_with most D cats_of count xs ys p more c le long ordered is =
     let m = numbers_member most D cats_of count zs le (omega (arith, length-append xs (c ∷ ys))) ordered in
     record { more = more; value = cats_of zs; member = subst (λ t. NumbersOf most D cats_of count t (cats_of zs)) whole m }
 
-pub number_stops : (most : ℕ) (D : List ℕ → Type 0) (cats_of : List ℕ → List ℕ) (count : ℕ) (s xs : List ℕ) (o low high : ℕ) (e : WireStop) → count ≤ most → o ≤ length s → take o s ≡ words xs → length xs < count → low ≤ high → slice_index s o < 256 → IsStep D count xs low high → FaultsInNumber s o low high e → StopsFront (NumbersOf most D cats_of count) s e
+pub number_stops : (most : ℕ) (D : List ℕ → Type 0) (cats_of : List ℕ → List ℕ) (count : ℕ) (s xs : List ℕ) (o low high : ℕ) (e : WireFault) → count ≤ most → o ≤ length s → take o s ≡ words xs → length xs < count → low ≤ high → slice_index s o < 256 → IsStep D count xs low high → FaultsInNumber s o low high e → FailsFront (NumbersOf most D cats_of count) s e
 number_stops most D cats_of count s xs o low high e fits le read short order small step (inl faults) =
     let G = NumbersOf most D cats_of count in
     let sample = step.extend low (omega arith) order in

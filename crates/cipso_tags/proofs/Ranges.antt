@@ -9,9 +9,9 @@ use Rattle.cipso_tags.specs.Body.{Descends, covers}
 use Rattle.cipso_tags.specs.Words.{words}
 use Rattle.cipso_tags.specs.Place.{IsNumberAt, number_at}
 use Rattle.cipso_tags.proofs.Words.{take_number}
-use Rattle.octet_grammar.specs.declared.fault.WireStop.{WireStop}
+use Rattle.octet_grammar.specs.declared.fault.WireFault.{WireFault}
 use Rattle.octet_grammar.specs.Front.{ReadsFront}
-use Rattle.octet_grammar.specs.Fault.{StopsFront}
+use Rattle.octet_grammar.specs.Fault.{FailsFront}
 use Rattle.cipso_tags.specs.Place.{FaultsInNumber}
 use Rattle.cipso_tags.proofs.Numbers.{NumbersOf, IsStep, IsAfter, after_start, number_stops, numbers_read}
 
@@ -190,7 +190,7 @@ range_room false s at count done low top bottom is later none = omega (arith, lt
 abbrev pub covered_by : List ℕ → List ℕ
 covered_by numbers = cats_where (covers numbers)
 
-pub top_stops : (s : List ℕ) (count done upper low : ℕ) (cats : List ℕ) (e : WireStop) → count ≤ 14 → 2 * done < count → low ≡ (count + 1) / 2 - 1 - done → (count + 1) / 2 ≤ upper + done → IsOctets s → HasRanges s count done upper cats → FaultsInNumber s (4 * done) low (upper - 1) e → StopsFront (NumbersOf 14 (Descends 65535) covered_by count) s e
+pub top_stops : (s : List ℕ) (count done upper low : ℕ) (cats : List ℕ) (e : WireFault) → count ≤ 14 → 2 * done < count → low ≡ (count + 1) / 2 - 1 - done → (count + 1) / 2 ≤ upper + done → IsOctets s → HasRanges s count done upper cats → FaultsInNumber s (4 * done) low (upper - 1) e → FailsFront (NumbersOf 14 (Descends 65535) covered_by count) s e
 top_stops s count done upper low cats e fits more later room octets seen faults =
     let xs = seen.numbers in
     let long : length xs ≡ 2 * done = omega (arith, seen.long) in
@@ -198,7 +198,7 @@ top_stops s count done upper low cats e fits more later room octets seen faults 
     let step = top_step count xs upper (count - 2 * done - 1) low (omega arith) (omega arith) (omega arith) (seen.after (omega arith)) in
     number_stops 14 (Descends 65535) covered_by count s xs (4 * done) low (upper - 1) e fits (omega (arith, seen.within)) (ap (λ k. take k s) at ∙ seen.read) (omega arith) (omega arith) (octets.at (4 * done)) step faults
 
-pub bottom_stops : (s : List ℕ) (count done upper low top : ℕ) (cats : List ℕ) (e : WireStop) → count ≤ 14 → 2 * done + 1 < count → low ≡ (count + 1) / 2 - 1 - done → (count + 1) / 2 ≤ upper + done → IsOctets s → HasRanges s count done upper cats → IsNumberAt s (4 * done) low (upper - 1) top → FaultsInNumber s (4 * done + 2) low top e → StopsFront (NumbersOf 14 (Descends 65535) covered_by count) s e
+pub bottom_stops : (s : List ℕ) (count done upper low top : ℕ) (cats : List ℕ) (e : WireFault) → count ≤ 14 → 2 * done + 1 < count → low ≡ (count + 1) / 2 - 1 - done → (count + 1) / 2 ≤ upper + done → IsOctets s → HasRanges s count done upper cats → IsNumberAt s (4 * done) low (upper - 1) top → FaultsInNumber s (4 * done + 2) low top e → FailsFront (NumbersOf 14 (Descends 65535) covered_by count) s e
 bottom_stops s count done upper low top cats e fits more later room octets seen number faults =
     let xs = seen.numbers in
     let long : length xs ≡ 2 * done = omega (arith, seen.long) in

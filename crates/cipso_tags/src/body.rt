@@ -2,7 +2,7 @@
 
 ghost use Rattle.std.specs.Prelude.{◌≡◌, ◌+◌, ◌*◌, ◌||◌, ◌<◌, ◌≤◌, IsTrue, MatchBool, length, IfOk, IfErr, OnOk};
 ghost use Rattle.octet_grammar.specs.Front.{ReadsFront};
-ghost use Rattle.octet_grammar.specs.Fault.{StopsFront};
+ghost use Rattle.octet_grammar.specs.Fault.{FailsFront};
 ghost use Rattle.mls_label.specs.declared.label.Tag.TheVariants.{One, Two, Five};
 ghost use Rattle.mls_label.specs.Cats.{has, cats_where, is_within};
 ghost use Rattle.mls_label.specs.Runs.{runs_of};
@@ -13,65 +13,62 @@ ghost use Rattle.cipso_tags.specs.Place.{FaultsInNumber, IsNumberAt};
 
 use crate::number::number_in;
 use category_bitmap::read_bitmap;
-use mls_label::{CatSet, OutOfMemory, SetStop, Tag, WireStop};
+use mls_label::{CatSet, Tag, TooManyRuns, WireFault};
 use octet_grammar::ended;
-use std::alloc::Global;
 
-/// The categories that the first `size` octets carry.
+/// Reads the categories that the first `size` octets carry, in place of those that the set has.
 pub(crate) fn read_body(
-    alloc: Global,
     tag: Tag,
     bytes: &[u8],
     size: usize,
-) -> Result<CatSet, WireStop>
+    cats: &mut CatSet,
+) -> Result<(), WireFault>
     requires { HasLength tag (4 + size) }
-    ensures ok { IfOk result (λ cats. ReadsFront (IsSized size (IsBody tag)) bytes.now cats size) }
-    ensures err { IfErr result (λ e. StopsFront (IsSized size (IsBody tag)) bytes.now e) }
+    ensures ok { OnOk result (ReadsFront (IsSized size (IsBody tag)) bytes.now cats.new size) }
+    ensures err { IfErr result (λ e. FailsFront (IsSized size (IsBody tag)) bytes.now e) }
 {
     match tag {
-        Tag::One => read_bits(alloc, bytes, size),
-        Tag::Two => read_enumeration(alloc, bytes, size / 2),
-        Tag::Five => read_ranges(alloc, bytes, size / 2),
+        Tag::One => read_bits(bytes, size, cats),
+        Tag::Two => read_enumeration(bytes, size / 2, cats),
+        Tag::Five => read_ranges(bytes, size / 2, cats),
     }
 }
 
-fn read_bits(alloc: Global, bytes: &[u8], size: usize) -> Result<CatSet, WireStop>
+fn read_bits(bytes: &[u8], size: usize, cats: &mut CatSet) -> Result<(), WireFault>
     requires { size ≤ 30 }
-    ensures ok { IfOk result (λ cats. ReadsFront (IsSized size (IsBody One)) bytes.now cats size) }
-    ensures err { IfErr result (λ e. StopsFront (IsSized size (IsBody One)) bytes.now e) }
+    ensures ok { OnOk result (ReadsFront (IsSized size (IsBody One)) bytes.now cats.new size) }
+    ensures err { IfErr result (λ e. FailsFront (IsSized size (IsBody One)) bytes.now e) }
 {
     if bytes.len() < size {
         return Err(ended(bytes.len()));
     }
-    match read_bitmap(alloc, &bytes[..size]) {
-        Ok(cats) => Ok(cats),
-        Err(OutOfMemory) => Err(WireStop::OutOfMemory),
-    }
+    read_bitmap(&bytes[..size], cats);
+    Ok(())
 }
 
-fn read_enumeration(alloc: Global, bytes: &[u8], count: usize) -> Result<CatSet, WireStop>
+fn read_enumeration(bytes: &[u8], count: usize, cats: &mut CatSet) -> Result<(), WireFault>
     requires { count ≤ 15 }
-    ensures ok { IfOk result (λ cats. ReadsFront (IsSized (2 * count) (IsBody Two)) bytes.now cats (2 * count)) }
-    ensures err { IfErr result (λ e. StopsFront (IsSized (2 * count) (IsBody Two)) bytes.now e) }
+    ensures ok { OnOk result (ReadsFront (IsSized (2 * count) (IsBody Two)) bytes.now cats.new (2 * count)) }
+    ensures err { IfErr result (λ e. FailsFront (IsSized (2 * count) (IsBody Two)) bytes.now e) }
 {
-    let mut cats = CatSet::empty(alloc);
+    cats.clear();
     let mut low = 0;
     for read in 0..count {
         // The categories after this one need room below 65535.
         let later = (count - 1 - read) as u16;
         let category = number_in(bytes, 2 * read, low, 65534 - later)?;
-        add(&mut cats, category, category)?;
+        add(cats, category, category);
         low = category + 1;
     }
-    Ok(cats)
+    Ok(())
 }
 
-fn read_ranges(alloc: Global, bytes: &[u8], count: usize) -> Result<CatSet, WireStop>
+fn read_ranges(bytes: &[u8], count: usize, cats: &mut CatSet) -> Result<(), WireFault>
     requires { count ≤ 14 }
-    ensures ok { IfOk result (λ cats. ReadsFront (IsSized (2 * count) (IsBody Five)) bytes.now cats (2 * count)) }
-    ensures err { IfErr result (λ e. StopsFront (IsSized (2 * count) (IsBody Five)) bytes.now e) }
+    ensures ok { OnOk result (ReadsFront (IsSized (2 * count) (IsBody Five)) bytes.now cats.new (2 * count)) }
+    ensures err { IfErr result (λ e. FailsFront (IsSized (2 * count) (IsBody Five)) bytes.now e) }
 {
-    let mut cats = CatSet::empty(alloc);
+    cats.clear();
     let mut upper: u16 = 65535;
     let ranges = (count + 1) / 2;
     for read in 0..ranges {
@@ -79,14 +76,14 @@ fn read_ranges(alloc: Global, bytes: &[u8], count: usize) -> Result<CatSet, Wire
         let later = (ranges - 1 - read) as u16;
         let top = number_in(bytes, 4 * read, later, upper - 1)?;
         let bottom = bottom_in(bytes, 4 * read + 2, 2 * read + 1 < count, later, top)?;
-        add(&mut cats, bottom, top)?;
+        add(cats, bottom, top);
         upper = bottom;
     }
-    Ok(cats)
+    Ok(())
 }
 
 // The bottom at this place, where it is there; one that is left out is 0.
-fn bottom_in(bytes: &[u8], at: usize, is_there: bool, low: u16, top: u16) -> Result<u16, WireStop>
+fn bottom_in(bytes: &[u8], at: usize, is_there: bool, low: u16, top: u16) -> Result<u16, WireFault>
     requires { at ≤ length bytes.now }
     ensures ok { IfOk result (λ bottom. MatchBool is_there (IsNumberAt bytes.now at low top bottom) (bottom ≡ 0)) }
     ensures err { IfErr result (λ e. IsTrue is_there × FaultsInNumber bytes.now at low top e) }
@@ -99,17 +96,15 @@ fn bottom_in(bytes: &[u8], at: usize, is_there: bool, low: u16, top: u16) -> Res
 }
 
 // Adds a run to a set of few runs.
-fn add(cats: &mut CatSet, first: u16, last: u16) -> Result<(), WireStop>
+fn add(cats: &mut CatSet, first: u16, last: u16)
     requires order { first ≤ last }
     requires categories { last < 65535 }
     requires few { length (runs_of cats.old) < 1952 }
-    ensures ok { OnOk result (cats.new ≡ cats_where (λ c. has cats.old c || is_within first last c)) }
-    ensures one_more { OnOk result (length (runs_of cats.new) ≤ length (runs_of cats.old) + 1) }
-    ensures err { IfErr result (λ e. e ≡ WireStop.OutOfMemory) }
+    ensures cats { cats.new ≡ cats_where (λ c. has cats.old c || is_within first last c) }
+    ensures one_more { length (runs_of cats.new) ≤ length (runs_of cats.old) + 1 }
 {
     match cats.add_run(first, last) {
-        Ok(()) => Ok(()),
-        Err(SetStop::OutOfMemory) => Err(WireStop::OutOfMemory),
-        Err(SetStop::TooManyRuns) => unreachable!(),
+        Ok(()) => {}
+        Err(TooManyRuns) => unreachable!(),
     }
 }

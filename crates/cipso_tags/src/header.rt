@@ -1,12 +1,12 @@
 //! The first four octets of a tag: type, length, alignment, level.
 
 ghost use Rattle.std.specs.Prelude.{◌≡◌, ◌↔◌, IsTrue, MatchOption, IfOk, IfErr};
-ghost use Rattle.octet_grammar.specs.Fault.{StopsFront};
+ghost use Rattle.octet_grammar.specs.Fault.{FailsFront};
 ghost use Rattle.mls_label.specs.declared.label.Tag.{Tag};
 ghost use Rattle.cipso_tags.specs.Tag.{type_of, IsTag, HasLength};
 ghost use Rattle.cipso_tags.specs.Header.{BeginsWith, IsSize};
 
-use mls_label::{Tag, WireStop};
+use mls_label::{Tag, WireFault};
 use octet_grammar::{octet_at, unfit};
 
 /// What stands before a tag's body.
@@ -49,9 +49,9 @@ fn is_size(tag: Tag, length: u8) -> bool
 }
 
 /// The header at the front of the octets.
-pub(crate) fn read_header(bytes: &[u8]) -> Result<Header, WireStop>
+pub(crate) fn read_header(bytes: &[u8]) -> Result<Header, WireFault>
     ensures ok { IfOk result (λ header. BeginsWith bytes.now header) }
-    ensures err { IfErr result (λ e. StopsFront IsTag bytes.now e) }
+    ensures err { IfErr result (λ e. FailsFront IsTag bytes.now e) }
 {
     let kind = octet_at(bytes, 0)?;
     let Some(tag) = tag_of_type(kind) else {

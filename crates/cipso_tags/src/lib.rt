@@ -12,7 +12,7 @@ mod tag;
 mod write;
 
 pub use header::{has_length, tag_of_type};
-pub use tag::read_tag;
+pub use tag::{read_tag, read_tag_into};
 pub use write::{append_tag, can_express, tag_octets, write_tag};
 
 #[cfg(test)]

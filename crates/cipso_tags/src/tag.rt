@@ -2,31 +2,35 @@
 
 ghost use Rattle.std.specs.Prelude.{IfOk, IfErr};
 ghost use Rattle.octet_grammar.specs.Front.{ReadsFront};
-ghost use Rattle.octet_grammar.specs.Fault.{StopsFront};
+ghost use Rattle.octet_grammar.specs.Fault.{FailsFront};
 ghost use Rattle.cipso_tags.specs.Tag.{IsTag};
 
 use crate::body::read_body;
 use crate::header::read_header;
-use mls_label::{Label, Tag, WireStop};
-use octet_grammar::moved_stop;
-use std::alloc::Global;
+use mls_label::{Label, Tag, WireFault};
+use octet_grammar::moved_fault;
 
 /// The tag at the front of the octets, its label, and how many octets it has (FIPS 188; CIPSO draft 2.2, section 3.4).
 /// A fault stands at the first octet that no tag with the octets before it has there.
-pub fn read_tag(alloc: Global, bytes: &[u8]) -> Result<(Tag, Label, usize), WireStop>
+pub fn read_tag(bytes: &[u8]) -> Result<(Tag, Label, usize), WireFault>
     ensures ok { IfOk result (λ read. ReadsFront IsTag bytes.now (read.0, read.1) read.2) }
-    ensures err { IfErr result (λ e. StopsFront IsTag bytes.now e) }
+    ensures err { IfErr result (λ e. FailsFront IsTag bytes.now e) }
+{
+    let mut label = Label::lowest();
+    let (tag, length) = read_tag_into(bytes, &mut label)?;
+    Ok((tag, label, length))
+}
+
+/// The same with the label in place of the one that is lent, which is any label after a fault.
+pub fn read_tag_into(bytes: &[u8], label: &mut Label) -> Result<(Tag, usize), WireFault>
+    ensures ok { IfOk result (λ read. ReadsFront IsTag bytes.now (read.0, label.new) read.1) }
+    ensures err { IfErr result (λ e. FailsFront IsTag bytes.now e) }
 {
     let header = read_header(bytes)?;
     let length = header.length as usize;
-    match read_body(alloc, header.tag, &bytes[4..], length - 4) {
-        Ok(cats) => {
-            let label = Label {
-                level: header.level,
-                cats,
-            };
-            Ok((header.tag, label, length))
-        }
-        Err(stop) => Err(moved_stop(stop, 4, bytes.len() - 4)),
+    label.level = header.level;
+    match read_body(header.tag, &bytes[4..], length - 4, &mut label.cats) {
+        Ok(()) => Ok((header.tag, length)),
+        Err(fault) => Err(moved_fault(fault, 4, bytes.len() - 4)),
     }
 }

@@ -1,6 +1,6 @@
 use super::*;
 use arrayvec::ArrayVec;
-use mls_label::{CatSet, Tag, WireFault, WireKind, WireStop};
+use mls_label::{CatSet, Tag, WireFault, WireKind};
 use std::test::Fail;
 
 const OCTET: WireKind = WireKind::Octet;
@@ -105,8 +105,8 @@ fn each_fault_stands_at_its_octet(rt: HostRuntime) -> Result<(), Fail> {
         (&[5, 32, 0, 1, 0, 6, 0, 6, 0, 5], 10, END),
     ];
     for (octets, octet, kind) in cases {
-        let fault = WireStop::Fault(WireFault { octet, kind });
-        match read_tag(rt.alloc(), octets) {
+        let fault = WireFault { octet, kind };
+        match read_tag(octets) {
             Ok(_read) => assert!(rt; false, "{octets:?} was read"),
             Err(stop) => assert_eq!(rt; stop, fault, "{octets:?}"),
         }
@@ -227,7 +227,7 @@ fn each_tag_is_read_and_written_again(rt: HostRuntime) -> Result<(), Fail> {
         ),
     ];
     for (octets, kind, level, runs, text) in cases {
-        let (tag, label, _length) = read_tag(rt.alloc(), octets)?;
+        let (tag, label, _length) = read_tag(octets)?;
         assert_eq!(rt; tag, kind, "{octets:?}");
         assert_eq!(rt; label.level, level, "{octets:?}");
         assert!(rt; has_runs(&label.cats, runs), "{octets:?}");

@@ -1,49 +1,22 @@
 //! A set of categories, kept as its maximal runs in ascending order.
 
-ghost use Rattle.std.specs.Prelude.{◌≡◌, ℕ, ◌+◌, ◌<◌, ◌≤◌, ◌||◌, ◌↔◌, [], length, IsTrue, IfOk, MatchOption, OnOk, OnErr, IsErrOf, slice_get};
+ghost use Rattle.std.specs.Prelude.{◌≡◌, ℕ, ◌+◌, ◌<◌, ◌≤◌, ◌||◌, ◌↔◌, [], length, IsTrue, MatchOption, OnOk, OnErr, slice_get};
 ghost use Rattle.mls_label.specs.Cats.{has, is_within, cats_where, IsCats, IsSubset};
 ghost use Rattle.mls_label.specs.Runs.{runs_of};
 
-use crate::OutOfMemory;
-use crate::kept_runs::{count_of, highest_of, holds, is_inside, join};
-use std::alloc::{AllocError, AllocFailed, Global};
+use crate::kept_runs::{assign, count_of, highest_of, holds, is_inside, join};
+use arrayvec::ArrayVec;
 use std::marker::Model;
 
 /// The most maximal runs that a set may have.
 pub const MOST_RUNS: usize = 1952;
 
-/// Why a set can't take a run.
+/// The set would need more than 1,952 maximal runs.
 #[derive(Clone, Copy, Debug, PartialEq, Eq)]
-pub enum SetStop {
-    /// The set would need more than 1,952 maximal runs.
-    TooManyRuns,
-    OutOfMemory,
-}
-
-impl<T: Drop> From<AllocFailed<T>> for SetStop {
-    ghost use Rattle.std.specs.Prelude.{◌≡◌};
-    ghost use Rattle.mls_label.specs.declared.cat_set.SetStop.TheVariants.{OutOfMemory};
-
-    ghost from_gives = { λ _ stop. stop ≡ OutOfMemory };
-
-    fn from(_failed: AllocFailed<T>) -> SetStop {
-        SetStop::OutOfMemory
-    }
-}
-
-impl From<AllocError> for SetStop {
-    ghost use Rattle.std.specs.Prelude.{◌≡◌};
-    ghost use Rattle.mls_label.specs.declared.cat_set.SetStop.TheVariants.{OutOfMemory};
-
-    ghost from_gives = { λ _ stop. stop ≡ OutOfMemory };
-
-    fn from(_failed: AllocError) -> SetStop {
-        SetStop::OutOfMemory
-    }
-}
+pub struct TooManyRuns;
 
 /// All categories from `first` to `last`, both included.
-#[derive(Clone, Copy, Debug, PartialEq, Eq)]
+#[derive(Clone, Copy, Debug, Default, PartialEq, Eq)]
 pub struct Run {
     pub first: u16,
     pub last: u16,
@@ -52,7 +25,7 @@ pub struct Run {
 /// A set of categories from 0 to 65534 that has at most 1,952 maximal runs.
 #[derive(Debug, Drop)]
 pub struct CatSet {
-    runs: Vec<Run>,
+    runs: ArrayVec<Run, MOST_RUNS>,
 }
 
 impl Model for CatSet {
@@ -68,40 +41,47 @@ impl Model for CatSet {
 }
 
 impl CatSet {
-    /// The set without a category. It takes no memory yet.
-    pub fn empty(alloc: Global) -> CatSet
+    /// The set without a category.
+    pub fn empty() -> CatSet
         ensures { result ≡ [] }
     {
         CatSet {
-            runs: Vec::new(alloc),
+            runs: ArrayVec::new(),
         }
     }
 
+    /// Takes all categories out.
+    pub fn clear(&mut self)
+        ensures { self.new ≡ [] }
+    {
+        self.runs.clear();
+    }
+
     /// Adds all categories from `first` to `last`, both included. After an error nothing has changed.
-    pub fn add_run(&mut self, first: u16, last: u16) -> Result<(), SetStop>
+    pub fn add_run(&mut self, first: u16, last: u16) -> Result<(), TooManyRuns>
         requires order { first ≤ last }
         requires categories { last < 65535 }
         ensures ok { OnOk result
             (self.new ≡ cats_where (λ c. has self.old c || is_within first last c)) }
         ensures few { OnOk result (length (runs_of self.new) ≤ 1952) }
-        ensures too_many { IsErrOf result SetStop.TooManyRuns
-            → 1952 < length (runs_of (cats_where (λ c. has self.old c || is_within first last c))) }
+        ensures too_many { OnErr result
+            (1952 < length (runs_of (cats_where (λ c. has self.old c || is_within first last c)))) }
         ensures one_more { OnOk result (length (runs_of self.new) ≤ length (runs_of self.old) + 1) }
-        ensures full { IsErrOf result SetStop.TooManyRuns → 1952 ≤ length (runs_of self.old) }
+        ensures full { OnErr result (1952 ≤ length (runs_of self.old)) }
         ensures err { OnErr result (self.new ≡ self.old) }
     {
         join(&mut self.runs, Run { first, last })
     }
 
     /// Adds one category. After an error nothing has changed.
-    pub fn add(&mut self, c: u16) -> Result<(), SetStop>
+    pub fn add(&mut self, c: u16) -> Result<(), TooManyRuns>
         requires { c < 65535 }
         ensures ok { OnOk result (self.new ≡ cats_where (λ k. has self.old k || is_within c c k)) }
         ensures few { OnOk result (length (runs_of self.new) ≤ 1952) }
-        ensures too_many { IsErrOf result SetStop.TooManyRuns
-            → 1952 < length (runs_of (cats_where (λ k. has self.old k || is_within c c k))) }
+        ensures too_many { OnErr result
+            (1952 < length (runs_of (cats_where (λ k. has self.old k || is_within c c k)))) }
         ensures one_more { OnOk result (length (runs_of self.new) ≤ length (runs_of self.old) + 1) }
-        ensures full { IsErrOf result SetStop.TooManyRuns → 1952 ≤ length (runs_of self.old) }
+        ensures full { OnErr result (1952 ≤ length (runs_of self.old)) }
         ensures err { OnErr result (self.new ≡ self.old) }
     {
         self.add_run(c, c)
@@ -144,7 +124,8 @@ impl CatSet {
         ensures order { result.0 ≤ result.1 }
         ensures categories { result.1 < 65535 }
     {
-        let run = self.runs[i];
+        let runs = self.runs.as_slice();
+        let run = runs[i];
         (run.first, run.last)
     }
 
@@ -163,12 +144,19 @@ impl CatSet {
         highest_of(&self.runs)
     }
 
-    /// A copy, which takes the memory of its runs.
-    pub fn copy(&self) -> Result<CatSet, OutOfMemory>
-        ensures { IfOk result (λ s. s ≡ self.now) }
+    /// A copy.
+    pub fn copy(&self) -> CatSet
+        ensures { result ≡ self.now }
     {
-        Ok(CatSet {
-            runs: self.runs.clone()?,
-        })
+        let mut copy = CatSet::empty();
+        copy.assign(self);
+        copy
+    }
+
+    /// Takes the categories of another set in place of its own. It costs what the other has, where a move costs all the room.
+    pub fn assign(&mut self, from: &CatSet)
+        ensures { self.new ≡ from.now }
+    {
+        assign(&mut self.runs, &from.runs);
     }
 }

@@ -1,12 +1,14 @@
 //! The runs behind a set: where a run belongs among them, and how it takes the place of those that it touches.
 
-ghost use Rattle.std.specs.Prelude.{◌≡◌, ℕ, ◌+◌, ◌<◌, ◌≤◌, ◌||◌, ◌↔◌, [], ◌∷◌, ◌++◌, length, take, drop, fold, vec_len, IsTrue, MatchOption, OnOk, OnErr, IsErrOf};
+ghost use Rattle.std.specs.Prelude.{◌≡◌, ℕ, ◌+◌, ◌<◌, ◌≤◌, ◌||◌, ◌↔◌, [], ◌∷◌, ◌++◌, length, take, drop, fold, IsTrue, MatchOption, OnOk, OnErr};
 ghost use Rattle.std.specs.List.{AllWithin, splice};
+ghost use Rattle.arrayvec.specs.ArrayVec.{array_vec_len};
 ghost use Rattle.mls_label.specs.Cats.{has, is_within, cats_where, IsSubset};
 ghost use Rattle.mls_label.specs.Runs.{runs_of};
 ghost use Rattle.mls_label.specs.Kept.{cats_of, AreApart, IsKept, IsPlace, hull};
 
-use crate::cat_set::{MOST_RUNS, Run, SetStop};
+use crate::cat_set::{MOST_RUNS, Run, TooManyRuns};
+use arrayvec::ArrayVec;
 
 // How many of the runs end below `bound`.
 fn end_below(runs: &[Run], bound: u16) -> usize
@@ -54,17 +56,17 @@ fn place_of(runs: &[Run], run: Run) -> (usize, usize)
 }
 
 /// Adds a run. After an error nothing has changed.
-pub fn join(runs: &mut Vec<Run>, run: Run) -> Result<(), SetStop>
+pub fn join(runs: &mut ArrayVec<Run, MOST_RUNS>, run: Run) -> Result<(), TooManyRuns>
     requires kept { IsKept runs.old.items }
     requires order { run.first ≤ run.last }
     requires categories { run.last < 65535 }
     ensures kept { OnOk result (IsKept runs.new.items) }
     ensures cats { OnOk result (cats_of runs.new.items
         ≡ cats_where (λ c. has (cats_of runs.old.items) c || is_within run.first run.last c)) }
-    ensures one_more { OnOk result (vec_len runs.new ≤ vec_len runs.old + 1) }
-    ensures too_many { IsErrOf result SetStop.TooManyRuns → 1952 < length (runs_of
-        (cats_where (λ c. has (cats_of runs.old.items) c || is_within run.first run.last c))) }
-    ensures full { IsErrOf result SetStop.TooManyRuns → vec_len runs.old ≡ 1952 }
+    ensures one_more { OnOk result (array_vec_len runs.new ≤ array_vec_len runs.old + 1) }
+    ensures too_many { OnErr result (1952 < length (runs_of
+        (cats_where (λ c. has (cats_of runs.old.items) c || is_within run.first run.last c)))) }
+    ensures full { OnErr result (array_vec_len runs.old ≡ 1952) }
     ensures err { OnErr result (runs.new.items ≡ runs.old.items) }
 {
     let (start, end) = place_of(runs, run);
@@ -73,32 +75,38 @@ pub fn join(runs: &mut Vec<Run>, run: Run) -> Result<(), SetStop>
 }
 
 // Puts `run` in the place of the runs from `start` to `end`. After an error nothing has changed.
-fn put(runs: &mut Vec<Run>, start: usize, end: usize, run: Run) -> Result<(), SetStop>
+fn put(
+    runs: &mut ArrayVec<Run, MOST_RUNS>,
+    start: usize,
+    end: usize,
+    run: Run,
+) -> Result<(), TooManyRuns>
     requires order { start ≤ end }
-    requires within { end ≤ vec_len runs.old }
-    requires few { vec_len runs.old ≤ 1952 }
+    requires within { end ≤ array_vec_len runs.old }
+    requires few { array_vec_len runs.old ≤ 1952 }
     ensures ok { OnOk result (runs.new.items ≡ splice runs.old.items start end (run ∷ [])) }
-    ensures few { OnOk result (vec_len runs.new ≤ 1952) }
-    ensures one_more { OnOk result (vec_len runs.new ≤ vec_len runs.old + 1) }
-    ensures too_many { IsErrOf result SetStop.TooManyRuns → (start ≡ end) × (vec_len runs.old ≡ 1952) }
+    ensures few { OnOk result (array_vec_len runs.new ≤ 1952) }
+    ensures one_more { OnOk result (array_vec_len runs.new ≤ array_vec_len runs.old + 1) }
+    ensures too_many { OnErr result ((start ≡ end) × (array_vec_len runs.old ≡ 1952)) }
     ensures err { OnErr result (runs.new.items ≡ runs.old.items) }
 {
     if start < end {
         replace(runs, start, end, run);
         return Ok(());
     }
-    if runs.len() == MOST_RUNS {
-        return Err(SetStop::TooManyRuns);
+    if runs.is_full() {
+        return Err(TooManyRuns);
     }
-    runs.insert(start, run)?;
+    runs.insert(start, run);
     Ok(())
 }
 
-fn replace(runs: &mut Vec<Run>, start: usize, end: usize, run: Run)
+fn replace(runs: &mut ArrayVec<Run, MOST_RUNS>, start: usize, end: usize, run: Run)
     requires order { start < end }
-    requires within { end ≤ vec_len runs.old }
+    requires within { end ≤ array_vec_len runs.old }
+    requires few { array_vec_len runs.old ≤ 1952 }
     ensures items { runs.new.items ≡ splice runs.old.items start end (run ∷ []) }
-    ensures len { vec_len runs.new ≤ vec_len runs.old }
+    ensures len { array_vec_len runs.new ≤ array_vec_len runs.old }
 {
     runs[start] = run;
     // Mostly one run grows, and those behind it stay where they are.
@@ -107,11 +115,11 @@ fn replace(runs: &mut Vec<Run>, start: usize, end: usize, run: Run)
     }
 }
 
-fn remove(runs: &mut Vec<Run>, start: usize, end: usize)
+fn remove(runs: &mut ArrayVec<Run, MOST_RUNS>, start: usize, end: usize)
     requires order { start ≤ end }
-    requires within { end ≤ vec_len runs.old }
+    requires within { end ≤ array_vec_len runs.old }
     ensures items { runs.new.items ≡ take start runs.old.items ++ drop end runs.old.items }
-    ensures len { vec_len runs.new ≤ vec_len runs.old }
+    ensures len { array_vec_len runs.new ≤ array_vec_len runs.old }
 {
     let left = runs.len() - (end - start);
     runs.copy_within(end.., start);
@@ -168,4 +176,16 @@ pub fn highest_of(runs: &[Run]) -> Option<u16>
 {
     let run = runs.last()?;
     Some(run.last)
+}
+
+/// Takes these runs in place of its own.
+pub fn assign(runs: &mut ArrayVec<Run, MOST_RUNS>, from: &[Run])
+    requires { length from.now ≤ 1952 }
+    ensures { runs.new.items ≡ from.now }
+{
+    runs.clear();
+    match runs.try_extend_from_slice(from) {
+        Ok(()) => {}
+        Err(_) => unreachable!(),
+    }
 }

@@ -1,6 +1,6 @@
 //! Labels, and what the formats on the wire share: the tags of a CIPSO option.
 
-ghost use Rattle.std.specs.Prelude.{◌≡◌, ◌↔◌, IsTrue, IfOk};
+ghost use Rattle.std.specs.Prelude.{◌≡◌, ◌↔◌, [], IsTrue};
 ghost use Rattle.mls_label.specs.Label.{Dominates};
 
 use crate::CatSet;
@@ -30,6 +30,16 @@ pub struct Label {
 }
 
 impl Label {
+    /// The label of level 0 without a category.
+    pub fn lowest() -> Label
+        ensures { result ≡ record { level = 0; cats = [] } }
+    {
+        Label {
+            level: 0,
+            cats: CatSet::empty(),
+        }
+    }
+
     /// Whether whoever has this label may have what is labelled `other`: the level is at least the other's, and each of the other's
     /// categories is one of this label's.
     pub fn dominates(&self, other: &Label) -> bool
@@ -45,14 +55,21 @@ impl Label {
         self.level == other.level && self.cats.same(&other.cats)
     }
 
-    /// A copy, which takes the memory of its categories.
-    pub fn copy(&self) -> Result<Label, OutOfMemory>
-        ensures { IfOk result (λ label. label ≡ self.now) }
+    /// A copy.
+    pub fn copy(&self) -> Label
+        ensures { result ≡ self.now }
     {
-        Ok(Label {
-            level: self.level,
-            cats: self.cats.copy()?,
-        })
+        let mut copy = Label::lowest();
+        copy.assign(self);
+        copy
+    }
+
+    /// Becomes the other label. It costs what the other has, where a move costs all the room.
+    pub fn assign(&mut self, from: &Label)
+        ensures { self.new ≡ from.now }
+    {
+        self.level = from.level;
+        self.cats.assign(&from.cats);
     }
 }
 

@@ -9,6 +9,6 @@ mod laws;
 #[cfg(test)]
 mod tests;
 
-pub use cat_set::{CatSet, SetStop};
+pub use cat_set::{CatSet, TooManyRuns};
 pub use label::{Label, OutOfMemory, Tag};
-pub use octet_grammar::{WireFault, WireKind, WireStop};
+pub use octet_grammar::{WireFault, WireKind};

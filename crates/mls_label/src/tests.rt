@@ -2,7 +2,7 @@ use super::*;
 use std::process::Abort;
 use std::test::Fail;
 
-fn add_all(rt: &impl Abort, set: &mut CatSet, runs: &[(u16, u16)]) -> Result<(), SetStop> {
+fn add_all(rt: &impl Abort, set: &mut CatSet, runs: &[(u16, u16)]) -> Result<(), TooManyRuns> {
     for (first, last) in runs {
         assert!(rt; *first <= *last && *last < 65535);
         set.add_run(*first, *last)?;
@@ -31,7 +31,7 @@ fn joins_runs(rt: HostRuntime) -> Result<(), Fail> {
         (&[(7, 9), (0, 65534), (5, 7)], &[(0, 65534)]),
     ];
     for (added, wanted) in cases {
-        let mut set = CatSet::empty(rt.alloc());
+        let mut set = CatSet::empty();
         add_all(&rt, &mut set, added)?;
         assert_eq!(rt; set.runs(), wanted.len(), "after {added:?}");
         for (i, run) in wanted.iter().enumerate() {
@@ -43,13 +43,13 @@ fn joins_runs(rt: HostRuntime) -> Result<(), Fail> {
 
 #[test]
 fn keeps_1952_runs(rt: HostRuntime) -> Result<(), Fail> {
-    let mut set = CatSet::empty(rt.alloc());
+    let mut set = CatSet::empty();
     for k in 0..1952u16 {
         set.add(2 * k)?;
     }
     assert_eq!(rt; set.runs(), 1952);
-    assert_eq!(rt; set.add(3904), Err(SetStop::TooManyRuns));
-    assert_eq!(rt; set.add_run(3904, 4000), Err(SetStop::TooManyRuns));
+    assert_eq!(rt; set.add(3904), Err(TooManyRuns));
+    assert_eq!(rt; set.add_run(3904, 4000), Err(TooManyRuns));
     assert_eq!(rt;
         (set.runs(), set.count(), set.highest()),
         (1952, 1952, Some(3902))
@@ -66,16 +66,16 @@ fn keeps_1952_runs(rt: HostRuntime) -> Result<(), Fail> {
 
 #[test]
 fn copies_labels(rt: HostRuntime) -> Result<(), Fail> {
-    let mut cats = CatSet::empty(rt.alloc());
+    let mut cats = CatSet::empty();
     cats.add_run(3, 5)?;
     cats.add(9)?;
     let low = Label {
         level: 2,
-        cats: cats.copy()?,
+        cats: cats.copy(),
     };
     cats.add(4000)?;
     let high = Label { level: 2, cats };
-    assert!(rt; low.copy()?.same(&low) && !low.same(&high));
+    assert!(rt; low.copy().same(&low) && !low.same(&high));
     assert!(rt; high.dominates(&low) && !low.dominates(&high));
     Ok(())
 }

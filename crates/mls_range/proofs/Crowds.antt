@@ -11,8 +11,6 @@ use Rattle.mls_label.specs.Cats.{has, cats_where, is_within}
 use Rattle.mls_label.specs.Runs.{runs_of}
 use Rattle.mls_label.proofs.Cats.{cats_where_is, cats_where_same, has-cats_where}
 use Rattle.mls_range.specs.declared.fault.TextFault.{TextFault}
-use Rattle.mls_range.specs.declared.fault.TextStop.{TextStop}
-use Rattle.mls_range.specs.declared.fault.TextStop.TheVariants.{Fault, OutOfMemory}
 use Rattle.mls_range.specs.declared.fault.TextKind.{TextKind}
 use Rattle.mls_range.specs.declared.fault.TextKind.TheVariants.{Grammar, End, TooManyRuns, NotOrdered}
 use Rattle.mls_range.specs.LabelText.{IsTerm, term_text, term_has, cats_of_terms}
@@ -205,7 +203,6 @@ fails_run dash text start at end first last cats fault kind h r place is many =
     let c = crowds_term dash text start at end first last cats h r many in
     subst (FailsTerms dash text start fault) (sym is) (c.0, place ∙ c.1, c.2)
 
-pub stops_run : (dash : Bool) (text : List ℕ) (start at end first last : ℕ) (cats : List ℕ) (stop : TextStop) → (h : HasTerms text start at cats) → ReadsTerm dash text at first last end → StopsRun cats first last at stop → StopsTerms dash text start stop
-stops_run dash text start at end first last cats (Fault fault) h r s =
+pub stops_run : (dash : Bool) (text : List ℕ) (start at end first last : ℕ) (cats : List ℕ) (stop : TextFault) → (h : HasTerms text start at cats) → ReadsTerm dash text at first last end → StopsRun cats first last at stop → StopsTerms dash text start stop
+stops_run dash text start at end first last cats fault h r s =
     fails_run dash text start at end first last cats fault fault.kind h r s.0 s.1 s.2
-stops_run dash text start at end first last cats OutOfMemory h r s = tt

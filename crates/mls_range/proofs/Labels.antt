@@ -5,8 +5,6 @@ use Rattle.std.specs.List.{All}
 use Rattle.std.proofs.lemmas.List.Elements.{All-nil, All-cons, All-head, All-tail}
 use Rattle.mls_label.specs.declared.label.Label.{Label}
 use Rattle.mls_range.specs.declared.fault.TextFault.{TextFault}
-use Rattle.mls_range.specs.declared.fault.TextStop.{TextStop}
-use Rattle.mls_range.specs.declared.fault.TextStop.TheVariants.{Fault, OutOfMemory}
 use Rattle.mls_range.specs.declared.fault.TextKind.{TextKind}
 use Rattle.mls_range.specs.declared.fault.TextKind.TheVariants.{Grammar, End, TooManyRuns, NotOrdered}
 use Rattle.mls_range.specs.LabelText.{IsTerm, term_text}
@@ -155,9 +153,8 @@ fails_terms_kind dash text start at fault TooManyRuns reads f =
     (1 + f.0, omega (arith, f.1, long, reads.forward), record { terms = drop at text; at = f.0; is = reads.is; crowds = f.2; place = refl })
 fails_terms_kind dash text start at fault NotOrdered reads f = f
 
-pub stops_terms : (dash : Bool) (text : List ℕ) (start at : ℕ) (stop : TextStop) → Reads text start at (58 ∷ []) → StopsTerms dash text at stop → StopsCats dash text start stop
-stops_terms dash text start at (Fault fault) reads s = fails_terms_kind dash text start at fault fault.kind reads s
-stops_terms dash text start at OutOfMemory reads s = tt
+pub stops_terms : (dash : Bool) (text : List ℕ) (start at : ℕ) (stop : TextFault) → Reads text start at (58 ∷ []) → StopsTerms dash text at stop → StopsCats dash text start stop
+stops_terms dash text start at fault reads s = fails_terms_kind dash text start at fault fault.kind reads s
 
 pub cats_some : (dash : Bool) (text : List ℕ) (start at end : ℕ) (cats : List ℕ) → Reads text start at (58 ∷ []) → ReadsTerms dash text at cats end → ReadsCats dash text start cats end
 cats_some dash text start at end cats reads r =
@@ -253,9 +250,8 @@ fails_level_kind dash text start at end level fault TooManyRuns reads r f =
     (1 + length (decimal level) + f.0, omega (arith, f.1, one, two, reads.forward, r.reads.forward), crowd_label dash text start at end level f.0 reads r f.2)
 fails_level_kind dash text start at end level fault NotOrdered reads r f = f
 
-pub stops_level : (dash : Bool) (text : List ℕ) (start at end level : ℕ) (stop : TextStop) → Reads text start at (115 ∷ []) → ReadsNumber text at 0 255 level end → StopsCats dash text end stop → StopsPart dash text start stop
-stops_level dash text start at end level (Fault fault) reads r s = fails_level_kind dash text start at end level fault fault.kind reads r s
-stops_level dash text start at end level OutOfMemory reads r s = tt
+pub stops_level : (dash : Bool) (text : List ℕ) (start at end level : ℕ) (stop : TextFault) → Reads text start at (115 ∷ []) → ReadsNumber text at 0 255 level end → StopsCats dash text end stop → StopsPart dash text start stop
+stops_level dash text start at end level fault reads r s = fails_level_kind dash text start at end level fault fault.kind reads r s
 
 pub reads_label : (dash : Bool) (text : List ℕ) (start at behind end : ℕ) (label : Label) → Reads text start at (115 ∷ []) → ReadsNumber text at 0 255 label.level behind → ReadsCats dash text behind label.cats end → ReadsPart dash text start label end
 reads_label dash text start at behind end label reads r cats =

@@ -8,8 +8,6 @@ use Rattle.mls_label.specs.declared.label.Label.{Label}
 use Rattle.mls_label.specs.Cats.{IsCats}
 use Rattle.mls_label.specs.Label.{Dominates}
 use Rattle.mls_range.specs.declared.fault.TextFault.{TextFault}
-use Rattle.mls_range.specs.declared.fault.TextStop.{TextStop}
-use Rattle.mls_range.specs.declared.fault.TextStop.TheVariants.{Fault, OutOfMemory}
 use Rattle.mls_range.specs.declared.fault.TextKind.{TextKind}
 use Rattle.mls_range.specs.declared.fault.TextKind.TheVariants.{Grammar, End, TooManyRuns, NotOrdered}
 use Rattle.mls_range.specs.LabelText.{IsLabelText, label_text}
@@ -86,9 +84,8 @@ fails_low text fault End e f = (end_fault_of IsRangeText IsRange text fault rang
 fails_low text fault TooManyRuns e f = inl (subst (CrowdsLabel true text) (let q : f.0 ≡ fault.octet = omega (arith, f.1) in q) f.2)
 fails_low text fault NotOrdered e f = absurd f
 
-pub stops_low : (text : List ℕ) (stop : TextStop) → StopsPart true text 0 stop → StopsRange text stop
-stops_low text (Fault fault) s = fails_low text fault fault.kind refl s
-stops_low text OutOfMemory s = tt
+pub stops_low : (text : List ℕ) (stop : TextFault) → StopsPart true text 0 stop → StopsRange text stop
+stops_low text fault s = fails_low text fault fault.kind refl s
 
 -- ---- behind the dash
 
@@ -165,9 +162,8 @@ fails_high text low start fault TooManyRuns e l f =
     inr (record { low_text = l.part; high_text = drop start text; low = low; at = f.0; is = l.is; is_low = l.is_low; roomy = l.roomy; crowds = f.2; place = omega (arith, f.1, l.place) })
 fails_high text low start fault NotOrdered e l f = absurd f
 
-pub stops_high : (text : List ℕ) (low : Label) (start : ℕ) (stop : TextStop) → LowAt text low start → StopsPart false text start stop → StopsRange text stop
-stops_high text low start (Fault fault) l s = fails_high text low start fault fault.kind refl l s
-stops_high text low start OutOfMemory l s = tt
+pub stops_high : (text : List ℕ) (low : Label) (start : ℕ) (stop : TextFault) → LowAt text low start → StopsPart false text start stop → StopsRange text stop
+stops_high text low start fault l s = fails_high text low start fault fault.kind refl l s
 
 -- ---- both labels are read
 

@@ -7,8 +7,6 @@ use Rattle.mls_label.specs.declared.label.Label.{Label}
 use Rattle.octet_grammar.specs.Front.{IsFront}
 use Rattle.octet_grammar.specs.Fault.{IsFault}
 use Rattle.mls_range.specs.declared.fault.TextFault.{TextFault}
-use Rattle.mls_range.specs.declared.fault.TextStop.{TextStop}
-use Rattle.mls_range.specs.declared.fault.TextStop.TheVariants.{Fault, OutOfMemory}
 use Rattle.mls_range.specs.declared.fault.TextKind.{TextKind}
 use Rattle.mls_range.specs.declared.fault.TextKind.TheVariants.{Grammar, End, TooManyRuns, NotOrdered}
 use Rattle.mls_range.specs.LabelText.{IsLabelText, cats_of_terms}
@@ -117,9 +115,8 @@ fails_label text fault End e f = (end_fault_of IsLabelText (LabelOn false) text 
 fails_label text fault TooManyRuns e f = subst (CrowdsLabel false text) (let q : f.0 ≡ fault.octet = omega (arith, f.1) in q) f.2
 fails_label text fault NotOrdered e f = f
 
-pub stops_label : (text : List ℕ) (stop : TextStop) → StopsPart false text 0 stop → StopsLabel text stop
-stops_label text (Fault fault) s = fails_label text fault fault.kind refl s
-stops_label text OutOfMemory s = tt
+pub stops_label : (text : List ℕ) (stop : TextFault) → StopsPart false text 0 stop → StopsLabel text stop
+stops_label text fault s = fails_label text fault fault.kind refl s
 
 -- a label that ends where the text does is all of it
 pub whole_label : (text : List ℕ) (label : Label) (end : ℕ) → ReadsPart false text 0 label end → IsLabelText text label

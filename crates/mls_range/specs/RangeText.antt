@@ -6,8 +6,7 @@ use Rattle.mls_label.specs.declared.label.Label.{Label}
 use Rattle.mls_label.specs.Label.{Dominates}
 use Rattle.mls_range.specs.declared.fault.TextKind.{TextKind}
 use Rattle.mls_range.specs.declared.fault.TextKind.TheVariants.{Grammar, End, TooManyRuns, NotOrdered}
-use Rattle.mls_range.specs.declared.fault.TextStop.{TextStop}
-use Rattle.mls_range.specs.declared.fault.TextStop.TheVariants.{Fault, OutOfMemory}
+use Rattle.mls_range.specs.declared.fault.TextFault.{TextFault}
 use Rattle.mls_range.specs.LabelText.{IsLabelText, label_text}
 use Rattle.mls_range.specs.Crowd.{CrowdsLabel, IsRoomy}
 use Rattle.mls_range.specs.Place.{octet_fault, end_fault}
@@ -71,7 +70,6 @@ FailsRange text octet End = IsFault IsRangeText text (end_fault octet) × IsRoom
 FailsRange text octet TooManyRuns = CrowdsRange text octet
 FailsRange text octet NotOrdered = IsUnordered text octet
 
--- the same of a call that takes memory, which may run out
-abbrev pub StopsRange : List ℕ → TextStop → Type 0
-StopsRange text (Fault fault) = FailsRange text fault.octet fault.kind
-StopsRange text OutOfMemory = Unit {0}
+-- the same, of a fault as a whole
+abbrev pub StopsRange : List ℕ → TextFault → Type 0
+StopsRange text fault = FailsRange text fault.octet fault.kind

@@ -6,8 +6,6 @@ use Rattle.mls_label.specs.declared.label.Label.{Label}
 use Rattle.mls_range.specs.declared.fault.TextFault.{TextFault}
 use Rattle.mls_label.specs.Cats.{has, cats_where, is_within}
 use Rattle.mls_label.specs.Runs.{runs_of}
-use Rattle.mls_range.specs.declared.fault.TextStop.{TextStop}
-use Rattle.mls_range.specs.declared.fault.TextStop.TheVariants.{Fault, OutOfMemory}
 use Rattle.mls_range.specs.declared.fault.TextKind.{TextKind}
 use Rattle.mls_range.specs.declared.fault.TextKind.TheVariants.{Grammar, End, TooManyRuns, NotOrdered}
 use Rattle.mls_range.specs.LabelText.{IsTerm, term_text, cats_of_terms, IsLabelText}
@@ -170,9 +168,8 @@ FailsTerms dash text start fault TooManyRuns = (octet : ℕ) × (fault.octet ≡
 FailsTerms dash text start fault NotOrdered = ⊥
 
 -- the same, unless memory ran out
-abbrev pub StopsTerms : Bool → List ℕ → ℕ → TextStop → Type 0
-StopsTerms dash text start (Fault fault) = FailsTerms dash text start fault fault.kind
-StopsTerms dash text start OutOfMemory = Unit {0}
+abbrev pub StopsTerms : Bool → List ℕ → ℕ → TextFault → Type 0
+StopsTerms dash text start fault = FailsTerms dash text start fault fault.kind
 
 -- the term that is too much, of the terms behind a colon
 pub record CrowdsBehind (dash : Bool) (text : List ℕ) (octet : ℕ) : Type 0 where
@@ -202,9 +199,8 @@ FailsCats dash text start fault TooManyRuns = (octet : ℕ) × (fault.octet ≡ 
 FailsCats dash text start fault NotOrdered = ⊥
 
 -- the same, unless memory ran out
-abbrev pub StopsCats : Bool → List ℕ → ℕ → TextStop → Type 0
-StopsCats dash text start (Fault fault) = FailsCats dash text start fault fault.kind
-StopsCats dash text start OutOfMemory = Unit {0}
+abbrev pub StopsCats : Bool → List ℕ → ℕ → TextFault → Type 0
+StopsCats dash text start fault = FailsCats dash text start fault fault.kind
 
 -- a label stands there, up to its end, nowhere with too many runs
 pub record ReadsPart (dash : Bool) (text : List ℕ) (start : ℕ) (label : Label) (end : ℕ) : Type 0 where
@@ -222,14 +218,12 @@ FailsPart dash text start fault TooManyRuns = (octet : ℕ) × (fault.octet ≡ 
 FailsPart dash text start fault NotOrdered = ⊥
 
 -- the same, unless memory ran out
-abbrev pub StopsPart : Bool → List ℕ → ℕ → TextStop → Type 0
-StopsPart dash text start (Fault fault) = FailsPart dash text start fault fault.kind
-StopsPart dash text start OutOfMemory = Unit {0}
+abbrev pub StopsPart : Bool → List ℕ → ℕ → TextFault → Type 0
+StopsPart dash text start fault = FailsPart dash text start fault fault.kind
 
 -- the run is too much for the set, or memory ran out
-abbrev pub StopsRun : List ℕ → ℕ → ℕ → ℕ → TextStop → Type 0
-StopsRun cats first last octet (Fault fault) = (fault.octet ≡ octet) × (fault.kind ≡ TooManyRuns) × (1952 < length (runs_of (cats_where (λ c. has cats c || is_within first last c))))
-StopsRun cats first last octet OutOfMemory = Unit {0}
+abbrev pub StopsRun : List ℕ → ℕ → ℕ → ℕ → TextFault → Type 0
+StopsRun cats first last octet fault = (fault.octet ≡ octet) × (fault.kind ≡ TooManyRuns) × (1952 < length (runs_of (cats_where (λ c. has cats c || is_within first last c))))
 
 -- what stood there stands there still, with more behind it
 pub record Extends (old new : List ℕ) : Type 0 where

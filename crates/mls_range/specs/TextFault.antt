@@ -3,8 +3,7 @@ use Rattle.std.specs.Prelude.{ℕ, List, false}
 use Rattle.octet_grammar.specs.Fault.{IsFault}
 use Rattle.mls_range.specs.declared.fault.TextKind.{TextKind}
 use Rattle.mls_range.specs.declared.fault.TextKind.TheVariants.{Grammar, End, TooManyRuns, NotOrdered}
-use Rattle.mls_range.specs.declared.fault.TextStop.{TextStop}
-use Rattle.mls_range.specs.declared.fault.TextStop.TheVariants.{Fault, OutOfMemory}
+use Rattle.mls_range.specs.declared.fault.TextFault.{TextFault}
 use Rattle.mls_range.specs.LabelText.{IsLabelText}
 use Rattle.mls_range.specs.Crowd.{CrowdsLabel, IsRoomy}
 use Rattle.mls_range.specs.Place.{octet_fault, end_fault}
@@ -20,7 +19,6 @@ FailsLabel text octet End = IsFault IsLabelText text (end_fault octet) × IsRoom
 FailsLabel text octet TooManyRuns = CrowdsLabel false text octet
 FailsLabel text octet NotOrdered = ⊥
 
--- the same of a call that takes memory, which may run out
-abbrev pub StopsLabel : List ℕ → TextStop → Type 0
-StopsLabel text (Fault fault) = FailsLabel text fault.octet fault.kind
-StopsLabel text OutOfMemory = Unit {0}
+-- the same, of a fault as a whole
+abbrev pub StopsLabel : List ℕ → TextFault → Type 0
+StopsLabel text fault = FailsLabel text fault.octet fault.kind

@@ -1,7 +1,3 @@
-ghost use Rattle.std.specs.Prelude.{◌≡◌};
-
-use mls_label::OutOfMemory;
-
 /// What is wrong with a text.
 #[derive(Clone, Copy, Debug, PartialEq, Eq)]
 pub enum TextKind {
@@ -21,31 +17,4 @@ pub struct TextFault {
     /// The place, counted in octets from 0; for `End` it is the text's length.
     pub octet: usize,
     pub kind: TextKind,
-}
-
-/// Why a text can't be read.
-#[derive(Clone, Copy, Debug, PartialEq, Eq)]
-pub enum TextStop {
-    Fault(TextFault),
-    OutOfMemory,
-}
-
-impl From<OutOfMemory> for TextStop {
-    ghost use Rattle.mls_range.specs.declared.fault.TextStop.TheVariants.{OutOfMemory};
-
-    ghost from_gives = { λ _ stop. stop ≡ OutOfMemory };
-
-    fn from(_failed: OutOfMemory) -> TextStop {
-        TextStop::OutOfMemory
-    }
-}
-
-impl From<TextFault> for TextStop {
-    ghost use Rattle.mls_range.specs.declared.fault.TextStop.TheVariants.{Fault};
-
-    ghost from_gives = { λ fault stop. stop ≡ Fault fault };
-
-    fn from(fault: TextFault) -> TextStop {
-        TextStop::Fault(fault)
-    }
 }

@@ -9,7 +9,7 @@ mod octet;
 mod range;
 mod terms;
 
-pub use fault::{TextFault, TextKind, TextStop};
+pub use fault::{TextFault, TextKind};
 pub use label::{read_label, write_label};
 pub use range::{Range, read_range, write_range};
 

@@ -6,10 +6,9 @@ ghost use Rattle.mls_range.specs.Range.{Ends, RangeHolds};
 ghost use Rattle.mls_range.specs.RangeText.{IsRangeText, IsRoomyRange, range_text, StopsRange};
 ghost use Rattle.mls_range.specs.Rest.{Extends};
 
-use crate::fault::{TextFault, TextKind, TextStop};
+use crate::fault::{TextFault, TextKind};
 use crate::label::{append_label, read_part};
 use mls_label::{Label, OutOfMemory};
-use std::alloc::Global;
 use std::marker::Model;
 
 /// A range of labels, from a low one to a high one that dominates it (SELinux MLS).
@@ -54,47 +53,46 @@ impl Range {
         &self.high
     }
 
-    /// A copy, which takes the memory of both sets of categories.
-    pub fn copy(&self) -> Result<Range, OutOfMemory>
-        ensures { IfOk result (λ range. range ≡ self.now) }
+    /// A copy.
+    pub fn copy(&self) -> Range
+        ensures { result ≡ self.now }
     {
-        Ok(Range {
-            low: self.low.copy()?,
-            high: self.high.copy()?,
-        })
+        Range {
+            low: self.low.copy(),
+            high: self.high.copy(),
+        }
     }
 }
 
 /// Reads a whole text as a range: one label, which is both ends, or two labels joined by a dash. The high label has to
 /// dominate the low one.
-pub fn read_range(alloc: Global, text: &[u8]) -> Result<Range, TextStop>
+pub fn read_range(text: &[u8]) -> Result<Range, TextFault>
     ensures ok { IfOk result (IsRangeText text.now) }
     ensures ordered { IfOk result (λ range. Dominates range.high range.low) }
     ensures roomy { OnOk result (IsRoomyRange text.now) }
     ensures err { IfErr result (StopsRange text.now) }
 {
-    let (low, end) = read_part(alloc, text, 0, true)?;
+    let (low, end) = read_part(text, 0, true)?;
     if end == text.len() {
-        return lone_range(low);
+        return Ok(lone_range(low));
     }
     let start = end + 1;
-    let (high, _end) = read_part(alloc, text, start, false)?;
+    let (high, _end) = read_part(text, start, false)?;
     if !high.dominates(&low) {
-        return Err(TextStop::Fault(TextFault {
+        return Err(TextFault {
             octet: start,
             kind: TextKind::NotOrdered,
-        }));
+        });
     }
     Ok(Range { low, high })
 }
 
 /// The range of which both ends are the label.
-fn lone_range(label: Label) -> Result<Range, TextStop>
-    ensures ok { IfOk result (λ range. range ≡ record { low = label; high = label }) }
-    ensures err { IfErr result (λ stop. stop ≡ TextStop.OutOfMemory) }
+fn lone_range(label: Label) -> Range
+    ensures { result ≡ record { low = label; high = label } }
 {
-    let high = label.copy()?;
-    Ok(Range { low: label, high })
+    let high = label.copy();
+    Range { low: label, high }
 }
 
 /// Appends the range's one written form: one label where both ends are the same, else the low one, a dash and the high

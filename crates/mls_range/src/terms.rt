@@ -7,11 +7,10 @@ ghost use Rattle.mls_range.specs.Crowd.{IsCounted};
 ghost use Rattle.mls_range.specs.LabelText.{IsTerm};
 ghost use Rattle.mls_range.specs.Rest.{BehindFirst, FaultIn, MissesEnd, ReadsLast, ReadsTerm, ReadsTerms, StopsRun, StopsTerms, TermOn};
 
-use crate::fault::{TextFault, TextKind, TextStop};
+use crate::fault::{TextFault, TextKind};
 use crate::number::read_number;
 use crate::octet::{fault_at, read_octet};
-use mls_label::{CatSet, SetStop};
-use std::alloc::Global;
+use mls_label::CatSet;
 
 /// The greatest category.
 const MOST: u32 = 65534;
@@ -74,7 +73,7 @@ fn read_term(text: &[u8], start: usize, dash: bool) -> Result<Term, TextFault>
 }
 
 /// Adds the categories of a term to the set. The fault of a set that can't have them stands where the term begins.
-fn add_term(cats: &mut CatSet, term: &Term, start: usize) -> Result<(), TextStop>
+fn add_term(cats: &mut CatSet, term: &Term, start: usize) -> Result<(), TextFault>
     requires { IsTerm (term.now.first, term.now.last) }
     ensures ok { OnOk result
         (cats.new ≡ cats_where (λ c. has cats.old c || is_within term.now.first term.now.last c)) }
@@ -82,27 +81,23 @@ fn add_term(cats: &mut CatSet, term: &Term, start: usize) -> Result<(), TextStop
     ensures err { IfErr result (StopsRun cats.old term.now.first term.now.last start) }
 {
     cats.add_run(term.first, term.last)
-        .map_err(|stop| match stop {
-            SetStop::TooManyRuns => TextStop::Fault(TextFault {
-                octet: start,
-                kind: TextKind::TooManyRuns,
-            }),
-            SetStop::OutOfMemory => TextStop::OutOfMemory,
+        .map_err(|_many| TextFault {
+            octet: start,
+            kind: TextKind::TooManyRuns,
         })
 }
 
 /// Reads terms up to their end, and gives their categories with that place.
 pub(crate) fn read_terms(
-    alloc: Global,
     text: &[u8],
     start: usize,
     dash: bool,
-) -> Result<(CatSet, usize), TextStop>
+) -> Result<(CatSet, usize), TextFault>
     requires { start ≤ length text.now }
     ensures ok { IfOk result (λ read. ReadsTerms dash text.now start read.0 read.1) }
     ensures err { IfErr result (StopsTerms dash text.now start) }
 {
-    let mut cats = CatSet::empty(alloc);
+    let mut cats = CatSet::empty();
     let mut at = start;
     loop {
         let term = read_term(text, at, dash)?;

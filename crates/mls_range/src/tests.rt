@@ -9,17 +9,17 @@ use std::test::Fail;
 type Refused = (&'static str, usize, TextKind);
 
 /// Where reading a label stops, or `None` where the text is one.
-fn label_stop(alloc: Global, text: &[u8]) -> Option<TextStop> {
-    read_label(alloc, text).err()
+fn label_stop(text: &[u8]) -> Option<TextFault> {
+    read_label(text).err()
 }
 
 /// Where reading a range stops, or `None` where the text is one.
-fn range_stop(alloc: Global, text: &[u8]) -> Option<TextStop> {
-    read_range(alloc, text).err()
+fn range_stop(text: &[u8]) -> Option<TextFault> {
+    read_range(text).err()
 }
 
-fn fault(octet: usize, kind: TextKind) -> Option<TextStop> {
-    Some(TextStop::Fault(TextFault { octet, kind }))
+fn fault(octet: usize, kind: TextKind) -> Option<TextFault> {
+    Some(TextFault { octet, kind })
 }
 
 /// `s0:c0,c2,c4` and so on, with as many categories.
@@ -52,7 +52,7 @@ fn reads_labels_and_writes_their_one_form(rt: HostRuntime) -> Result<(), Fail> {
         ("s9:c0.c2,c4.c5,c7", "s9:c0.c2,c4,c5,c7"),
     ];
     for (text, written) in cases {
-        let label = read_label(rt.alloc(), text.as_bytes()).expect(&rt, text);
+        let label = read_label(text.as_bytes()).expect(&rt, text);
         let mut out = Vec::new(rt.alloc());
         out.push(b'>')?;
         write_label(&label, &mut out).expect(&rt, text);
@@ -112,18 +112,14 @@ const REFUSED_LABELS: [Refused; 44] = [
 #[test]
 fn refuses_labels_at_their_first_fault(rt: HostRuntime) -> Result<(), Fail> {
     for (text, octet, kind) in REFUSED_LABELS {
-        assert_eq!(rt;
-            label_stop(rt.alloc(), text.as_bytes()),
-            fault(octet, kind),
-            "{text}"
-        );
+        assert_eq!(rt; label_stop(text.as_bytes()), fault(octet, kind), "{text}");
     }
     let mut long = Vec::new(rt.alloc());
     long.extend_from_slice(b"s0:c1")?;
     for _ in 0..300 {
         long.push(b'0')?;
     }
-    assert_eq!(rt; label_stop(rt.alloc(), &long), fault(9, Grammar));
+    assert_eq!(rt; label_stop(&long), fault(9, Grammar));
     Ok(())
 }
 
@@ -162,20 +158,16 @@ fn reads_and_refuses_ranges(rt: HostRuntime) -> Result<(), Fail> {
         ("s0:c1-s3:c0.c5", "s0:c1-s3:c0.c5"),
         ("s0:c2,c1-s0:c1.c2", "s0:c1,c2"),
     ] {
-        let range = read_range(rt.alloc(), text.as_bytes()).expect(&rt, text);
+        let range = read_range(text.as_bytes()).expect(&rt, text);
         let mut out = Vec::new(rt.alloc());
         write_range(&range, &mut out).expect(&rt, text);
-        write_range(&range.copy().expect(&rt, text), &mut out).expect(&rt, text);
+        write_range(&range.copy(), &mut out).expect(&rt, text);
         let half = out.len() / 2;
         assert_eq!(rt; &out[..half], written.as_bytes());
         assert_eq!(rt; &out[half..], written.as_bytes());
     }
     for (text, octet, kind) in REFUSED_RANGES {
-        assert_eq!(rt;
-            range_stop(rt.alloc(), text.as_bytes()),
-            fault(octet, kind),
-            "{text}"
-        );
+        assert_eq!(rt; range_stop(text.as_bytes()), fault(octet, kind), "{text}");
     }
     Ok(())
 }
@@ -183,13 +175,13 @@ fn reads_and_refuses_ranges(rt: HostRuntime) -> Result<(), Fail> {
 #[test]
 fn takes_1952_runs_and_no_more(rt: HostRuntime) -> Result<(), Fail> {
     let mut text = every_other(rt.alloc(), 1952).expect(&rt, "1952 runs");
-    let label = read_label(rt.alloc(), &text).expect(&rt, "1952 runs");
+    let label = read_label(&text).expect(&rt, "1952 runs");
     assert_eq!(rt; label.cats.runs(), 1952);
 
     let term = text.len() + 1;
     text.extend_from_slice(b",c3904")?;
-    assert_eq!(rt; label_stop(rt.alloc(), &text), fault(term, TooManyRuns));
-    assert_eq!(rt; range_stop(rt.alloc(), &text), fault(term, TooManyRuns));
+    assert_eq!(rt; label_stop(&text), fault(term, TooManyRuns));
+    assert_eq!(rt; range_stop(&text), fault(term, TooManyRuns));
 
     // a later fault doesn't count, and a term without its end neither
     let whole = text.len();
@@ -200,15 +192,15 @@ fn takes_1952_runs_and_no_more(rt: HostRuntime) -> Result<(), Fail> {
         (".", fault(whole + 1, End), fault(whole + 1, End)),
     ] {
         text.extend_from_slice(behind.as_bytes())?;
-        assert_eq!(rt; label_stop(rt.alloc(), &text), label_fault, "{behind}");
-        assert_eq!(rt; range_stop(rt.alloc(), &text), range_fault, "{behind}");
+        assert_eq!(rt; label_stop(&text), label_fault, "{behind}");
+        assert_eq!(rt; range_stop(&text), range_fault, "{behind}");
         text.truncate(whole);
     }
 
     // a term that joins two runs makes room
     text.truncate(term - 1);
     text.extend_from_slice(b",c1,c3904")?;
-    assert_eq!(rt; label_stop(rt.alloc(), &text), None);
+    assert_eq!(rt; label_stop(&text), None);
     Ok(())
 }
 
@@ -220,15 +212,15 @@ fn counts_runs_in_the_high_label(rt: HostRuntime) -> Result<(), Fail> {
     text.extend_from_slice(&high)?;
     let whole = text.len();
     let term = fault(whole.saturating_sub(5), TooManyRuns);
-    assert_eq!(rt; range_stop(rt.alloc(), &text), term);
+    assert_eq!(rt; range_stop(&text), term);
     text.push(b'-')?;
-    assert_eq!(rt; range_stop(rt.alloc(), &text), fault(whole, Grammar));
+    assert_eq!(rt; range_stop(&text), fault(whole, Grammar));
     Ok(())
 }
 
 #[test]
 fn holds_what_lies_between(rt: HostRuntime) -> Result<(), Fail> {
-    let range = read_range(rt.alloc(), b"s1:c1-s3:c0.c5").expect(&rt, "range");
+    let range = read_range(b"s1:c1-s3:c0.c5").expect(&rt, "range");
     assert_eq!(rt; range.low().level, 1);
     assert_eq!(rt; range.high().level, 3);
     for (text, held) in [
@@ -240,7 +232,7 @@ fn holds_what_lies_between(rt: HostRuntime) -> Result<(), Fail> {
         ("s4:c1", false),
         ("s2:c1,c6", false),
     ] {
-        let label = read_label(rt.alloc(), text.as_bytes()).expect(&rt, text);
+        let label = read_label(text.as_bytes()).expect(&rt, text);
         assert_eq!(rt; range.holds(&label), held, "{text}");
     }
     Ok(())

@@ -13,7 +13,7 @@ use Rattle.mls_range.specs.LabelText.{IsLabelText}
 use Rattle.mls_range.specs.TextFault.{FailsLabel}
 use Rattle.mls_range.specs.Place.{octet_fault, end_fault}
 use Rattle.netlabel_run.specs.declared.words.Judge.{Judge}
-use Rattle.netlabel_run.specs.declared.words.WordsStop.{WordsStop}
+use Rattle.netlabel_run.specs.declared.words.NoForm.{NoForm}
 use Rattle.netlabel_run.specs.Words.{texts_of, IsDoi, IsLevel, IsFileName, IsForm}
 use Rattle.netlabel_run.specs.Command.{Asks, AsksBy, NoneAsks}
 
@@ -40,7 +40,7 @@ pub asks_all : (words : List (List ℕ)) (doi level file : List ℕ) (judge : Ju
 asks_all words doi level file judge e by =
     record { doi_text = doi; level_text = level; are = e ∙ ap (λ x. codes "judge" ∷ doi ∷ level ∷ x ∷ []) (sym by.3); is_doi = by.0; is_level = by.1; is_name = by.2 }
 
-pub asks_all_ok : (words : List (List ℕ)) (doi level file : List ℕ) (r : Result Judge WordsStop) → words ≡ codes "judge" ∷ doi ∷ level ∷ file ∷ [] → IfOk r (AsksBy doi level file) → IfOk r (Asks words)
+pub asks_all_ok : (words : List (List ℕ)) (doi level file : List ℕ) (r : Result Judge NoForm) → words ≡ codes "judge" ∷ doi ∷ level ∷ file ∷ [] → IfOk r (AsksBy doi level file) → IfOk r (Asks words)
 asks_all_ok words doi level file (Ok judge) e by = asks_all words doi level file judge e by
 asks_all_ok words doi level file (Err stop) e by = tt
 

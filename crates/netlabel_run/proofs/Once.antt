@@ -103,23 +103,23 @@ module _ (known : ℕ) (level : Label) where
     kinds (Denied NotIp) a = inr (inr a)
     kinds (Delivered told) a = inr (inr a)
 
-    one_fault : (f g : CarryFault) → (f ≡ fault.OutOfMemory → ⊥) → (g ≡ fault.OutOfMemory → ⊥) → IsPacketFault octets f → IsPacketFault octets g → f ≡ g
+    one_fault : (f g : CarryFault) → IsPacketFault octets f → IsPacketFault octets g → f ≡ g
     one_fault = (packet_or_fault octets).one_fault
 
     header_once : (m n : ℕ) → IsPacketFault octets (fault.Header m) → IsPacketFault octets (fault.Header n) → m ≡ n
-    header_once m n a b = let same = one_fault (fault.Header m) (fault.Header n) (λ e. absurd cc) (λ e. absurd cc) a b in cc
+    header_once m n a b = let same = one_fault (fault.Header m) (fault.Header n) a b in cc
 
     option_once : (m n : ℕ) → IsPacketFault octets (fault.Option m) → IsPacketFault octets (fault.Option n) → m ≡ n
-    option_once m n a b = let same = one_fault (fault.Option m) (fault.Option n) (λ e. absurd cc) (λ e. absurd cc) a b in cc
+    option_once m n a b = let same = one_fault (fault.Option m) (fault.Option n) a b in cc
 
     header_or_option : (m n : ℕ) → IsPacketFault octets (fault.Header m) → IsPacketFault octets (fault.Option n) → ⊥
-    header_or_option m n a b = let same = one_fault (fault.Header m) (fault.Option n) (λ e. absurd cc) (λ e. absurd cc) a b in absurd cc
+    header_or_option m n a b = let same = one_fault (fault.Header m) (fault.Option n) a b in absurd cc
 
     header_or_judged : (n : ℕ) (v : Verdict) → IsPacketFault octets (fault.Header n) → IsJudged known level octets v → ⊥
-    header_or_judged n v a j = (packet_or_fault octets).not_both j.packet (fault.Header n) (λ e. absurd cc) j.is a
+    header_or_judged n v a j = (packet_or_fault octets).not_both j.packet (fault.Header n) j.is a
 
     option_or_judged : (n : ℕ) (v : Verdict) → IsPacketFault octets (fault.Option n) → IsJudged known level octets v → ⊥
-    option_or_judged n v a j = (packet_or_fault octets).not_both j.packet (fault.Option n) (λ e. absurd cc) j.is a
+    option_or_judged n v a j = (packet_or_fault octets).not_both j.packet (fault.Option n) j.is a
 
     judged_once : (v w : Verdict) → IsJudged known level octets v → IsJudged known level octets w → v ≡ w
     judged_once v w a b =

@@ -60,6 +60,6 @@ fn judge_line(alloc: Global, doi: u32, level: &Label, octets: &[u8]) -> Result<V
     ensures { IfOk result (λ line. (verdict : Verdict) × IsVerdict doi level.now octets.now verdict
         × (line.items ≡ verdict_line verdict)) }
 {
-    let verdict = judge_packet(alloc, doi, level, octets)?;
+    let verdict = judge_packet(doi, level, octets);
     report::verdict_line(alloc, &verdict)
 }

@@ -13,7 +13,7 @@ use crate::ending::Ending;
 use crate::judge::judge;
 use crate::outcome::Outcome;
 use crate::report;
-use crate::words::{WordsStop, read_words};
+use crate::words::{NoForm, read_words};
 use net_io::{Depot, Sink};
 use std::alloc::Global;
 
@@ -96,9 +96,8 @@ fn carry_out<D: Depot, S: Sink>(
     ensures told { D.tells depot.new ≡ D.tells depot.old }
     ensures out_told { S.tells out.new ≡ S.tells out.old }
 {
-    match read_words(alloc, words) {
+    match read_words(words) {
         Ok(command) => judge(alloc, command.doi, &command.level, command.file, depot, out),
-        Err(WordsStop::NoForm) => report::print(out, report::usage(), Ending::NoForm),
-        Err(WordsStop::OutOfMemory) => Ending::OutOfMemory,
+        Err(NoForm) => report::print(out, report::usage(), Ending::NoForm),
     }
 }

@@ -1,12 +1,11 @@
 //! What is decided of one packet, for a receiver whose node knows one DOI alone.
 
-ghost use Rattle.std.specs.Prelude.{◌≡◌, ◌+◌, ◌≤◌, ◌^◌, ◌<◌, IfOk, IfSome};
+ghost use Rattle.std.specs.Prelude.{◌≡◌, ◌+◌, ◌≤◌, ◌^◌, ◌<◌, IfSome};
 ghost use Rattle.packet_label.specs.Wire.{place_of};
 ghost use Rattle.netlabel_run.specs.Verdict.{AnswersTo, IsAnswer, IsVerdict};
 
-use mls_label::{Label, OutOfMemory};
+use mls_label::Label;
 use packet_label::{Carried, CarryFault, Denial, Wire, carried};
-use std::alloc::Global;
 
 /// What is decided of a packet.
 #[derive(Debug, Drop)]
@@ -17,22 +16,16 @@ pub(crate) enum Verdict {
 }
 
 /// Judges the packet at the front of the octets for a receiver of this level.
-pub(crate) fn judge_packet(
-    alloc: Global,
-    known: u32,
-    level: &Label,
-    octets: &[u8],
-) -> Result<Verdict, OutOfMemory>
-    ensures { IfOk result (IsVerdict known level.now octets.now) }
+pub(crate) fn judge_packet(known: u32, level: &Label, octets: &[u8]) -> Verdict
+    ensures { IsVerdict known level.now octets.now result }
 {
-    match carried(alloc, octets) {
+    match carried(octets) {
         Ok(carried) => {
             let Carried { packet: _, wire } = carried;
-            Ok(answer(known, level, wire))
+            answer(known, level, wire)
         }
-        Err(CarryFault::Header { octet }) => Ok(Verdict::Denied(Denial::BadHeader { octet })),
-        Err(CarryFault::Option { octet }) => Ok(Verdict::Denied(Denial::BadOption { octet })),
-        Err(CarryFault::OutOfMemory) => Err(OutOfMemory),
+        Err(CarryFault::Header { octet }) => Verdict::Denied(Denial::BadHeader { octet }),
+        Err(CarryFault::Option { octet }) => Verdict::Denied(Denial::BadOption { octet }),
     }
 }
 

@@ -1,6 +1,6 @@
 //! The words of the command line.
 
-ghost use Rattle.std.specs.Prelude.{◌≡◌, ◌≢◌, ◌<◌, ◌≤◌, ◌↔◌, ℕ, IsTrue, IfOk, IfErr, IsErrOf, IfSome, IfNone, OnErr, length, slice_index, All};
+ghost use Rattle.std.specs.Prelude.{◌≡◌, ◌≢◌, ◌<◌, ◌≤◌, ◌↔◌, ℕ, IsTrue, IfOk, IfErr, IfSome, IfNone, OnErr, length, slice_index, All};
 ghost use Rattle.std.specs.Fmt.{decimal};
 ghost use Rattle.mls_label.specs.declared.label.Label.{Label as LabelValue};
 ghost use Rattle.netlabel_run.specs.Command.{Asks, AsksBy, NoneAsks};
@@ -8,8 +8,7 @@ ghost use Rattle.netlabel_run.specs.Words.{texts_of, AsksToJudge, IsForm, IsFile
 
 use decimal_text::read_decimal;
 use mls_label::Label;
-use mls_range::{TextStop, read_label};
-use std::alloc::Global;
+use mls_range::read_label;
 
 /// `judge`: one raw packet, received by a receiver of this level whose node knows this DOI alone.
 #[derive(Debug, Drop)]
@@ -19,50 +18,41 @@ pub(crate) struct Judge<'a> {
     pub file: &'a str,
 }
 
-/// Why the words ask for nothing.
+/// The words are none of the forms.
 #[derive(Clone, Copy, Debug, PartialEq, Eq)]
-pub(crate) enum WordsStop {
-    NoForm,
-    OutOfMemory,
-}
+pub(crate) struct NoForm;
 
 /// Reads the words, without the program's name.
-pub(crate) fn read_words(alloc: Global, words: &[String]) -> Result<Judge<'_>, WordsStop>
+pub(crate) fn read_words(words: &[String]) -> Result<Judge<'_>, NoForm>
     ensures ok { IfOk result (Asks (texts_of words.now)) }
-    ensures no_form { IsErrOf result WordsStop.NoForm → IsForm (texts_of words.now) → ⊥ }
+    ensures no_form { OnErr result (IsForm (texts_of words.now) → ⊥) }
 {
     match words {
         [command, doi, level, file] => {
             if command.as_str() == "judge" {
-                read_judge(alloc, doi, level, file)
+                read_judge(doi, level, file)
             } else {
-                Err(WordsStop::NoForm)
+                Err(NoForm)
             }
         }
-        _ => Err(WordsStop::NoForm),
+        _ => Err(NoForm),
     }
 }
 
 /// Reads the words behind `judge`.
-fn read_judge<'a>(
-    alloc: Global,
-    doi: &str,
-    level: &str,
-    file: &'a str,
-) -> Result<Judge<'a>, WordsStop>
+fn read_judge<'a>(doi: &str, level: &str, file: &'a str) -> Result<Judge<'a>, NoForm>
     ensures ok { IfOk result (AsksBy doi.now level.now file.now) }
-    ensures no_form { IsErrOf result WordsStop.NoForm → NoneAsks doi.now level.now file.now }
+    ensures no_form { OnErr result (NoneAsks doi.now level.now file.now) }
 {
     let Some(doi) = read_doi(doi) else {
-        return Err(WordsStop::NoForm);
+        return Err(NoForm);
     };
     if !is_file_name(file) {
-        return Err(WordsStop::NoForm);
+        return Err(NoForm);
     }
-    match read_label(alloc, level.as_bytes()) {
+    match read_label(level.as_bytes()) {
         Ok(level) => Ok(Judge { doi, level, file }),
-        Err(TextStop::Fault(_)) => Err(WordsStop::NoForm),
-        Err(TextStop::OutOfMemory) => Err(WordsStop::OutOfMemory),
+        Err(_fault) => Err(NoForm),
     }
 }
 

@@ -3,8 +3,6 @@ use Rattle.std.specs.Prelude.{ℕ, ◌≡◌, ◌<◌, ◌+◌, List, length, ta
 use Rattle.octet_grammar.specs.declared.fault.WireKind.{WireKind}
 use Rattle.octet_grammar.specs.declared.fault.WireKind.TheVariants.{Octet, End}
 use Rattle.octet_grammar.specs.declared.fault.WireFault.{WireFault}
-use Rattle.octet_grammar.specs.declared.fault.WireStop.{WireStop}
-use Rattle.octet_grammar.specs.declared.fault.WireStop.TheVariants.{Fault, OutOfMemory}
 use Rattle.octet_grammar.specs.Front.{IsFront, IsNoMember, HasNoMember}
 
 -- with one octet more s begins no member; or all of s is there, and it is none
@@ -26,8 +24,3 @@ pub record FailsFront {V : Type 0} (G : List ℕ → V → Type 0) (s : List ℕ
 abbrev pub IsUnfit : List ℕ → ℕ → (ℕ → Type 0) → WireKind → Type 0
 IsUnfit s at P Octet = (at < length s) × (P (slice_index s at) → ⊥)
 IsUnfit s at P End = at ≡ length s
-
--- the same of a call that takes memory, which may run out
-abbrev pub StopsFront : {V : Type 0} → (List ℕ → V → Type 0) → List ℕ → WireStop → Type 0
-StopsFront G s (Fault f) = FailsFront G s f
-StopsFront G s OutOfMemory = Unit {0}

@@ -14,11 +14,3 @@ pub struct WireFault {
     pub octet: usize,
     pub kind: WireKind,
 }
-
-/// Why a call that reads octets and takes memory has no value to give.
-#[derive(Clone, Copy, Debug, PartialEq, Eq)]
-pub enum WireStop {
-    /// No member of the grammar stands at the front of the octets.
-    Fault(WireFault),
-    OutOfMemory,
-}

@@ -6,5 +6,5 @@
 mod fault;
 mod octet;
 
-pub use fault::{WireFault, WireKind, WireStop};
-pub use octet::{ended, moved_stop, octet_at, unfit};
+pub use fault::{WireFault, WireKind};
+pub use octet::{ended, moved_fault, octet_at, unfit};

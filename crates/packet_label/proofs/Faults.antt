@@ -69,4 +69,3 @@ label_fails version octets packet o (fault.Option octet) reads has b =
       breaks = subst (λ (v : Version). IsWireFault v o.octets b.0) same b.1;
       is = b.2;
     })
-label_fails version octets packet o fault.OutOfMemory reads has b = tt

@@ -181,25 +181,21 @@ module _ (octets : List ℕ) where
       let h = headers_once a.headers.version b.headers.version octets a.headers b.headers a.reads b.reads in
       a.is ∙ labels_once a.headers b.headers a.option b.option a.within b.within h a.has b.has a.breaks b.breaks ∙ sym b.is
 
-  one_fault : (f g : CarryFault) → (f ≡ told.OutOfMemory → ⊥) → (g ≡ told.OutOfMemory → ⊥) → IsPacketFault octets f → IsPacketFault octets g → f ≡ g
-  one_fault told.OutOfMemory g nf ng a b = absurd (nf refl)
-  one_fault (told.Header m) told.OutOfMemory nf ng a b = absurd (ng refl)
-  one_fault (told.Option m) told.OutOfMemory nf ng a b = absurd (ng refl)
-  one_fault (told.Header m) (told.Header n) nf ng a b = ap told.Header (one_octet (record { octet = m; kind = a.kind }) (record { octet = n; kind = b.kind }) a.is b.is)
-  one_fault (told.Header m) (told.Option n) nf ng a (inl b) = absurd (header_or_second m n a b)
-  one_fault (told.Header m) (told.Option n) nf ng a (inr b) = absurd (label_or_head n (record { octet = m; kind = a.kind }) b a.is)
-  one_fault (told.Option m) (told.Header n) nf ng (inl a) b = absurd (header_or_second n m b a)
-  one_fault (told.Option m) (told.Header n) nf ng (inr a) b = absurd (label_or_head m (record { octet = n; kind = b.kind }) a b.is)
-  one_fault (told.Option m) (told.Option n) nf ng (inl a) (inl b) = ap told.Option (one_octet (record { octet = m; kind = SecondLabel }) (record { octet = n; kind = SecondLabel }) a b)
-  one_fault (told.Option m) (told.Option n) nf ng (inl a) (inr b) = absurd (label_or_head n (record { octet = m; kind = SecondLabel }) b a)
-  one_fault (told.Option m) (told.Option n) nf ng (inr a) (inl b) = absurd (label_or_head m (record { octet = n; kind = SecondLabel }) a b)
-  one_fault (told.Option m) (told.Option n) nf ng (inr a) (inr b) = ap told.Option (one_label m n a b)
+  one_fault : (f g : CarryFault) → IsPacketFault octets f → IsPacketFault octets g → f ≡ g
+  one_fault (told.Header m) (told.Header n) a b = ap told.Header (one_octet (record { octet = m; kind = a.kind }) (record { octet = n; kind = b.kind }) a.is b.is)
+  one_fault (told.Header m) (told.Option n) a (inl b) = absurd (header_or_second m n a b)
+  one_fault (told.Header m) (told.Option n) a (inr b) = absurd (label_or_head n (record { octet = m; kind = a.kind }) b a.is)
+  one_fault (told.Option m) (told.Header n) (inl a) b = absurd (header_or_second n m b a)
+  one_fault (told.Option m) (told.Header n) (inr a) b = absurd (label_or_head m (record { octet = n; kind = b.kind }) a b.is)
+  one_fault (told.Option m) (told.Option n) (inl a) (inl b) = ap told.Option (one_octet (record { octet = m; kind = SecondLabel }) (record { octet = n; kind = SecondLabel }) a b)
+  one_fault (told.Option m) (told.Option n) (inl a) (inr b) = absurd (label_or_head n (record { octet = m; kind = SecondLabel }) b a)
+  one_fault (told.Option m) (told.Option n) (inr a) (inl b) = absurd (label_or_head m (record { octet = n; kind = SecondLabel }) a b)
+  one_fault (told.Option m) (told.Option n) (inr a) (inr b) = ap told.Option (one_label m n a b)
 
-  not_both : (p : LabelledPacket) (f : CarryFault) → (f ≡ told.OutOfMemory → ⊥) → IsPacket octets p → IsPacketFault octets f → ⊥
-  not_both p told.OutOfMemory nf is fails = nf refl
-  not_both p (told.Header m) nf is fails = heads_right p.headers.version octets p.headers (record { octet = m; kind = fails.kind }) is.headers fails.is
-  not_both p (told.Option m) nf is (inl fails) = heads_right p.headers.version octets p.headers (record { octet = m; kind = SecondLabel }) is.headers fails
-  not_both p (told.Option m) nf is (inr fails) =
+  not_both : (p : LabelledPacket) (f : CarryFault) → IsPacket octets p → IsPacketFault octets f → ⊥
+  not_both p (told.Header m) is fails = heads_right p.headers.version octets p.headers (record { octet = m; kind = fails.kind }) is.headers fails.is
+  not_both p (told.Option m) is (inl fails) = heads_right p.headers.version octets p.headers (record { octet = m; kind = SecondLabel }) is.headers fails
+  not_both p (told.Option m) is (inr fails) =
       let h = headers_once p.headers.version fails.headers.version octets p.headers fails.headers is.headers fails.reads in
       let has : p.headers.label ≡ Some fails.option = ap (λ (x : ParsedPacket). x.label) h ∙ fails.has in
       let breaks : IsWireFault p.headers.version fails.option.octets fails.within = subst (λ (x : ParsedPacket). IsWireFault x.version fails.option.octets fails.within) (sym h) fails.breaks in

@@ -49,4 +49,3 @@ fault_within octets (told.Option octet) (inl h) = head_within_at octets (chosen 
 fault_within octets (told.Option octet) (inr h) =
     let found = label_found (header.list_fault h.headers.version) h.headers.version octets h.headers h.option h.reads h.has in
     omega (arith, h.is, wire_within h.headers.version h.option.octets h.within h.breaks, found.ends)
-fault_within octets told.OutOfMemory h = tt

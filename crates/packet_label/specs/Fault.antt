@@ -34,4 +34,3 @@ pub record BreaksLabel (octets : List ℕ) (octet : ℕ) : Type 0 where
 abbrev pub IsPacketFault : List ℕ → CarryFault → Type 0
 IsPacketFault octets (fault.Header octet) = BreaksHeader octets octet
 IsPacketFault octets (fault.Option octet) = HasSecondLabel octets octet ⊎ BreaksLabel octets octet
-IsPacketFault octets fault.OutOfMemory = Unit {0}

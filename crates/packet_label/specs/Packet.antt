@@ -9,8 +9,10 @@ use Rattle.ip_headers.specs.Reading.{IsPacket as AreHeaders}
 use Rattle.packet_label.specs.declared.packet.Packet.{Packet}
 use Rattle.packet_label.specs.declared.packet.Packet.TheVariants.{V4, V6}
 use Rattle.packet_label.specs.declared.packet.Carried.{Carried}
+use Rattle.packet_label.specs.declared.packet.Marked.{Marked}
 use Rattle.packet_label.specs.declared.packet.Wire.{Wire}
-use Rattle.packet_label.specs.Wire.{Says}
+use Rattle.mls_label.specs.declared.label.Label.{Label}
+use Rattle.packet_label.specs.Wire.{Says, wire_with}
 
 -- A packet with the content of its label option. The headers have the option's place and its octets.
 pub record LabelledPacket : Type 0 where
@@ -35,6 +37,10 @@ IsOfItsVersion packet = (headers_of packet).version ≡ version_of packet
 
 abbrev pub packet_of : Carried → LabelledPacket
 packet_of carried = record { headers = headers_of carried.packet; wire = carried.wire }
+
+-- the same of a packet whose label stands apart
+abbrev pub packet_with : Marked → Label → LabelledPacket
+packet_with marked label = record { headers = headers_of marked.packet; wire = wire_with marked.mark label }
 
 -- the octets are a packet, and this is what it says: its headers, and its label option as a whole
 pub record IsPacket (octets : List ℕ) (packet : LabelledPacket) : Type 0 where

@@ -5,7 +5,7 @@ use Rattle.ip_headers.specs.declared.fault.HeadKind.{HeadKind}
 use Rattle.ip_headers.specs.declared.fault.HeadKind.TheVariants.{SecondLabel}
 use Rattle.ip_headers.specs.Options.{Placed}
 use Rattle.packet_label.specs.declared.fault.CarryFault.{CarryFault}
-use Rattle.packet_label.specs.declared.fault.CarryFault.TheVariants.{Header, Option, OutOfMemory}
+use Rattle.packet_label.specs.declared.fault.CarryFault.TheVariants.{Header, Option}
 use Rattle.packet_label.specs.Wire.{IsWireFault}
 
 -- a second label option is a fault of the option, each other of the header
@@ -17,4 +17,3 @@ told octet kind = Header octet
 abbrev pub BreaksWire : Version → Placed → CarryFault → Type 0
 BreaksWire version option (Header octet) = ⊥
 BreaksWire version option (Option octet) = (within : ℕ) × IsWireFault version option.octets within × (octet ≡ option.place + within)
-BreaksWire version option OutOfMemory = Unit {0}

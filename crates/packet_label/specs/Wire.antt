@@ -10,6 +10,8 @@ use Rattle.calipso_option.specs.Fault.{HasBadChecksum}
 use Rattle.ip_headers.specs.declared.version.Version.{Version}
 use Rattle.ip_headers.specs.declared.version.Version.TheVariants.{V4, V6}
 use Rattle.ip_headers.specs.Options.{Placed}
+use Rattle.packet_label.specs.declared.packet.Mark.{Mark}
+use Rattle.packet_label.specs.declared.packet.Mark.TheVariants as mark
 use Rattle.packet_label.specs.declared.packet.Wire.{Wire}
 use Rattle.packet_label.specs.declared.packet.Wire.TheVariants.{Cipso, Calipso}
 
@@ -26,6 +28,16 @@ doi_of (Calipso at doi label) = doi
 abbrev pub label_of : Wire → Label
 label_of (Cipso at doi tag label) = label
 label_of (Calipso at doi label) = label
+
+-- what an option says, with its label
+abbrev pub marked_wire : Mark → Label → Wire
+marked_wire (mark.Cipso at doi tag) label = Cipso at doi tag label
+marked_wire (mark.Calipso at doi) label = Calipso at doi label
+
+-- the same where an option is there
+abbrev pub wire_with : Option Mark → Label → Option Wire
+wire_with None label = None
+wire_with (Some m) label = Some (marked_wire m label)
 
 -- all the octets of an option are one of its version's kind, with this content
 abbrev pub IsWire : Version → Placed → Wire → Type 0

@@ -5,5 +5,4 @@ pub enum CarryFault {
     Header { octet: usize },
     /// The label option is wrong at this octet, or a second one stands there.
     Option { octet: usize },
-    OutOfMemory,
 }

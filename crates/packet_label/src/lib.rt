@@ -14,8 +14,8 @@ mod write;
 pub use denial::{Carrier, Denial, Stop, cause_name};
 pub use fault::CarryFault;
 pub use option::WireOption;
-pub use packet::{Carried, Packet, Wire};
-pub use read::{carried, label_at};
+pub use packet::{Carried, Mark, Marked, Packet, Wire};
+pub use read::{carried, carried_into, label_at};
 pub use write::relabel;
 
 #[cfg(test)]

@@ -31,6 +31,22 @@ pub enum Wire {
     },
 }
 
+/// What a label option says beside its label, with its place: the octet of its type in the packet.
+#[derive(Clone, Copy, Debug)]
+pub enum Mark {
+    /// A CIPSO option of IPv4 (FIPS 188; CIPSO draft 2.2).
+    Cipso { at: usize, doi: u32, tag: Tag },
+    /// A CALIPSO option of IPv6 (RFC 5570).
+    Calipso { at: usize, doi: u32 },
+}
+
+/// A packet, and what its label option says beside its label; `None` where it has none.
+#[derive(Debug, Drop)]
+pub struct Marked<'a> {
+    pub packet: Packet<'a>,
+    pub mark: Option<Mark>,
+}
+
 /// A packet, and what its label option says; `None` where it has none.
 #[derive(Debug, Drop)]
 pub struct Carried<'a> {

@@ -5,18 +5,17 @@ ghost use Rattle.std.specs.Option.{option_map};
 ghost use Rattle.ip_headers.specs.declared.version.Version.TheVariants.{V4, V6};
 ghost use Rattle.ip_headers.specs.Options.{IsOption};
 ghost use Rattle.ip_headers.specs.Reading.{IsFront};
-ghost use Rattle.packet_label.specs.Packet.{IsOfItsVersion, IsPacket, headers_of, label_place, packet_of, version_of};
+ghost use Rattle.packet_label.specs.Packet.{IsOfItsVersion, IsPacket, headers_of, label_place, packet_of, packet_with, version_of};
 ghost use Rattle.packet_label.specs.Choice.{chosen, no_version, IsFrontFault};
-ghost use Rattle.packet_label.specs.Wire.{IsWire, StandsIn};
+ghost use Rattle.packet_label.specs.Wire.{IsWire, StandsIn, marked_wire, wire_with};
 ghost use Rattle.packet_label.specs.Fault.{IsPacketFault};
 ghost use Rattle.packet_label.specs.Read.{told, BreaksWire};
 
-use crate::{Carried, CarryFault, Packet, Wire};
-use calipso_option::{Calipso, CalipsoFault, read_calipso};
-use cipso_option::{Cipso, read_cipso};
+use crate::{Carried, CarryFault, Mark, Marked, Packet, Wire};
+use calipso_option::{CalipsoFault, read_calipso_into};
+use cipso_option::read_cipso_into;
 use ip_headers::{HeadFault, HeadKind, Version, front4, front6, read4, read6};
-use mls_label::WireStop;
-use std::alloc::Global;
+use mls_label::Label;
 
 /// Where the checksum of a CALIPSO option stands (RFC 5570, section 5.1).
 const CHECKSUM: usize = 8;
@@ -26,15 +25,51 @@ const CHECKSUM: usize = 8;
 /// An error is the first fault: of the header, where the upper half of the first octet chooses between the versions, or else
 /// of the label option, counted from the packet's first octet. A second label option is a fault of the option, where it
 /// stands (FIPS 188, RFC 5570).
-pub fn carried(alloc: Global, bytes: &[u8]) -> Result<Carried<'_>, CarryFault>
+pub fn carried(bytes: &[u8]) -> Result<Carried<'_>, CarryFault>
     ensures ok { IfOk result (λ carried. IsPacket bytes.now (packet_of carried)) }
     ensures version { IfOk result (λ carried. IsOfItsVersion carried.packet) }
     ensures within { IfOk result (λ carried. StandsIn bytes.now carried.wire) }
     ensures err { IfErr result (λ fault. IsPacketFault bytes.now fault) }
 {
+    let mut label = Label::lowest();
+    match carried_into(bytes, &mut label) {
+        Ok(marked) => {
+            let Marked { packet, mark } = marked;
+            Ok(Carried {
+                packet,
+                wire: wire_of(mark, label),
+            })
+        }
+        Err(fault) => Err(fault),
+    }
+}
+
+// What a label option says, with its label.
+fn wire_of(mark: Option<Mark>, label: Label) -> Option<Wire>
+    ensures { result ≡ wire_with mark label }
+{
+    match mark {
+        Some(Mark::Cipso { at, doi, tag }) => Some(Wire::Cipso {
+            at,
+            doi,
+            tag,
+            label,
+        }),
+        Some(Mark::Calipso { at, doi }) => Some(Wire::Calipso { at, doi, label }),
+        None => None,
+    }
+}
+
+/// The same with the label in place of the one that is lent, which is any label where there is none or after a fault.
+pub fn carried_into<'a>(bytes: &'a [u8], label: &mut Label) -> Result<Marked<'a>, CarryFault>
+    ensures ok { IfOk result (λ marked. IsPacket bytes.now (packet_with marked label.new)) }
+    ensures version { IfOk result (λ marked. IsOfItsVersion marked.packet) }
+    ensures within { IfOk result (λ marked. StandsIn bytes.now (wire_with marked.mark label.new)) }
+    ensures err { IfErr result (λ fault. IsPacketFault bytes.now fault) }
+{
     match version(bytes) {
-        Some(Version::V4) => carried4(alloc, bytes),
-        Some(Version::V6) => carried6(alloc, bytes),
+        Some(Version::V4) => carried4(bytes, label),
+        Some(Version::V6) => carried6(bytes, label),
         None => Err(CarryFault::Header { octet: 0 }),
     }
 }
@@ -70,49 +105,49 @@ fn version(bytes: &[u8]) -> Option<Version>
     }
 }
 
-fn carried4(alloc: Global, bytes: &[u8]) -> Result<Carried<'_>, CarryFault>
+fn carried4<'a>(bytes: &'a [u8], label: &mut Label) -> Result<Marked<'a>, CarryFault>
     requires { chosen bytes.now ≡ Some V4 }
-    ensures ok { IfOk result (λ carried. IsPacket bytes.now (packet_of carried)) }
-    ensures version { IfOk result (λ carried. IsOfItsVersion carried.packet) }
+    ensures ok { IfOk result (λ marked. IsPacket bytes.now (packet_with marked label.new)) }
+    ensures version { IfOk result (λ marked. IsOfItsVersion marked.packet) }
     ensures err { IfErr result (λ fault. IsPacketFault bytes.now fault) }
 {
     let packet = match read4(bytes) {
         Ok(packet) => packet,
         Err(fault) => return Err(told(fault)),
     };
-    let wire = match packet.label_option() {
-        Some((at, option)) => match read_cipso_at(alloc, at, option) {
-            Ok(wire) => Some(wire),
+    let mark = match packet.label_option() {
+        Some((at, option)) => match read_cipso_at(at, option, label) {
+            Ok(mark) => Some(mark),
             Err(fault) => return Err(fault),
         },
         None => None,
     };
-    Ok(Carried {
+    Ok(Marked {
         packet: Packet::V4(packet),
-        wire,
+        mark,
     })
 }
 
-fn carried6(alloc: Global, bytes: &[u8]) -> Result<Carried<'_>, CarryFault>
+fn carried6<'a>(bytes: &'a [u8], label: &mut Label) -> Result<Marked<'a>, CarryFault>
     requires { chosen bytes.now ≡ Some V6 }
-    ensures ok { IfOk result (λ carried. IsPacket bytes.now (packet_of carried)) }
-    ensures version { IfOk result (λ carried. IsOfItsVersion carried.packet) }
+    ensures ok { IfOk result (λ marked. IsPacket bytes.now (packet_with marked label.new)) }
+    ensures version { IfOk result (λ marked. IsOfItsVersion marked.packet) }
     ensures err { IfErr result (λ fault. IsPacketFault bytes.now fault) }
 {
     let packet = match read6(bytes) {
         Ok(packet) => packet,
         Err(fault) => return Err(told(fault)),
     };
-    let wire = match packet.label_option() {
-        Some((at, option)) => match read_calipso_at(alloc, at, option) {
-            Ok(wire) => Some(wire),
+    let mark = match packet.label_option() {
+        Some((at, option)) => match read_calipso_at(at, option, label) {
+            Ok(mark) => Some(mark),
             Err(fault) => return Err(fault),
         },
         None => None,
     };
-    Ok(Carried {
+    Ok(Marked {
         packet: Packet::V6(packet),
-        wire,
+        mark,
     })
 }
 
@@ -127,42 +162,33 @@ fn told(fault: HeadFault) -> CarryFault
 }
 
 // The CIPSO option at this octet of its packet.
-fn read_cipso_at(alloc: Global, at: usize, option: &[u8]) -> Result<Wire, CarryFault>
+fn read_cipso_at(at: usize, option: &[u8], label: &mut Label) -> Result<Mark, CarryFault>
     requires whole { IsOption V4 option.now }
     requires fits { at + length option.now < 2 ^ 64 }
-    ensures ok { IfOk result (λ wire. IsWire V4 (record { place = at; octets = option.now }) wire) }
+    ensures ok { IfOk result (λ mark. IsWire V4 (record { place = at; octets = option.now }) (marked_wire mark label.new)) }
     ensures err { IfErr result (λ fault. BreaksWire V4 (record { place = at; octets = option.now }) fault) }
 {
-    match read_cipso(alloc, option) {
-        Ok((cipso, _)) => {
-            let Cipso { doi, tag, label } = cipso;
-            Ok(Wire::Cipso {
-                at,
-                doi,
-                tag,
-                label,
-            })
-        }
-        Err(WireStop::Fault(fault)) => Err(fault_in(at, fault.octet)),
-        Err(WireStop::OutOfMemory) => Err(CarryFault::OutOfMemory),
+    match read_cipso_into(option, label) {
+        Ok(head) => Ok(Mark::Cipso {
+            at,
+            doi: head.doi,
+            tag: head.tag,
+        }),
+        Err(fault) => Err(fault_in(at, fault.octet)),
     }
 }
 
 // The CALIPSO option at this octet of its packet.
-fn read_calipso_at(alloc: Global, at: usize, option: &[u8]) -> Result<Wire, CarryFault>
+fn read_calipso_at(at: usize, option: &[u8], label: &mut Label) -> Result<Mark, CarryFault>
     requires whole { IsOption V6 option.now }
     requires fits { at + length option.now < 2 ^ 64 }
-    ensures ok { IfOk result (λ wire. IsWire V6 (record { place = at; octets = option.now }) wire) }
+    ensures ok { IfOk result (λ mark. IsWire V6 (record { place = at; octets = option.now }) (marked_wire mark label.new)) }
     ensures err { IfErr result (λ fault. BreaksWire V6 (record { place = at; octets = option.now }) fault) }
 {
-    match read_calipso(alloc, option) {
-        Ok((calipso, _)) => {
-            let Calipso { doi, label } = calipso;
-            Ok(Wire::Calipso { at, doi, label })
-        }
+    match read_calipso_into(option, label) {
+        Ok(head) => Ok(Mark::Calipso { at, doi: head.doi }),
         Err(CalipsoFault::Wire(fault)) => Err(fault_in(at, fault.octet)),
         Err(CalipsoFault::BadChecksum { .. }) => Err(fault_in(at, CHECKSUM)),
-        Err(CalipsoFault::OutOfMemory) => Err(CarryFault::OutOfMemory),
     }
 }
 

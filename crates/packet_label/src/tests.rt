@@ -353,7 +353,7 @@ fn has_cats(label: &Label, cats: &[u16]) -> bool {
 fn labels_of_worked_packets(rt: HostRuntime) -> Result<(), Fail> {
     for (name, text, at, doi, tag, level, cats) in LABELLED {
         let bytes = octets(rt.alloc(), text)?;
-        let found = carried(rt.alloc(), &bytes).ok().ok_or(name)?;
+        let found = carried(&bytes).ok().ok_or(name)?;
         let wire = found.wire.as_ref().ok_or(name)?;
         assert_eq!(rt; wire.at(), at, "{name}");
         assert_eq!(rt; wire.doi(), doi, "{name}");
@@ -368,7 +368,7 @@ fn labels_of_worked_packets(rt: HostRuntime) -> Result<(), Fail> {
 fn first_faults_of_broken_packets(rt: HostRuntime) -> Result<(), Fail> {
     for (name, text, fault) in FAULTS {
         let bytes = octets(rt.alloc(), text)?;
-        let got = carried(rt.alloc(), &bytes).err();
+        let got = carried(&bytes).err();
         assert_eq!(rt; got, Some(fault), "{name}");
     }
     Ok(())
@@ -406,7 +406,7 @@ fn packets_without_their_labels(rt: HostRuntime) -> Result<(), Fail> {
     for (text, bare) in cases {
         let bytes = octets(rt.alloc(), text)?;
         let want = octets(rt.alloc(), bare)?;
-        let found = carried(rt.alloc(), &bytes).ok().ok_or(text)?;
+        let found = carried(&bytes).ok().ok_or(text)?;
         let mut out = Vec::new(rt.alloc());
         assert_eq!(rt; relabel(&found.packet, None, 64, &mut out), Ok(()));
         assert_eq!(rt; out.as_slice(), want.as_slice());

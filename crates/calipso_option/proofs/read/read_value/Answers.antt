@@ -12,7 +12,7 @@ pub returns : goal.returns
 returns c =
     let s = c.args.option.now in
     let whole : take (length s - 10) (drop 10 s) ≡ drop 10 s = take_all (length s - 10) (drop 10 s) (omega (arith, length-drop 10 s)) in
-    let cats : c.in_ok-read_bitmap.field-0 ≡ bitmap_cats (drop 10 s) = c.in_ok-read_bitmap.ensures ∙ ap bitmap_cats whole in
+    let cats : c.read_bitmap.new.cats ≡ bitmap_cats (drop 10 s) = c.read_bitmap.ensures ∙ ap bitmap_cats whole in
     subst (IsCalipsoShape s)
     (λ i. (record { doi = sym c.doi_of.ensures i; label = record { level = slice_index s 7; cats = sym cats i } }, checksum_at s))
     (shape_of s (octets_of s c.type_inv.option) c.requires)

@@ -5,8 +5,8 @@ use Rattle.category_bitmap.proofs.read.read_bitmap.Goals as goal
 
 pub loop-first-init : goal.loop-first-init
 loop-first-init c = record {
-  so_far = c.empty-cats.ensures ∙ below_start c.args.bitmap.now c.next_bit-first.result c.next_bit-first.ensures.before;
-  few = omega (arith, ap (λ xs. length (runs_of xs)) c.empty-cats.ensures);
+  so_far = c.clear.ensures ∙ below_start c.args.bitmap.now c.next_bit-first.result c.next_bit-first.ensures.before;
+  few = omega (arith, ap (λ xs. length (runs_of xs)) c.clear.ensures);
   within = c.next_bit-first.ensures.end;
   set = c.next_bit-first.ensures.found;
 }
@@ -21,8 +21,8 @@ loop-first-preserved c =
     let goes_on : first < after =
     past_first bitmap first after (8 * length bitmap) c.next_bit-after.ensures.start c.loop-first-test.true (seen.set c.loop-first-test.true) c.next_bit-after.ensures.found in
     record {
-      so_far = below_more bitmap c.loop-first.cats c.add.new.cats first after next.result goes_on next.ensures.start seen.so_far c.in_ok-add.ensures.ok c.next_bit-after.ensures.before next.ensures.before;
-      few = omega (arith, c.in_ok-add.ensures.one_more, seen.few, next.ensures.start);
+      so_far = below_more bitmap c.loop-first.cats c.add.new.cats first after next.result goes_on next.ensures.start seen.so_far c.add.ensures.cats c.next_bit-after.ensures.before next.ensures.before;
+      few = omega (arith, c.add.ensures.one_more, seen.few, next.ensures.start);
       within = next.ensures.end;
       set = next.ensures.found;
     }

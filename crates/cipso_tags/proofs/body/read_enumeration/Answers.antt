@@ -29,7 +29,7 @@ loop-read-preserved c =
     let seen = c.loop-read.invariant in
     let number = c.in_ok-category.ensures.ok in
     let lt : n < 65535 = omega (arith, number.bounds) in
-    let is : c.add.new.cats ≡ c.loop-read.cats ++ n ∷ [] = cats_more c.loop-read.cats c.add.new.cats low n number.bounds.0 lt seen.after c.in_ok-add.ensures.ok in
+    let is : c.add.new.cats ≡ c.loop-read.cats ++ n ∷ [] = cats_more c.loop-read.cats c.add.new.cats low n number.bounds.0 lt seen.after c.add.ensures.cats in
     let at : 2 * (read + 1) ≡ 2 * read + 2 = omega arith in
     let more = take_number s c.loop-read.cats (2 * read) n seen.read number.within ((octets_of s c.type_inv.bytes).at (2 * read + 1)) number.is in
     record {
@@ -38,7 +38,7 @@ loop-read-preserved c =
       within = omega (arith, number.within);
       after = subst (IsAfter IsCats (Ascends (n + 1) 65535)) (sym is) (enumeration_more c.loop-read.cats low n number.bounds.0 lt seen.after);
       room = omega (arith, number.bounds);
-      few = omega (arith, c.in_ok-add.ensures.one_more);
+      few = omega (arith, c.add.ensures.one_more);
     }
 
 pub returns-clause-ok : goal.returns-clause-ok

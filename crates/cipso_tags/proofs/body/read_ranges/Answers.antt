@@ -8,10 +8,10 @@ use Rattle.cipso_tags.proofs.body.read_ranges.Goals as goal
 
 pub loop-read-init : goal.loop-read-init
 loop-read-init c = record {
-  seen = ranges_start c.args.bytes.now c.args.count c.empty-cats.result c.empty-cats.ensures;
+  seen = ranges_start c.args.bytes.now c.args.count c.clear.new.self c.clear.ensures;
   room = omega arith;
   small = omega arith;
-  few = omega (arith, ap (λ xs. length (runs_of xs)) c.empty-cats.ensures);
+  few = omega (arith, ap (λ xs. length (runs_of xs)) c.clear.ensures);
 }
 
 pub returns-in_err-top-clause-err : goal.returns-in_err-top-clause-err
@@ -51,8 +51,8 @@ loop-read-preserved c =
     let there = nat_lt (2 * read + 1) count in
     let number = c.in_ok-bottom.ensures.ok in
     record {
-      seen = range_next there s count read upper c.loop-read.cats c.add.new.cats later top bottom refl (octets_of s c.type_inv.bytes) (omega arith) (omega (arith, seen.room)) seen.seen c.in_ok-top.ensures.ok number c.in_ok-add.ensures.ok;
+      seen = range_next there s count read upper c.loop-read.cats c.add.new.cats later top bottom refl (octets_of s c.type_inv.bytes) (omega arith) (omega (arith, seen.room)) seen.seen c.in_ok-top.ensures.ok number c.add.ensures.cats;
       room = range_room there s (4 * read + 2) count read later top bottom refl refl number;
       small = omega arith;
-      few = omega (arith, c.in_ok-add.ensures.one_more, seen.few);
+      few = omega (arith, c.add.ensures.one_more, seen.few);
     }

@@ -1,6 +1,6 @@
 use Rattle.std.proofs.Common.{◌≡◌, ◌+◌, ◌||◌, List, [], ◌∷◌, length, fold, OnOk, Result, Ok, Err, ap, sym, subst, ◌∙◌, arith}
 use Rattle.std.specs.List.{splice, slice_range}
-use Rattle.std.proofs.lemmas.Result.{on_ok_weaker}
+use Rattle.std.proofs.lemmas.Result.{on_ok_weaker, on_err_weaker}
 use Rattle.mls_label.specs.declared.cat_set.Run.{Run}
 use Rattle.mls_label.specs.Cats.{has, is_within, cats_where}
 use Rattle.mls_label.specs.Runs.{runs_of}
@@ -14,7 +14,7 @@ on_ok_both (Ok x) f p q = f p q
 on_ok_both (Err e) f p q = tt
 
 place : (c : goal.After-put) → IsPlace c.args.runs.now.items c.args.run c.place_of-start.result.0 c.place_of-start.result.1
-place c = subst (λ xs. IsPlace xs c.args.run c.place_of-start.result.0 c.place_of-start.result.1) c.deref.ensures.value c.place_of-start.ensures
+place c = subst (λ xs. IsPlace xs c.args.run c.place_of-start.result.0 c.place_of-start.result.1) c.deref.ensures.0 c.place_of-start.ensures
 
 -- the list after a success
 new_is : (c : goal.After-put) (new : List Run) → new ≡ splice c.args.runs.now.items c.place_of-start.result.0 c.place_of-start.result.1 (c.hull_with-hull.result ∷ []) → new ≡ joined c.args.runs.now.items c.args.run c.place_of-start.result.0 c.place_of-start.result.1
@@ -22,13 +22,13 @@ new_is c new e =
     let start = c.place_of-start.result.0 in
     let end = c.place_of-start.result.1 in
     let hull_is : c.hull_with-hull.result ≡ fold hull c.args.run (slice_range c.args.runs.now.items start end) =
-    c.hull_with-hull.ensures ∙ ap (λ xs. fold hull c.args.run (slice_range xs start end)) c.deref-2.ensures.value in
+    c.hull_with-hull.ensures ∙ ap (λ xs. fold hull c.args.run (slice_range xs start end)) c.deref-2.ensures.0 in
     e ∙ ap (λ h. splice c.args.runs.now.items start end (h ∷ [])) hull_is
 
 pub returns-clause-kept : goal.returns-clause-kept
 returns-clause-kept c =
     let apart = joined_apart c.args.runs.now.items c.args.run _ _ c.requires.kept.apart c.requires.order c.requires.categories (place c) in
-    on_ok_both c.put.result (λ e few. record { apart = subst (AreApart 0) (sym (new_is c c.put.new.runs.items e)) apart; few = omega (arith, few, c.put.new.runs.ok.0) }) c.put.ensures.ok c.put.ensures.few
+    on_ok_both c.put.result (λ e few. record { apart = subst (AreApart 0) (sym (new_is c c.put.new.runs.items e)) apart; few = few }) c.put.ensures.ok c.put.ensures.few
 
 pub returns-clause-cats : goal.returns-clause-cats
 returns-clause-cats c =
@@ -45,8 +45,7 @@ returns-clause-too_many c =
     let cats = joined_cats runs run start end c.requires.kept.apart c.requires.order c.requires.categories (place c) in
     let len : length (runs_of (cats_where (λ k. has (cats_of runs) k || is_within run.first run.last k))) ≡ length (joined runs run start end) =
     ap (λ s. length (runs_of s)) (sym cats) ∙ length-runs_of 0 (joined runs run start end) apart in
-    λ e.
-    let full = c.put.ensures.too_many e in
+    on_err_weaker c.put.result (λ full.
     let same : length (joined runs run start end) ≡ length (joined runs run start start) = ap (λ t. length (joined runs run start t)) (sym full.0) in
     let more : length (joined runs run start start) ≡ length runs + 1 = joined_more runs run start (omega (arith, (place c).order, (place c).within)) in
-    omega (arith, len, same, more, full.1, c.args.runs.now.ok.0)
+    omega (arith, len, same, more, full.1)) c.put.ensures.too_many

@@ -1,13 +1,9 @@
-use Rattle.std.proofs.Common.{◌+◌, refl, inr, Result, Ok, Err, OnOk}
+use Rattle.std.proofs.Common.{◌+◌, refl, inr}
 use Rattle.std.proofs.lemmas.Bool.{false≢true}
 use Rattle.std.proofs.lemmas.Result.{err_from_is_err_and}
 use Rattle.mls_range.specs.Range.{Ends}
 use Rattle.mls_range.proofs.RangeTexts.{low_at, stops_low, stops_high, pair_read, roomy_read, unordered, roomy_lone}
 use Rattle.mls_range.proofs.range.read_range.Goals as goal
-
-on_ok : {T E P : Type 0} (r : Result T E) → P → OnOk r P
-on_ok (Ok x) p = p
-on_ok (Err e) p = tt
 
 pub returns-in_err-low-clause-err : goal.returns-in_err-low-clause-err
 returns-in_err-low-clause-err c =
@@ -16,7 +12,7 @@ returns-in_err-low-clause-err c =
 
 pub returns-then-end-text-clause-roomy : goal.returns-then-end-text-clause-roomy
 returns-then-end-text-clause-roomy c =
-    on_ok c.lone_range.result (roomy_lone c.args.text.now c.in_ok-low.low c.in_ok-low.end c.in_ok-low.ensures.ok c.if-end-text.true)
+    roomy_lone c.args.text.now c.in_ok-low.low c.in_ok-low.end c.in_ok-low.ensures.ok c.if-end-text.true
 
 pub returns-in_err-high-clause-err : goal.returns-in_err-high-clause-err
 returns-in_err-high-clause-err c =

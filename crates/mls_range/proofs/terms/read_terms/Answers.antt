@@ -4,8 +4,8 @@ use Rattle.mls_range.proofs.Crowds.{HasTerms, has_none, has_more, fails_term, re
 use Rattle.mls_range.proofs.terms.read_terms.Goals as goal
 use Rattle.mls_range.proofs.terms.read_terms.Goals.{then-term-text-via-then-term-text, then-term-text-via-else-term-text+then-text-term-ne44}
 
-pub loop-cats-init : goal.loop-cats-init
-loop-cats-init c =
+pub loop-term-init : goal.loop-term-init
+loop-term-init c =
     let a = c.args in
     subst (HasTerms a.text.now a.start a.start) (sym c.empty-cats.ensures) (has_none a.text.now a.start c.requires)
 
@@ -15,14 +15,14 @@ returns-in_err-term-clause-err c =
     let fault = c.in_err-term.field-0.0 in
     let f = c.in_err-term.ensures.err in
     let p = err_from_is_err_and c.from_residual.result c.from_residual.ensures.1 in
-    rw (p.1, p.2) (fails_term a.dash a.text.now a.start c.loop-cats.at c.loop-cats.cats fault fault.kind c.loop-cats.invariant f f.stops)
+    rw (p.1, p.2) (fails_term a.dash a.text.now a.start c.loop-term.at c.loop-term.cats fault fault.kind c.loop-term.invariant f f.stops)
 
 pub returns-in_err-add_term-clause-err : goal.returns-in_err-add_term-clause-err
 returns-in_err-add_term-clause-err c =
     let a = c.args in
     let term = c.in_ok-term.term in
     let p = err_from_is_err_and c.from_residual-in_err-add_term.result c.from_residual-in_err-add_term.ensures.1 in
-    rw (p.1, p.2) (stops_run a.dash a.text.now a.start c.loop-cats.at term.end term.first term.last c.loop-cats.cats c.in_err-add_term.field-0.0 c.loop-cats.invariant c.in_ok-term.ensures.ok c.in_err-add_term.ensures.err)
+    rw (p.1, p.2) (stops_run a.dash a.text.now a.start c.loop-term.at term.end term.first term.last c.loop-term.cats c.in_err-add_term.field-0.0 c.loop-term.invariant c.in_ok-term.ensures.ok c.in_err-add_term.ensures.err)
 
 pub returns-then-term-text-clause-ok : goal.returns-then-term-text-clause-ok
 returns-then-term-text-clause-ok c =
@@ -32,11 +32,11 @@ returns-then-term-text-clause-ok c =
       | then-term-text-via-then-term-text w ↦ inl w.if-term-text.true
       | then-term-text-via-else-term-text+then-text-term-ne44 w ↦ inr w.if-text-term-ne44.true
     ] in
-    reads_terms a.dash a.text.now a.start c.loop-cats.at term.end term.first term.last c.loop-cats.cats c.add_term.new.cats c.loop-cats.invariant c.in_ok-term.ensures.ok c.in_ok-add_term.ensures.ok c.in_ok-add_term.ensures.few over
+    reads_terms a.dash a.text.now a.start c.loop-term.at term.end term.first term.last c.loop-term.cats c.add_term.new.cats c.loop-term.invariant c.in_ok-term.ensures.ok c.in_ok-add_term.ensures.ok c.in_ok-add_term.ensures.few over
 
-pub loop-cats-preserved : goal.loop-cats-preserved
-loop-cats-preserved c =
+pub loop-term-preserved : goal.loop-term-preserved
+loop-term-preserved c =
     let a = c.args in
     let term = c.in_ok-term.term in
     let r = c.in_ok-term.ensures.ok in
-    has_more a.text.now a.start c.loop-cats.at term.end c.loop-cats.cats c.add_term.new.cats a.dash term.first term.last c.loop-cats.invariant r c.in_ok-add_term.ensures.ok c.in_ok-add_term.ensures.few (omega (arith, r.reads.within, c.if-term-text.false)) c.if-text-term-ne44.false
+    has_more a.text.now a.start c.loop-term.at term.end c.loop-term.cats c.add_term.new.cats a.dash term.first term.last c.loop-term.invariant r c.in_ok-add_term.ensures.ok c.in_ok-add_term.ensures.few (omega (arith, r.reads.within, c.if-term-text.false)) c.if-text-term-ne44.false

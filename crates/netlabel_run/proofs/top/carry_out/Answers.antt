@@ -8,7 +8,6 @@ returns-in-Ok-clause-ends g c =
     ends_as_judge (texts_of c.args.words.now) (g.D.Depot.held c.args.depot.now) (g.D.Depot.tells c.args.depot.now) (g.S.Sink.tells c.args.out.now) c.in-Ok.command.doi c.in-Ok.command.level c.in-Ok.command.file.now c.judge.result (g.D.Depot.read_faults c.args.depot.now) (g.D.Depot.read_faults c.judge.new.depot) _ _ _ _
     c.in-Ok.ensures.ok c.judge.ensures.form c.judge.ensures.unmoved c.judge.ensures.ends
 
-pub returns-in-Err-NoForm-clause-ends : goal.returns-in-Err-NoForm-clause-ends
-returns-in-Err-NoForm-clause-ends g c =
-    let none = rw c.in-Err-NoForm.field-0-is at c.in-Err-NoForm.ensures.no_form in
-    ends_as_usage (texts_of c.args.words.now) (g.D.Depot.held c.args.depot.now) (g.D.Depot.tells c.args.depot.now) (g.S.Sink.tells c.args.out.now) c.print.result (g.D.Depot.read_faults c.args.depot.now) _ _ _ _ (none refl) (rw c.usage.ensures at c.print.ensures.prints)
+pub returns-in-Err-clause-ends : goal.returns-in-Err-clause-ends
+returns-in-Err-clause-ends g c =
+    ends_as_usage (texts_of c.args.words.now) (g.D.Depot.held c.args.depot.now) (g.D.Depot.tells c.args.depot.now) (g.S.Sink.tells c.args.out.now) c.print.result (g.D.Depot.read_faults c.args.depot.now) _ _ _ _ c.in-Err.ensures.no_form (rw c.usage.ensures at c.print.ensures.prints)

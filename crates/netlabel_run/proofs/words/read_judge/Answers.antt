@@ -6,7 +6,7 @@ pub returns-in-Ok-clause-ok : goal.returns-in-Ok-clause-ok
 returns-in-Ok-clause-ok c =
     (c.in-Some.ensures.some, rw (← c.as_bytes.ensures.value) (record { reads = c.in-Ok.ensures.ok; roomy = c.in-Ok.ensures.roomy }), c.if-not-is_file_name.ensures.0 refl, refl)
 
-pub returns-in-Err-Fault-clause-no_form : goal.returns-in-Err-Fault-clause-no_form
-returns-in-Err-Fault-clause-no_form c _ doi level is_doi is_level is_name =
-    let refused = rw c.in-Err-Fault.field-0-is at c.in-Err-Fault.ensures.err in
-    no_level c.args.level.now c.in-Err-Fault.field-0-0.octet c.in-Err-Fault.field-0-0.kind level (rw c.as_bytes.ensures.value at refused) is_level
+pub returns-in-Err-clause-no_form : goal.returns-in-Err-clause-no_form
+returns-in-Err-clause-no_form c doi level is_doi is_level is_name =
+    let refused = c.in-Err.ensures.err in
+    no_level c.args.level.now c.in-Err._fault.octet c.in-Err._fault.kind level (rw c.as_bytes.ensures.value at refused) is_level

@@ -1,5 +1,6 @@
 use Rattle.std.proofs.Common.{◌≡◌, ◌∙◌, sym, ◌∷◌, []}
 use Rattle.std.specs.Prelude.{codes, string_bytes}
+use Rattle.std.proofs.lemmas.Result.{on_err_weaker}
 use Rattle.std.proofs.lemmas.Slice.Eq.{bytes_eq-Decides}
 use Rattle.netlabel_run.specs.Words.{texts_of}
 use Rattle.netlabel_run.proofs.Commands.{four_texts, asks_all_ok, no_form}
@@ -20,5 +21,5 @@ returns-then-eq-clause-ok c =
     asks_all_ok (texts_of c.args.words.now) c.deref.result.now c.deref-then-eq.result.now c.deref-then-eq-2.result.now c.read_judge.result (are_judge c) c.read_judge.ensures.ok
 
 pub returns-then-eq-clause-no_form : goal.returns-then-eq-clause-no_form
-returns-then-eq-clause-no_form c e =
-    no_form (texts_of c.args.words.now) c.deref.result.now c.deref-then-eq.result.now c.deref-then-eq-2.result.now (are_judge c) (c.read_judge.ensures.no_form e)
+returns-then-eq-clause-no_form c =
+    on_err_weaker c.read_judge.result (no_form (texts_of c.args.words.now) c.deref.result.now c.deref-then-eq.result.now c.deref-then-eq-2.result.now (are_judge c)) c.read_judge.ensures.no_form

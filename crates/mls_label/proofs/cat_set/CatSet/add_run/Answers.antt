@@ -1,5 +1,5 @@
 use Rattle.std.proofs.Common.{length, OnOk, Result, Ok, Err, ap, arith}
-use Rattle.std.proofs.lemmas.Result.{on_ok_weaker}
+use Rattle.std.proofs.lemmas.Result.{on_ok_weaker, on_err_weaker}
 use Rattle.mls_label.specs.Runs.{runs_of}
 use Rattle.mls_label.proofs.Runs.{length-runs_of}
 use Rattle.mls_label.proofs.cat_set.CatSet.add_run.Goals as goal
@@ -18,4 +18,4 @@ returns-clause-one_more c =
     on_ok_both c.join.result (λ k more. omega (arith, more, old, length-runs_of 0 c.join.new.runs.items k.apart, ap (λ s. length (runs_of s)) c.self.view_is)) c.join.ensures.kept c.join.ensures.one_more
 
 pub returns-clause-full : goal.returns-clause-full
-returns-clause-full c = λ e. omega (arith, c.join.ensures.full e, length-runs_of 0 c.self.inside.runs.items c.self.invariant.apart, ap (λ s. length (runs_of s)) c.self.view_is)
+returns-clause-full c = on_err_weaker c.join.result (λ full. omega (arith, full, length-runs_of 0 c.self.inside.runs.items c.self.invariant.apart, ap (λ s. length (runs_of s)) c.self.view_is)) c.join.ensures.full

@@ -1,32 +1,43 @@
-use Rattle.std.proofs.Common.{◌<◌, ◌≤◌, ap, sym, subst, ◌∙◌, length, slice_get, arith}
+use Rattle.std.proofs.Common.{◌≡◌, ◌<◌, ap, sym, subst, ◌∙◌, length, get_or, slice_get, arith}
+use Rattle.std.proofs.lemmas.List.{get_or_default}
 use Rattle.mls_label.specs.declared.cat_set.Run.{Run}
 use Rattle.mls_label.specs.Runs.{runs_of}
+use Rattle.mls_label.specs.Kept.{cats_of, AreApart}
 use Rattle.mls_label.proofs.Inside.{shown_at}
 use Rattle.mls_label.proofs.Runs.{length-runs_of, runs_of-cats_of}
 use Rattle.mls_label.proofs.Splice.{apart_at}
 use Rattle.mls_label.proofs.cat_set.CatSet.run.Goals as goal
 
-pub index-run-requires : goal.index-run-requires
-index-run-requires c =
-    omega (arith, c.requires, length-runs_of 0 c.self.inside.runs.items c.self.invariant.apart, ap (λ s. length (runs_of s)) c.self.view_is, c.self.inside.runs.ok.0)
+none : Run
+none = record { first = 0; last = 0 }
+
+apart : (c : goal.After-as_slice-runs) → AreApart 0 c.as_slice-runs.result.now
+apart c = subst (AreApart 0) (sym c.as_slice-runs.ensures.value) c.self.invariant.apart
+
+seen : (c : goal.After-as_slice-runs) → cats_of c.as_slice-runs.result.now ≡ c.args.self.now
+seen c = ap cats_of c.as_slice-runs.ensures.value ∙ c.self.view_is
+
+within : (c : goal.After-as_slice-runs) → c.args.i < length c.as_slice-runs.result.now
+within c = omega (arith, c.requires, length-runs_of 0 c.as_slice-runs.result.now (apart c), ap (λ s. length (runs_of s)) (seen c))
+
+pub offset_bounds-runs-i : goal.offset_bounds-runs-i
+offset_bounds-runs-i c = omega (arith, within c, c.as_slice-runs.type_inv)
+
+pub bounds-runs-i : goal.bounds-runs-i
+bounds-runs-i c = within c
 
 pub returns-clause-run : goal.returns-clause-run
+unfolding none
 returns-clause-run c =
-    let runs = c.self.inside.runs.items in
-    let within : c.args.i < length runs = omega (arith, c.requires, length-runs_of 0 runs c.self.invariant.apart, ap (λ s. length (runs_of s)) c.self.view_is) in
-    let shown = ap runs_of (sym c.self.view_is) ∙ runs_of-cats_of 0 runs c.self.invariant.apart in
-    ap (λ xs. slice_get xs c.args.i) shown ∙ shown_at runs c.args.i c.index-run.result.now within c.index-run.ensures
+    let runs = c.as_slice-runs.result.now in
+    let r = get_or runs c.args.i none in
+    let shown = ap runs_of (sym (seen c.before)) ∙ runs_of-cats_of 0 runs (apart c.before) in
+    ap (λ xs. slice_get xs c.args.i) shown ∙ shown_at runs c.args.i r (within c.before) (get_or_default runs c.args.i none r (within c.before))
 
 pub returns-clause-order : goal.returns-clause-order
-returns-clause-order c =
-    let runs = c.self.inside.runs.items in
-    let within : c.args.i < length runs = omega (arith, c.requires, length-runs_of 0 runs c.self.invariant.apart, ap (λ s. length (runs_of s)) c.self.view_is) in
-    let at = apart_at 0 runs c.args.i c.index-run.result.now c.self.invariant.apart within in
-    subst (λ (r : Run). r.first ≤ r.last) (sym c.index-run.ensures) at.1
+unfolding none
+returns-clause-order c = (apart_at 0 c.as_slice-runs.result.now c.args.i none (apart c.before) (within c.before)).1
 
 pub returns-clause-categories : goal.returns-clause-categories
-returns-clause-categories c =
-    let runs = c.self.inside.runs.items in
-    let within : c.args.i < length runs = omega (arith, c.requires, length-runs_of 0 runs c.self.invariant.apart, ap (λ s. length (runs_of s)) c.self.view_is) in
-    let at = apart_at 0 runs c.args.i c.index-run.result.now c.self.invariant.apart within in
-    subst (λ (r : Run). r.last < 65535) (sym c.index-run.ensures) at.2
+unfolding none
+returns-clause-categories c = (apart_at 0 c.as_slice-runs.result.now c.args.i none (apart c.before) (within c.before)).2
