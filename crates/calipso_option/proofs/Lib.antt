@@ -1,7 +1,7 @@
 pub mod Checks
 pub mod Shapes
-pub mod Fronts
-pub mod Faults
+pub mod Places
 pub mod Shifts
 pub mod Words
 pub mod Written
+pub mod Law

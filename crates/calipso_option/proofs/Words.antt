@@ -2,7 +2,7 @@
 use Rattle.std.proofs.Common.{◌≡◌, ℕ, ◌+◌, ◌/◌, ◌≤◌, List, [], ◌∷◌, refl, arith}
 use Rattle.mls_label.specs.declared.label.Label.{Label}
 use Rattle.category_bitmap.specs.Bitmap.{octets_needed}
-use Rattle.category_bitmap.proofs.Written.{needs_at_most, needs_each}
+use Rattle.category_bitmap.proofs.Law.{octets_suffice_for_low_categories}
 use Rattle.calipso_option.specs.Text.{IsExpressible, words_needed}
 
 -- words of four octets
@@ -11,10 +11,10 @@ words_are [] = refl
 words_are (c ∷ cats) = let rest = words_are cats in omega arith
 
 pub octets_express : (label : Label) → octets_needed label.cats ≤ 244 → IsExpressible label
-octets_express label few c is = omega (arith, needs_each label.cats c is)
+octets_express label few c is = omega (arith, (octets_suffice_for_low_categories label.cats 244).0 few c is)
 
 pub express_octets : (label : Label) → IsExpressible label → octets_needed label.cats ≤ 244
-express_octets label fits = needs_at_most label.cats 244 (λ c is. omega (arith, fits c is))
+express_octets label fits = (octets_suffice_for_low_categories label.cats 244).1 (λ c is. omega (arith, fits c is))
 
 pub words_few : (label : Label) → IsExpressible label → words_needed label.cats ≤ 61
 words_few label fits = omega (arith, express_octets label fits, words_are label.cats)

@@ -2,8 +2,9 @@
 use Rattle.std.proofs.Common.{ℕ, ◌*◌, ◌^◌, ◌<◌, refl, sym, arith}
 use Rattle.mls_label.specs.declared.label.Label.{Label}
 use Rattle.mls_label.specs.Cats.{IsCats}
-use Rattle.category_bitmap.specs.Bitmap.{bitmap_of}
-use Rattle.category_bitmap.proofs.Written.{length-bitmap_of, bitmap_octets, written_reads_back}
+use Rattle.std.proofs.lemmas.List.FromFn.{length-map-range_with_len}
+use Rattle.category_bitmap.specs.Bitmap.{bitmap_of, octet_of}
+use Rattle.category_bitmap.proofs.Law.{written_bitmap_reads_back, written_bitmaps_hold_octets}
 use Rattle.calipso_option.specs.Crc.{crc_of}
 use Rattle.calipso_option.specs.Calipso.{IsCalipsoShape, IsCalipso}
 use Rattle.calipso_option.specs.Text.{IsExpressible, words_needed, text_with, calipso_text}
@@ -19,13 +20,13 @@ text_shape doi label checksum named fits level cats express stored =
       words = words;
       bitmap = bitmap;
       is = refl;
-      long = length-bitmap_of label.cats (4 * words);
+      long = length-map-range_with_len (octet_of label.cats) 0 (4 * words);
       room = words_few label express;
-      octets = octets_laid doi words label.level checksum bitmap (words_few label express) level (bitmap_octets label.cats (4 * words));
+      octets = octets_laid doi words label.level checksum bitmap (words_few label express) level (written_bitmaps_hold_octets label.cats (4 * words));
       named = named;
       fits = fits;
       stored = stored;
-      carries = sym (written_reads_back label.cats (4 * words) cats (omega (arith, words_are label.cats)));
+      carries = sym (written_bitmap_reads_back label.cats (4 * words) cats (omega (arith, words_are label.cats)));
     }
 
 pub option_member : (doi : ℕ) (label : Label) → 0 < doi → doi < 2 ^ 32 → label.level < 256 → IsCats label.cats → IsExpressible label → IsCalipso (calipso_text doi label) (record { doi = doi; label = label })

@@ -4,6 +4,7 @@ use Rattle.std.specs.Prelude.{ℕ, ◌≡◌, ◌+◌, ◌*◌, ◌^◌, ◌<◌
 use Rattle.std.specs.Int.{w16, w32, to_be_bytes, to_le_bytes}
 use Rattle.octet_grammar.specs.Octets.{IsOctets}
 use Rattle.category_bitmap.specs.Bitmap.{bitmap_cats}
+use Rattle.calipso_option.specs.declared.bounds.TheConstants.{OPTION_TYPE, MOST_WORDS}
 use Rattle.calipso_option.specs.declared.calipso.Calipso.{Calipso}
 use Rattle.calipso_option.specs.Crc.{crc_of}
 
@@ -11,7 +12,7 @@ use Rattle.calipso_option.specs.Crc.{crc_of}
 -- with its less significant octet first, the bitmap
 abbrev pub option_octets : ℕ → ℕ → ℕ → ℕ → List ℕ → List ℕ
 option_octets doi words level checksum bitmap =
-    7 ∷ (8 + 4 * words) ∷ (to_be_bytes w32 doi ++ words ∷ level ∷ (to_le_bytes w16 checksum ++ bitmap))
+    OPTION_TYPE ∷ (8 + 4 * words) ∷ (to_be_bytes w32 doi ++ words ∷ level ∷ (to_le_bytes w16 checksum ++ bitmap))
 
 -- an option whose stored checksum may be any number of two octets: at most 61 words of four octets, a DOI that isn't 0
 pub record IsCalipsoShape (bytes : List ℕ) (value : Calipso × ℕ) : Type 0 where
@@ -19,7 +20,7 @@ pub record IsCalipsoShape (bytes : List ℕ) (value : Calipso × ℕ) : Type 0 w
   pub bitmap : List ℕ
   pub is : bytes ≡ option_octets value.0.doi words value.0.label.level value.1 bitmap
   pub long : length bitmap ≡ 4 * words
-  pub room : words ≤ 61
+  pub room : words ≤ MOST_WORDS
   pub octets : IsOctets bytes
   pub named : 0 < value.0.doi
   pub fits : value.0.doi < 2 ^ 32

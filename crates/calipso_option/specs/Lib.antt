@@ -2,4 +2,4 @@ pub mod Crc
 pub mod Calipso
 pub mod Text
 pub mod Fault
-pub mod Layout
+pub mod inside

@@ -3,12 +3,13 @@ use Rattle.std.specs.Prelude.{ℕ, ◌+◌, ◌*◌, ◌/◌, ◌≤◌, max, Li
 use Rattle.mls_label.specs.declared.label.Label.{Label}
 use Rattle.mls_label.specs.Cats.{has}
 use Rattle.category_bitmap.specs.Bitmap.{bitmap_of}
+use Rattle.calipso_option.specs.declared.bounds.TheConstants.{HIGHEST_CATEGORY}
 use Rattle.calipso_option.specs.Crc.{crc_of}
 use Rattle.calipso_option.specs.Calipso.{option_octets}
 
 -- no category is above 1951, the last one of 61 words
 abbrev pub IsExpressible : Label → Type 0
-IsExpressible label = (c : ℕ) → IsTrue (has label.cats c) → c ≤ 1951
+IsExpressible label = (c : ℕ) → IsTrue (has label.cats c) → c ≤ HIGHEST_CATEGORY
 
 -- the fewest words that hold a set: category c stands in word c / 32, counted from 0
 abbrev pub words_needed : List ℕ → ℕ

@@ -1,6 +1,6 @@
 //! Laws over the definitions of options.
 
-ghost use Rattle.std.specs.Prelude.{◌<◌, ◌^◌, ℕ};
+ghost use Rattle.std.specs.Prelude.{◌≡◌, ◌<◌, ◌≤◌, ◌+◌, ◌^◌, ℕ, List, length, slice_index};
 ghost use Rattle.octet_grammar.specs.Front.{IsPrefixFree};
 ghost use Rattle.mls_label.specs.declared.label.Label.{Label};
 ghost use Rattle.mls_label.specs.Cats.{IsCats};
@@ -27,4 +27,18 @@ pub fn written_option_reads_back()
         → IsCats label.cats
         → IsExpressible label
         → IsCalipso (calipso_text doi label) (record { doi = doi; label = label }) }
+{}
+
+/// An option has from 10 to 254 octets, whatever its checksum.
+pub fn shapes_have_10_to_254_octets()
+    ensures { (bytes : List ℕ) (value : Calipso × ℕ)
+        → IsCalipsoShape bytes value
+        → (10 ≤ length bytes) × (length bytes ≤ 254) }
+{}
+
+/// An option's second octet counts the octets behind it.
+pub fn second_octet_counts_those_behind_it()
+    ensures { (bytes : List ℕ) (value : Calipso × ℕ)
+        → IsCalipsoShape bytes value
+        → length bytes ≡ 2 + slice_index bytes 1 }
 {}

@@ -3,6 +3,7 @@
 //! there, or else its checksum.
 #![tactic(auto)]
 
+mod bounds;
 mod calipso;
 mod crc;
 mod fault;
@@ -14,6 +15,7 @@ mod table;
 mod tests;
 mod write;
 
+pub use bounds::{HIGHEST_CATEGORY, MOST_OCTETS, MOST_WORDS};
 pub use calipso::Calipso;
 pub use crc::crc16;
 pub use fault::CalipsoFault;

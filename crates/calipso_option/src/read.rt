@@ -4,13 +4,14 @@ ghost use Rattle.std.specs.Prelude.{◌≡◌, ◌≤◌, IfOk, IfErr, OnOk, len
 ghost use Rattle.octet_grammar.specs.Front.{ReadsFront};
 ghost use Rattle.calipso_option.specs.Calipso.{IsCalipso, IsCalipsoShape, checksum_of};
 ghost use Rattle.calipso_option.specs.Fault.{IsFaulty};
-ghost use Rattle.calipso_option.specs.Layout.{IsLaidOut, checksum_at, IsFalseChecksum};
+ghost use Rattle.calipso_option.specs.inside.Layout.{IsLaidOut, checksum_at, IsFalseChecksum};
 
 use crate::crc::option_checksum;
-use crate::layout::{doi_of, read_layout};
+use crate::layout::read_layout;
 use crate::{Calipso, CalipsoFault};
 use category_bitmap::read_bitmap;
 use mls_label::Label;
+use octet_grammar::u32_at;
 
 /// What an option says beside its label, and how many octets it has.
 #[derive(Clone, Copy, Debug)]
@@ -67,5 +68,5 @@ fn read_value(option: &[u8], label: &mut Label) -> u32
 {
     label.level = option[7];
     read_bitmap(&option[10..], &mut label.cats);
-    doi_of(option)
+    u32_at(option, 2)
 }

@@ -117,7 +117,7 @@ fn each_fault_stands_at_its_octet(rt: HostRuntime) {
     }
 }
 
-// With ample memory each of these is read, and written as the octets behind it: without trailing words of zeros.
+// Each of these is read, and written as the octets behind it: without trailing words of zeros.
 #[test]
 fn each_option_is_read_and_written_again(rt: HostRuntime) -> Result<(), Fail> {
     let wide: &[u8] = &[
@@ -164,18 +164,25 @@ fn each_option_is_read_and_written_again(rt: HostRuntime) -> Result<(), Fail> {
     Ok(())
 }
 
+// Worked elsewhere: DOI 16, level 2, category 1951, the last bit of 61 words; with category 1952 there is no option.
 #[test]
 fn category_1951_is_the_last(rt: HostRuntime) -> Result<(), Fail> {
+    let mut written = [0; 254];
+    written[..10].copy_from_slice(&[7, 252, 0, 0, 0, 16, 61, 2, 0x28, 0x38]);
+    written[253] = 1;
     let mut cats = CatSet::empty();
-    cats.add(1951).expect(&rt, "memory");
+    cats.add(1951)?;
     let mut label = Label { level: 2, cats };
     let mut out = ArrayVec::new();
     assert!(rt; can_express(&label));
     write_calipso(16, &label, &mut out);
-    assert_eq!(rt; (out.len(), out[1], out[6]), (254, 252, 61));
-    assert_eq!(rt; out.as_slice().last(), Some(&1));
-    assert!(rt; read_calipso(&out).is_ok());
-    label.cats.add(1952).expect(&rt, "memory");
+    assert_eq!(rt; out.as_slice(), written.as_slice());
+    let (option, octets) = read_calipso(&out).expect(&rt, "an option");
+    assert_eq!(rt; octets, 254);
+    assert_eq!(rt; (option.doi, option.label.level), (16, 2));
+    assert_eq!(rt; option.label.cats.count(), 1);
+    assert!(rt; option.label.cats.contains(1951));
+    label.cats.add(1952)?;
     assert!(rt; !can_express(&label));
     Ok(())
 }

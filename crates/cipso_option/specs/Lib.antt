@@ -1,3 +1,3 @@
 pub mod Cipso
 pub mod Text
-pub mod Head
+pub mod inside

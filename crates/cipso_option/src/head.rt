@@ -1,18 +1,15 @@
 //! The first eight octets of an option: its type and length, the DOI, the type and length of its tag.
 
-ghost use Rattle.std.specs.Prelude.{◌≡◌, IfOk, IfErr, OnOk};
+ghost use Rattle.std.specs.Prelude.{◌≡◌, ◌≤◌, ◌↔◌, IsTrue, IfOk, IfErr, OnOk};
 ghost use Rattle.octet_grammar.specs.Fault.{FailsFront};
+ghost use Rattle.octet_grammar.specs.Numbers.{u32_at};
 ghost use Rattle.cipso_option.specs.Cipso.{IsCipso};
-ghost use Rattle.cipso_option.specs.Head.{IsStart, IsNamed, HasTagHead, doi_at};
+ghost use Rattle.cipso_option.specs.inside.Head.{IsStart, IsNamed, HasTagHead};
 
+use crate::bounds::{FEWEST_OCTETS, HEAD_OCTETS, MOST_OCTETS, OPTION_TYPE};
 use cipso_tags::{has_length, tag_of_type};
 use mls_label::WireFault;
-use octet_grammar::{octet_at, unfit};
-
-// The octets of the shortest option, whose tag has no category, and of the longest that an IPv4 header has room for.
-const SHORTEST: u8 = 10;
-
-const LONGEST: u8 = 40;
+use octet_grammar::{nonzero_at, octet_at, unfit};
 
 /// Reads the option's type and its length, which is from 10 to 40.
 pub(crate) fn read_start(bytes: &[u8]) -> Result<(), WireFault>
@@ -20,32 +17,32 @@ pub(crate) fn read_start(bytes: &[u8]) -> Result<(), WireFault>
     ensures err { IfErr result (λ e. FailsFront IsCipso bytes.now e) }
 {
     let kind = octet_at(bytes, 0)?;
-    if kind != 134 {
+    if kind != OPTION_TYPE {
         return Err(unfit(0));
     }
     let length = octet_at(bytes, 1)?;
-    if length < SHORTEST || length > LONGEST {
+    if !is_length(length) {
         return Err(unfit(1));
     }
     Ok(())
+}
+
+// Whether an option may have this many octets.
+fn is_length(octets: u8) -> bool
+    ensures { IsTrue result ↔ (FEWEST_OCTETS ≤ octets) × (octets ≤ MOST_OCTETS) }
+{
+    let octets = usize::from(octets);
+    octets >= FEWEST_OCTETS && octets <= MOST_OCTETS
 }
 
 /// Reads the DOI, which isn't 0.
 pub(crate) fn read_doi(bytes: &[u8]) -> Result<u32, WireFault>
     requires { IsStart bytes.now }
     ensures ok { OnOk result (IsNamed bytes.now) }
-    ensures doi { IfOk result (λ doi. doi ≡ doi_at bytes.now) }
+    ensures doi { IfOk result (λ doi. doi ≡ u32_at bytes.now 2) }
     ensures err { IfErr result (λ e. FailsFront IsCipso bytes.now e) }
 {
-    let first = octet_at(bytes, 2)?;
-    let second = octet_at(bytes, 3)?;
-    let third = octet_at(bytes, 4)?;
-    let fourth = octet_at(bytes, 5)?;
-    let doi = u32::from_be_bytes([first, second, third, fourth]);
-    if doi == 0 {
-        return Err(unfit(5));
-    }
-    Ok(doi)
+    nonzero_at(bytes, 2)
 }
 
 /// Reads the type of the tag, of which there is one that fills the option, and that tag's length.
@@ -55,7 +52,7 @@ pub(crate) fn read_tag_head(bytes: &[u8]) -> Result<(), WireFault>
     ensures ok { OnOk result (HasTagHead bytes.now) }
     ensures err { IfErr result (λ e. FailsFront IsCipso bytes.now e) }
 {
-    let size = bytes[1] - 6;
+    let size = bytes[1] - HEAD_OCTETS as u8;
     let kind = octet_at(bytes, 6)?;
     let Some(tag) = tag_of_type(kind) else {
         return Err(unfit(6));

@@ -1,6 +1,6 @@
 //! Laws over the definitions of options.
 
-ghost use Rattle.std.specs.Prelude.{◌<◌, ◌^◌, ℕ};
+ghost use Rattle.std.specs.Prelude.{◌≡◌, ◌<◌, ◌≤◌, ◌^◌, ℕ, List, length, slice_index};
 ghost use Rattle.octet_grammar.specs.Front.{IsPrefixFree};
 ghost use Rattle.mls_label.specs.declared.label.Tag.{Tag};
 ghost use Rattle.mls_label.specs.declared.label.Label.{Label};
@@ -24,4 +24,14 @@ pub fn written_option_reads_back()
         → IsCats label.cats
         → Fits tag label
         → IsCipso (cipso_text doi tag label) (record { doi = doi; tag = tag; label = label }) }
+{}
+
+/// An option has from 10 to 40 octets.
+pub fn options_have_10_to_40_octets()
+    ensures { (bytes : List ℕ) (value : Cipso) → IsCipso bytes value → (10 ≤ length bytes) × (length bytes ≤ 40) }
+{}
+
+/// An option's second octet is its length.
+pub fn second_octet_is_the_length()
+    ensures { (bytes : List ℕ) (value : Cipso) → IsCipso bytes value → slice_index bytes 1 ≡ length bytes }
 {}

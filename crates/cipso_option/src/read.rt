@@ -6,10 +6,11 @@ ghost use Rattle.octet_grammar.specs.Fault.{FailsFront};
 ghost use Rattle.cipso_option.specs.Cipso.{IsCipso};
 
 use crate::Cipso;
+use crate::bounds::HEAD_OCTETS;
 use crate::head::{read_doi, read_start, read_tag_head};
 use cipso_tags::read_tag_into;
 use mls_label::{Label, Tag, WireFault};
-use octet_grammar::moved_fault;
+use octet_grammar::moved;
 
 /// What an option says beside its label, and how many octets it has.
 #[derive(Clone, Copy, Debug)]
@@ -43,12 +44,11 @@ pub fn read_cipso_into(bytes: &[u8], label: &mut Label) -> Result<CipsoHead, Wir
     read_start(bytes)?;
     let doi = read_doi(bytes)?;
     read_tag_head(bytes)?;
-    match read_tag_into(&bytes[6..], label) {
-        Ok((tag, length)) => Ok(CipsoHead {
-            doi,
-            tag,
-            length: 6 + length,
-        }),
-        Err(fault) => Err(moved_fault(fault, 6, bytes.len() - 6)),
-    }
+    let rest = &bytes[HEAD_OCTETS..];
+    let (tag, length) = moved(read_tag_into(rest, label), HEAD_OCTETS, rest.len())?;
+    Ok(CipsoHead {
+        doi,
+        tag,
+        length: HEAD_OCTETS + length,
+    })
 }

@@ -91,7 +91,7 @@ fn has_runs(cats: &CatSet, runs: &[(u16, u16)]) -> bool {
     true
 }
 
-// With ample memory each of these is read; and it is written as the octets behind it.
+// Each of these is read, and written as the octets behind it.
 #[test]
 fn each_option_is_read_and_written_again(rt: HostRuntime) -> Result<(), Fail> {
     let highest: [u8; 40] = [

@@ -4,24 +4,27 @@ ghost use Rattle.std.specs.Prelude.{◌≡◌, ◌<◌, []};
 ghost use Rattle.cipso_tags.specs.Text.{Fits, first_tag_of};
 ghost use Rattle.cipso_option.specs.Text.{cipso_text};
 
+use crate::bounds::{MOST_OCTETS, OPTION_TYPE};
 use arrayvec::ArrayVec;
-use cipso_tags::{append_tag, can_express, tag_octets};
+use cipso_tags::{append_tag, can_express};
 use mls_label::{Label, Tag};
 
 /// Writes a label as an option with a tag that can express it.
-pub fn write_cipso(doi: u32, tag: Tag, label: &Label, out: &mut ArrayVec<u8, 40>)
+pub fn write_cipso(doi: u32, tag: Tag, label: &Label, out: &mut ArrayVec<u8, MOST_OCTETS>)
     requires named { 0 < doi }
     requires fits { Fits tag label.now }
     requires empty { out.old.items ≡ [] }
     ensures { out.new.items ≡ cipso_text doi tag label.now }
 {
-    out.push(134);
-    out.push(6 + tag_octets(tag, label));
-    out.push((doi / 0x100_0000) as u8);
-    out.push((doi / 0x1_0000 % 0x100) as u8);
-    out.push((doi / 0x100 % 0x100) as u8);
-    out.push((doi % 0x100) as u8);
+    out.push(OPTION_TYPE);
+    out.push(0);
+    let [first, second, third, fourth] = doi.to_be_bytes();
+    out.push(first);
+    out.push(second);
+    out.push(third);
+    out.push(fourth);
     append_tag(tag, label, out);
+    out[1] = out.len() as u8;
 }
 
 /// The first of the tags that can express the label; `None` where none can.

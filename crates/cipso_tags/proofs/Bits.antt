@@ -1,40 +1,36 @@
 -- Bitmaps as bodies: the octets may only end early.
-use Rattle.std.proofs.Common.{◌≡◌, ℕ, ◌-◌, ◌<◌, ◌≤◌, List, [], ◌++◌, length, take, refl, sym, ap, subst, ◌∙◌, arith, length-append}
-use Rattle.std.proofs.lemmas.List.{append-nil, nil_from_length, take_all}
+use Rattle.std.proofs.Common.{◌≡◌, ℕ, ◌-◌, ◌<◌, ◌≤◌, List, ◌++◌, length, replicate, refl, sym, ◌∙◌, arith, length-append}
+use Rattle.std.proofs.lemmas.List.{take_all, length-replicate}
 use Rattle.octet_grammar.specs.declared.fault.WireKind.TheVariants.{End}
 use Rattle.octet_grammar.specs.Octets.{IsOctets}
 use Rattle.octet_grammar.specs.Front.{IsFront, IsPrefixFree}
 use Rattle.octet_grammar.specs.Fault.{FailsFront}
-use Rattle.octet_grammar.proofs.Faults.{fails_outside}
+use Rattle.octet_grammar.proofs.Fronts.{free_by_length}
+use Rattle.octet_grammar.proofs.Octets.{octets-append, octets-zeros}
+use Rattle.octet_grammar.proofs.Places.{next_fails}
 use Rattle.category_bitmap.specs.Bitmap.{bitmap_cats}
 use Rattle.cipso_tags.specs.Body.{IsBitmap}
-use Rattle.cipso_tags.specs.Header.{IsSized}
-use Rattle.octet_grammar.proofs.Octets.{zeros, length-zeros, zero_at, octets-append}
+use Rattle.cipso_tags.specs.inside.Header.{IsSized}
 
 pub bits_free : (size : ℕ) → IsPrefixFree (IsSized size IsBitmap)
-bits_free size a b v w m n =
-    let none : b ≡ [] = nil_from_length b (omega (arith, m.long, n.long, length-append a b)) in
-    let whole : a ++ b ≡ a = ap (λ x. a ++ x) none ∙ append-nil a in
-    (whole, m.is.carries ∙ ap bitmap_cats (sym whole) ∙ sym n.is.carries)
-
-bits_member : (size : ℕ) (s : List ℕ) → size ≤ 30 → length s ≡ size → IsOctets s → IsSized size IsBitmap s (bitmap_cats s)
-bits_member size s le long octets = record { long = long; is = record { room = omega arith; octets = octets; carries = refl } }
+bits_free size =
+    free_by_length (IsSized size IsBitmap) (λ a b v w m n. n.long ∙ sym m.long) (λ t v w m n. m.is.carries ∙ sym n.is.carries)
 
 bits_front : (size : ℕ) (s : List ℕ) → size ≤ 30 → length s ≤ size → IsOctets s → IsFront (IsSized size IsBitmap) s
 bits_front size s le short octets =
-    let more = zeros (size - length s) in
+    let count = size - length s in
+    let more : List ℕ = replicate count 0 in
+    let long : length (s ++ more) ≡ size = omega (arith, length-append s more, length-replicate {A = ℕ} count 0) in
     record {
       more = more;
       value = bitmap_cats (s ++ more);
-      member = bits_member size (s ++ more) le (omega (arith, length-append s more, length-zeros (size - length s))) (octets-append s more octets (record { at = zero_at (size - length s) }));
+      member = record { long = long; is = record { room = omega arith; octets = octets-append s more octets (octets-zeros count); carries = refl } };
     }
 
 pub bits_end : (size : ℕ) (s : List ℕ) → size ≤ 30 → length s < size → IsOctets s → FailsFront (IsSized size IsBitmap) s (record { octet = length s; kind = End })
 bits_end size s le short octets =
-    let G = IsSized size IsBitmap in
-    let whole : take (length s) s ≡ s = take_all (length s) s (omega arith) in
-    fails_outside G (bits_free size) s (length s) (λ b. b < 256) (record { octet = length s; kind = End }) (omega arith)
-    (subst (IsFront G) (sym whole) (bits_front size s le (omega arith) octets))
-    (λ t v m agree. (omega (arith, m.long), m.is.octets.at (length s)))
-    refl
-    refl
+    next_fails (IsSized size IsBitmap) (bits_free size) s s (length s) (λ b. Unit {0}) (record { octet = length s; kind = End }) (omega arith)
+    (take_all (length s) s (omega arith))
+    (bits_front size s le (omega arith) octets)
+    (λ rest v m. (omega (arith, m.long, length-append s rest), tt))
+    (refl, refl)

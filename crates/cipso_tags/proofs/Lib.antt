@@ -1,9 +1,11 @@
 pub mod Words
-pub mod Bits
 pub mod Numbers
+pub mod Bits
 pub mod Enumeration
 pub mod Ranges
-pub mod Headers
 pub mod Runs
 pub mod Fitting
 pub mod Members
+pub mod Sizes
+pub mod Headers
+pub mod Law

@@ -1,18 +1,17 @@
 -- A written tag is a tag with the label that it was written from.
-use Rattle.std.proofs.Common.{◌≡◌, ℕ, ◌+◌, ◌-◌, ◌<◌, ◌≤◌, ◌||◌, List, [], ◌∷◌, ◌++◌, length, refl, sym, ap, subst, ◌∙◌, append_assoc, arith, inl, inr}
-use Rattle.std.specs.List.{range_with_len}
+use Rattle.std.proofs.Common.{◌≡◌, ℕ, Bool, ◌+◌, ◌<◌, ◌≤◌, ◌||◌, List, [], ◌∷◌, ◌++◌, length, refl, sym, ap, subst, ◌∙◌, append_assoc, arith, inl, inr}
+use Rattle.std.specs.List.{list_any}
 use Rattle.std.proofs.Math.Bool.{or_comm, or-false}
 use Rattle.std.proofs.lemmas.Bool.{cases_eq, eq-eqb, ne_eqb, leb-true}
-use Rattle.std.proofs.lemmas.Bool.Decides.{nat_tests}
+use Rattle.std.proofs.lemmas.List.FromFn.{length-map-range_with_len}
 use Rattle.mls_label.specs.declared.label.Tag.{Tag}
 use Rattle.mls_label.specs.declared.label.Tag.TheVariants.{One, Two, Five}
 use Rattle.mls_label.specs.declared.label.Label.{Label}
 use Rattle.mls_label.specs.Cats.{has, Ascends, IsCats, is_within}
-use Rattle.mls_label.specs.Runs.{join_front, runs_of, numbers_of}
-use Rattle.mls_label.proofs.Cats.{cats_where_is, has-append, has-range_with_len}
-use Rattle.mls_label.proofs.Runs.{cats_of_runs}
-use Rattle.category_bitmap.specs.Bitmap.{octets_needed}
-use Rattle.category_bitmap.proofs.Written.{length-bitmap_of, bitmap_octets, written_reads_back}
+use Rattle.mls_label.specs.Runs.{join_front, runs_of}
+use Rattle.mls_label.proofs.Law.{sets_are_what_they_have, runs_have_their_numbers, runs_have_what_each_has}
+use Rattle.category_bitmap.specs.Bitmap.{octets_needed, octet_of}
+use Rattle.category_bitmap.proofs.Law.{written_bitmap_reads_back, written_bitmaps_hold_octets}
 use Rattle.cipso_tags.specs.Body.{Descends, covers, IsBody}
 use Rattle.cipso_tags.specs.Tag.{IsTag}
 use Rattle.cipso_tags.specs.Text.{ends_down, range_numbers, body_text, tag_text, Fits}
@@ -67,22 +66,20 @@ numbers_descend (r ∷ runs) rise =
 
 -- ---- and cover the set
 
-run_has : (first last c : ℕ) → has (range_with_len first (last + 1 - first)) c ≡ is_within first last c
-run_has first last c = has-range_with_len first (last + 1 - first) c ∙ grind (arith, nat_tests)
+abbrev each_within : ℕ → List (ℕ × ℕ) → Bool
+each_within c runs = list_any (λ (r : ℕ × ℕ). is_within r.0 r.1 c) runs
 
-covers_run : (runs : List (ℕ × ℕ)) (ys : List ℕ) (r : ℕ × ℕ) (c : ℕ) → covers (ends_down runs) c ≡ has (numbers_of runs) c → covers ys c ≡ is_within r.0 r.1 c → covers (ends_down runs ++ ys) c ≡ has (numbers_of (r ∷ runs)) c
+covers_run : (runs : List (ℕ × ℕ)) (ys : List ℕ) (r : ℕ × ℕ) (c : ℕ) → covers (ends_down runs) c ≡ each_within c runs → covers ys c ≡ is_within r.0 r.1 c → covers (ends_down runs ++ ys) c ≡ each_within c (r ∷ runs)
 covers_run runs ys r c above here =
     covers-append (ends_down runs) ys c (omega (arith, length-ends_down runs))
     ∙ (λ i. above i || here i)
-    ∙ or_comm (has (numbers_of runs) c) (is_within r.0 r.1 c)
-    ∙ ap (λ b. b || has (numbers_of runs) c) (sym (run_has r.0 r.1 c))
-    ∙ sym (has-append (range_with_len r.0 (r.1 + 1 - r.0)) (numbers_of runs) c)
+    ∙ or_comm (each_within c runs) (is_within r.0 r.1 c)
 
-covers_ends : (runs : List (ℕ × ℕ)) (c : ℕ) → covers (ends_down runs) c ≡ has (numbers_of runs) c
+covers_ends : (runs : List (ℕ × ℕ)) (c : ℕ) → covers (ends_down runs) c ≡ each_within c runs
 covers_ends [] c = refl
 covers_ends (r ∷ runs) c = covers_run runs (r.1 ∷ r.0 ∷ []) r c (covers_ends runs c) (or-false (is_within r.0 r.1 c))
 
-covers_numbers : (runs : List (ℕ × ℕ)) (c : ℕ) → covers (range_numbers runs) c ≡ has (numbers_of runs) c
+covers_numbers : (runs : List (ℕ × ℕ)) (c : ℕ) → covers (range_numbers runs) c ≡ each_within c runs
 covers_numbers [] c = refl
 covers_numbers (r ∷ runs) c =
     elim (cases_eq r.0 0) [
@@ -96,9 +93,9 @@ body_member : (tag : Tag) (label : Label) → IsCats label.cats → Fits tag lab
 body_member One label is fit =
     let n = octets_needed label.cats in
     record {
-      room = omega (arith, bits_need label.cats fit, length-bitmap_of label.cats n);
-      octets = bitmap_octets label.cats n;
-      carries = sym (written_reads_back label.cats n is (omega arith));
+      room = omega (arith, bits_need label.cats fit, length-map-range_with_len (octet_of label.cats) 0 n);
+      octets = written_bitmaps_hold_octets label.cats n;
+      carries = sym (written_bitmap_reads_back label.cats n is (omega arith));
     }
 body_member Two label is fit =
     record { numbers = label.cats; is = refl; room = leb-true (length label.cats) 15 fit; ordered = is; carries = refl }
@@ -109,7 +106,7 @@ body_member Five label is fit =
       is = refl;
       room = omega (arith, numbers_few runs, leb-true (length runs) 7 fit);
       ordered = numbers_descend runs (rising 0 65535 label.cats is);
-      carries = cats_where_is label.cats (covers (range_numbers runs)) is (λ c small. ap (λ xs. has xs c) (sym (cats_of_runs label.cats)) ∙ sym (covers_numbers runs c));
+      carries = sets_are_what_they_have label.cats (covers (range_numbers runs)) is (λ c small. ap (λ xs. has xs c) (sym (runs_have_their_numbers label.cats)) ∙ runs_have_what_each_has runs c ∙ sym (covers_numbers runs c));
     }
 
 pub tag_member : (tag : Tag) (label : Label) → label.level < 256 → IsCats label.cats → Fits tag label → IsTag (tag_text tag label) (tag, label)

@@ -4,16 +4,24 @@ use Rattle.std.proofs.Math.Bool.{or_assoc, or-false}
 use Rattle.std.proofs.lemmas.Bool.{ltb-true, ltb-false}
 use Rattle.octet_grammar.specs.Octets.{IsOctets}
 use Rattle.mls_label.specs.Cats.{has, cats_where, is_within}
-use Rattle.mls_label.proofs.Cats.{cats_where_is, cats_where_same, has-cats_where}
-use Rattle.cipso_tags.specs.Body.{Descends, covers}
-use Rattle.cipso_tags.specs.Words.{words}
-use Rattle.cipso_tags.specs.Place.{IsNumberAt, number_at}
-use Rattle.cipso_tags.proofs.Words.{take_number}
+use Rattle.mls_label.proofs.Law.{sets_are_what_they_have, equal_tests_give_equal_sets, sets_of_a_test_have_what_passes}
+use Rattle.octet_grammar.specs.Numbers.{u16_at}
+use Rattle.octet_grammar.specs.Place.{IsNumberAt, FaultsInNumber}
+use Rattle.cipso_tags.specs.Body.{words, Descends, covers}
+use Rattle.cipso_tags.proofs.Words.{AreSmall, take_number}
 use Rattle.octet_grammar.specs.declared.fault.WireFault.{WireFault}
 use Rattle.octet_grammar.specs.Front.{ReadsFront}
 use Rattle.octet_grammar.specs.Fault.{FailsFront}
-use Rattle.cipso_tags.specs.Place.{FaultsInNumber}
-use Rattle.cipso_tags.proofs.Numbers.{NumbersOf, IsStep, IsAfter, after_start, number_stops, numbers_read}
+use Rattle.cipso_tags.proofs.Numbers.{NumbersOf, IsStep, IsAfter, after_start, step_fails, numbers_read}
+
+descends_small : (upper : ℕ) (ns : List ℕ) → upper ≤ 65536 → Descends upper ns → AreSmall ns
+descends_small upper [] le d = tt
+descends_small upper (top ∷ []) le d = (omega (arith, d), tt)
+descends_small upper (top ∷ bottom ∷ ns) le d =
+    (omega (arith, d.0), (omega (arith, d.0, d.1), descends_small bottom ns (omega (arith, d.0, d.1)) d.2))
+
+pub ranges_small : (ns : List ℕ) → Descends 65535 ns → AreSmall ns
+ranges_small ns d = descends_small 65535 ns (omega arith) d
 
 -- each range needs a number of its own
 descends_room : (upper : ℕ) (ys : List ℕ) → Descends upper ys → (length ys + 1) / 2 ≤ upper
@@ -102,9 +110,9 @@ covers-append (top ∷ bottom ∷ xs) ys c even =
 pub covers_more : (xs ys cats new : List ℕ) (top bottom : ℕ) → length xs % 2 ≡ 0 → cats ≡ cats_where (covers xs) → ((c : ℕ) → covers ys c ≡ is_within bottom top c) → new ≡ cats_where (λ c. has cats c || is_within bottom top c) → new ≡ cats_where (covers (xs ++ ys))
 covers_more xs ys cats new top bottom even so_far last added =
     added
-    ∙ cats_where_same (λ c. has cats c || is_within bottom top c) (covers (xs ++ ys))
+    ∙ equal_tests_give_equal_sets (λ c. has cats c || is_within bottom top c) (covers (xs ++ ys))
     (λ c small.
-    ap (λ b. b || is_within bottom top c) (ap (λ x. has x c) so_far ∙ has-cats_where (covers xs) c small)
+    ap (λ b. b || is_within bottom top c) (ap (λ x. has x c) so_far ∙ sets_of_a_test_have_what_passes (covers xs) c small)
     ∙ ap (λ b. covers xs c || b) (sym (last c))
     ∙ sym (covers-append xs ys c even))
 
@@ -129,11 +137,11 @@ ranges_start s count cats none =
       long = omega arith;
       descends = tt;
       after = λ le. after_start (Descends 65535);
-      covered = none ∙ cats_where_is [] (covers []) tt (λ c small. refl);
+      covered = none ∙ sets_are_what_they_have [] (covers []) tt (λ c small. refl);
     }
 
-top_read : (s xs : List ℕ) (o top : ℕ) → IsOctets s → o ≡ 2 * length xs → take (2 * length xs) s ≡ words xs → o + 1 < length s → top ≡ number_at s o → take (o + 2) s ≡ words (xs ++ top ∷ [])
-top_read s xs o top octets at read lt is = take_number s xs o top (ap (λ k. take k s) at ∙ read) lt (octets.at (o + 1)) is
+top_read : (s xs : List ℕ) (o top : ℕ) → IsOctets s → o ≡ 2 * length xs → take (2 * length xs) s ≡ words xs → o + 1 < length s → top ≡ u16_at s o → take (o + 2) s ≡ words (xs ++ top ∷ [])
+top_read s xs o top octets at read lt is = take_number s xs o top octets (ap (λ k. take k s) at ∙ read) lt is
 
 pub range_whole : (s : List ℕ) (count done upper : ℕ) (cats new : List ℕ) (low top bottom : ℕ) → IsOctets s → 2 * done + 1 < count → 0 < upper → HasRanges s count done upper cats → IsNumberAt s (4 * done) low (upper - 1) top → IsNumberAt s (4 * done + 2) low top bottom → new ≡ cats_where (λ c. has cats c || is_within bottom top c) → HasRanges s count (done + 1) bottom new
 range_whole s count done upper cats new low top bottom octets more some seen first second added =
@@ -143,7 +151,7 @@ range_whole s count done upper cats new low top bottom octets more some seen fir
     let long_top : length (xs ++ top ∷ []) ≡ 2 * done + 1 = omega (arith, length-append xs (top ∷ [])) in
     let long_all : length (xs ++ top ∷ bottom ∷ []) ≡ 2 * done + 2 = omega (arith, length-append xs (top ∷ bottom ∷ [])) in
     let half : take (4 * done + 2) s ≡ words (xs ++ top ∷ []) = top_read s xs (4 * done) top octets (omega arith) seen.read first.within first.is in
-    let whole : take (4 * done + 2 + 2) s ≡ words ((xs ++ top ∷ []) ++ bottom ∷ []) = take_number s (xs ++ top ∷ []) (4 * done + 2) bottom half second.within (octets.at (4 * done + 2 + 1)) second.is in
+    let whole : take (4 * done + 2 + 2) s ≡ words ((xs ++ top ∷ []) ++ bottom ∷ []) = take_number s (xs ++ top ∷ []) (4 * done + 2) bottom octets half second.within second.is in
     let at : 2 * length (xs ++ top ∷ bottom ∷ []) ≡ 4 * done + 2 + 2 = omega arith in
     let after = seen.after (omega arith) in
     record {
@@ -190,22 +198,22 @@ range_room false s at count done low top bottom is later none = omega (arith, lt
 abbrev pub covered_by : List ℕ → List ℕ
 covered_by numbers = cats_where (covers numbers)
 
-pub top_stops : (s : List ℕ) (count done upper low : ℕ) (cats : List ℕ) (e : WireFault) → count ≤ 14 → 2 * done < count → low ≡ (count + 1) / 2 - 1 - done → (count + 1) / 2 ≤ upper + done → IsOctets s → HasRanges s count done upper cats → FaultsInNumber s (4 * done) low (upper - 1) e → FailsFront (NumbersOf 14 (Descends 65535) covered_by count) s e
-top_stops s count done upper low cats e fits more later room octets seen faults =
+pub top_fails : (s : List ℕ) (count done upper low : ℕ) (cats : List ℕ) (e : WireFault) → count ≤ 14 → 2 * done < count → low ≡ (count + 1) / 2 - 1 - done → (count + 1) / 2 ≤ upper + done → upper ≤ 65535 → IsOctets s → HasRanges s count done upper cats → FaultsInNumber s (4 * done) low (upper - 1) e → FailsFront (NumbersOf 14 (Descends 65535) covered_by count) s e
+top_fails s count done upper low cats e fits more later room small octets seen faults =
     let xs = seen.numbers in
     let long : length xs ≡ 2 * done = omega (arith, seen.long) in
     let at : 4 * done ≡ 2 * length xs = omega arith in
     let step = top_step count xs upper (count - 2 * done - 1) low (omega arith) (omega arith) (omega arith) (seen.after (omega arith)) in
-    number_stops 14 (Descends 65535) covered_by count s xs (4 * done) low (upper - 1) e fits (omega (arith, seen.within)) (ap (λ k. take k s) at ∙ seen.read) (omega arith) (omega arith) (octets.at (4 * done)) step faults
+    step_fails 14 (Descends 65535) covered_by count s xs (4 * done) low (upper - 1) e ranges_small fits (omega (arith, seen.within)) (ap (λ k. take k s) at ∙ seen.read) (omega arith) (omega arith) (omega arith) (octets.at (4 * done)) step faults
 
-pub bottom_stops : (s : List ℕ) (count done upper low top : ℕ) (cats : List ℕ) (e : WireFault) → count ≤ 14 → 2 * done + 1 < count → low ≡ (count + 1) / 2 - 1 - done → (count + 1) / 2 ≤ upper + done → IsOctets s → HasRanges s count done upper cats → IsNumberAt s (4 * done) low (upper - 1) top → FaultsInNumber s (4 * done + 2) low top e → FailsFront (NumbersOf 14 (Descends 65535) covered_by count) s e
-bottom_stops s count done upper low top cats e fits more later room octets seen number faults =
+pub bottom_fails : (s : List ℕ) (count done upper low top : ℕ) (cats : List ℕ) (e : WireFault) → count ≤ 14 → 2 * done + 1 < count → low ≡ (count + 1) / 2 - 1 - done → (count + 1) / 2 ≤ upper + done → upper ≤ 65535 → IsOctets s → HasRanges s count done upper cats → IsNumberAt s (4 * done) low (upper - 1) top → FaultsInNumber s (4 * done + 2) low top e → FailsFront (NumbersOf 14 (Descends 65535) covered_by count) s e
+bottom_fails s count done upper low top cats e fits more later room small octets seen number faults =
     let xs = seen.numbers in
     let long : length xs ≡ 2 * done = omega (arith, seen.long) in
     let long_top : length (xs ++ top ∷ []) ≡ 2 * done + 1 = omega (arith, length-append xs (top ∷ [])) in
     let step = bottom_step count xs upper top (count - 2 * done - 2) low (omega arith) (omega arith) (omega (arith, number.bounds.1)) (seen.after (omega arith)) in
     let half : take (4 * done + 2) s ≡ words (xs ++ top ∷ []) = top_read s xs (4 * done) top octets (omega arith) seen.read number.within number.is in
-    number_stops 14 (Descends 65535) covered_by count s (xs ++ top ∷ []) (4 * done + 2) low top e fits (omega (arith, number.within)) half (omega arith) number.bounds.0 (octets.at (4 * done + 2)) step faults
+    step_fails 14 (Descends 65535) covered_by count s (xs ++ top ∷ []) (4 * done + 2) low top e ranges_small fits (omega (arith, number.within)) half (omega arith) number.bounds.0 (omega (arith, number.bounds.1, small)) (octets.at (4 * done + 2)) step faults
 
 pub ranges_read : (s : List ℕ) (count done upper : ℕ) (cats : List ℕ) → count ≤ 14 → count ≤ 2 * done → HasRanges s count done upper cats → ReadsFront (NumbersOf 14 (Descends 65535) covered_by count) s cats (2 * count)
 ranges_read s count done upper cats fits all seen =

@@ -1,35 +1,36 @@
 -- Runs written as numbers.
-use Rattle.std.proofs.Common.{◌≡◌, ℕ, zero, suc, ◌+◌, ◌-◌, ◌*◌, ◌<◌, ◌≤◌, ◌==◌, if◌then◌else◌, List, [], ◌∷◌, ◌++◌, length, drop, Some, slice_get, refl, sym, ap, ◌∙◌, append_assoc, arith, length-append}
+use Rattle.std.proofs.Common.{◌≡◌, ℕ, suc, ◌+◌, ◌-◌, ◌*◌, ◌<◌, ◌≤◌, ◌==◌, if◌then◌else◌, List, [], ◌∷◌, ◌++◌, length, drop, Some, slice_get, refl, sym, ap, ◌∙◌, append_assoc, arith, length-append}
+use Rattle.std.specs.Int.{w16, to_be_bytes}
 use Rattle.std.specs.List.{range_with_len}
 use Rattle.std.proofs.lemmas.Bool.{eq-eqb, ne_eqb}
+use Rattle.std.proofs.Math.Seq.{drop-cons}
+use Rattle.std.proofs.lemmas.Option.{slice_get_within, get_or_from_slice_get}
 use Rattle.std.proofs.lemmas.List.{append-nil, length-drop, drop_all}
 use Rattle.std.proofs.lemmas.List.FromFn.{length-range_with_len}
 use Rattle.mls_label.specs.Runs.{runs_of, numbers_of}
-use Rattle.mls_label.proofs.Runs.{cats_of_runs}
-use Rattle.category_bitmap.proofs.Octets.{range_split}
-use Rattle.cipso_tags.specs.Words.{word, words}
+use Rattle.mls_label.proofs.Law.{runs_have_their_numbers}
+use Rattle.octet_grammar.proofs.Octets.{range_more}
+use Rattle.cipso_tags.specs.Body.{words}
 use Rattle.cipso_tags.specs.Text.{ends_down, range_numbers}
 use Rattle.cipso_tags.proofs.Words.{length-words, words-append}
 
 pub drop_at : (xs : List (ℕ × ℕ)) (i : ℕ) (x : ℕ × ℕ) → slice_get xs i ≡ Some x → drop i xs ≡ x ∷ drop (i + 1) xs
-drop_at [] i x e = absurd (cc)
-drop_at (y ∷ xs) zero x e = let same : y ≡ x = cc in ap (λ z. z ∷ xs) same
-drop_at (y ∷ xs) (suc i) x e =
-    let more : suc i + 1 ≡ suc (i + 1) = omega arith in
-    drop_at xs i x e ∙ ap (λ k. x ∷ drop k (y ∷ xs)) (sym more)
+drop_at xs i x e =
+    let next : suc i ≡ i + 1 = omega arith in
+    drop-cons xs i x (slice_get_within xs i x e) ∙ (λ j. get_or_from_slice_get xs i x x e j ∷ drop (next j) xs)
 
 -- ---- the numbers of a run
 
-pub run_more : (old out new : List ℕ) (first c : ℕ) → first ≤ c → out ≡ old ++ words (range_with_len first (c - first)) → new ≡ out ++ word c → new ≡ old ++ words (range_with_len first (c + 1 - first))
+pub run_more : (old out new : List ℕ) (first c : ℕ) → first ≤ c → out ≡ old ++ words (range_with_len first (c - first)) → new ≡ out ++ to_be_bytes w16 c → new ≡ old ++ words (range_with_len first (c + 1 - first))
 run_more old out new first c le so_far pushed =
     let n = c - first in
     let at : first + n ≡ c = omega arith in
     let more : n + 1 ≡ c + 1 - first = omega arith in
     let split : range_with_len first (c + 1 - first) ≡ range_with_len first n ++ c ∷ [] =
-    ap (range_with_len first) (sym more) ∙ range_split first n 1 ∙ ap (λ k. range_with_len first n ++ k ∷ []) at in
+    ap (range_with_len first) (sym more) ∙ range_more first n ∙ ap (λ k. range_with_len first n ++ k ∷ []) at in
     pushed
-    ∙ ap (λ xs. xs ++ word c) so_far
-    ∙ append_assoc old (words (range_with_len first n)) (word c)
+    ∙ ap (λ xs. xs ++ to_be_bytes w16 c) so_far
+    ∙ append_assoc old (words (range_with_len first n)) (to_be_bytes w16 c)
     ∙ ap (λ xs. old ++ xs) (sym (words-append (range_with_len first n) (c ∷ [])))
     ∙ ap (λ xs. old ++ words xs) (sym split)
 
@@ -40,7 +41,7 @@ pub record IsLeft (cats old out : List ℕ) (done : ℕ) : Type 0 where
   pub is : out ++ words (numbers_of (drop done (runs_of cats))) ≡ old ++ words cats
 
 pub left_start : (cats old : List ℕ) → IsLeft cats old old 0
-left_start cats old = record { is = ap (λ xs. old ++ words xs) (cats_of_runs cats) }
+left_start cats old = record { is = ap (λ xs. old ++ words xs) (runs_have_their_numbers cats) }
 
 pub left_next : (cats old out new : List ℕ) (done : ℕ) (r : ℕ × ℕ) → slice_get (runs_of cats) done ≡ Some r → IsLeft cats old out done → new ≡ out ++ words (range_with_len r.0 (r.1 + 1 - r.0)) → IsLeft cats old new (done + 1)
 left_next cats old out new done r at seen written =
@@ -72,12 +73,12 @@ pub length-ends_down : (runs : List (ℕ × ℕ)) → length (ends_down runs) �
 length-ends_down [] = refl
 length-ends_down (r ∷ runs) = omega (arith, length-append (ends_down runs) (r.1 ∷ r.0 ∷ []), length-ends_down runs)
 
-pub ends_next : (runs : List (ℕ × ℕ)) (old out middle new : List ℕ) (i : ℕ) (r : ℕ × ℕ) → slice_get runs i ≡ Some r → out ≡ old ++ words (ends_down (drop (i + 1) runs)) → middle ≡ out ++ word r.1 → new ≡ middle ++ word r.0 → new ≡ old ++ words (ends_down (drop i runs))
+pub ends_next : (runs : List (ℕ × ℕ)) (old out middle new : List ℕ) (i : ℕ) (r : ℕ × ℕ) → slice_get runs i ≡ Some r → out ≡ old ++ words (ends_down (drop (i + 1) runs)) → middle ≡ out ++ to_be_bytes w16 r.1 → new ≡ middle ++ to_be_bytes w16 r.0 → new ≡ old ++ words (ends_down (drop i runs))
 ends_next runs old out middle new i r at so_far first second =
     let above = ends_down (drop (i + 1) runs) in
     second
-    ∙ ap (λ xs. xs ++ word r.0) (first ∙ ap (λ xs. xs ++ word r.1) so_far)
-    ∙ append_assoc (old ++ words above) (word r.1) (word r.0)
+    ∙ ap (λ xs. xs ++ to_be_bytes w16 r.0) (first ∙ ap (λ xs. xs ++ to_be_bytes w16 r.1) so_far)
+    ∙ append_assoc (old ++ words above) (to_be_bytes w16 r.1) (to_be_bytes w16 r.0)
     ∙ append_assoc old (words above) (words (r.1 ∷ r.0 ∷ []))
     ∙ ap (λ xs. old ++ xs) (sym (words-append above (r.1 ∷ r.0 ∷ [])))
     ∙ ap (λ xs. old ++ words (ends_down xs)) (sym (drop_at runs i r at))
@@ -108,16 +109,6 @@ numbers_more [] r at not = absurd (cc)
 numbers_more (x ∷ runs) r at not =
     let same : x ≡ r = cc in
     ap (λ (y : ℕ × ℕ). ends_down runs ++ y.1 ∷ (if y.0 == 0 then [] else y.0 ∷ [])) same ∙ ap (λ b. ends_down runs ++ r.1 ∷ (if b then [] else r.0 ∷ [])) (ne_eqb r.0 0 not)
-
-pub count_zero : (runs : List (ℕ × ℕ)) (r : ℕ × ℕ) → slice_get runs 0 ≡ Some r → r.0 ≡ 0 → length (range_numbers runs) + 1 ≡ 2 * length runs
-count_zero [] r at is = absurd (cc)
-count_zero (x ∷ runs) r at is =
-    omega (arith, ap length (numbers_zero (x ∷ runs) r at is), length-append (ends_down runs) (r.1 ∷ []), length-ends_down runs)
-
-pub count_more : (runs : List (ℕ × ℕ)) (r : ℕ × ℕ) → slice_get runs 0 ≡ Some r → (r.0 ≡ 0 → ⊥) → length (range_numbers runs) ≡ 2 * length runs
-count_more [] r at not = absurd (cc)
-count_more (x ∷ runs) r at not =
-    omega (arith, ap length (numbers_more (x ∷ runs) r at not), length-append (ends_down runs) (r.1 ∷ r.0 ∷ []), length-ends_down runs)
 
 pub ends_end : (runs : List (ℕ × ℕ)) (old out : List ℕ) (left : ℕ) → left ≤ 1 → (0 < length runs → 0 < left) → out ≡ old ++ words (ends_down (drop left runs)) → out ≡ old ++ words (ends_down (drop 1 runs))
 ends_end [] old out left le lowest so_far =

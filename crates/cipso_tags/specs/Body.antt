@@ -1,15 +1,21 @@
 -- What stands behind a tag's level, and the categories that it carries (FIPS 188; CIPSO draft 2.2, section 3.4).
-use Rattle.std.specs.Prelude.{ℕ, ◌≡◌, ◌<◌, ◌≤◌, Bool, false, ◌||◌, List, [], ◌∷◌, length}
+use Rattle.std.specs.Prelude.{ℕ, ◌≡◌, ◌*◌, ◌<◌, ◌≤◌, Bool, false, ◌||◌, List, [], ◌∷◌, length}
+use Rattle.std.specs.List.{flat_map}
+use Rattle.std.specs.Int.{w16, to_be_bytes}
 use Rattle.octet_grammar.specs.Octets.{IsOctets}
 use Rattle.mls_label.specs.declared.label.Tag.{Tag}
 use Rattle.mls_label.specs.declared.label.Tag.TheVariants.{One, Two, Five}
 use Rattle.mls_label.specs.Cats.{IsCats, cats_where, is_within}
 use Rattle.category_bitmap.specs.Bitmap.{bitmap_cats}
-use Rattle.cipso_tags.specs.Words.{words}
+use Rattle.cipso_tags.specs.declared.bounds.TheConstants.{MOST_OCTETS, MOST_CATEGORIES, MOST_RANGES}
+
+-- numbers of two octets each, in network order
+abbrev pub words : List ℕ → List ℕ
+words numbers = flat_map (to_be_bytes w16) numbers
 
 -- up to 30 octets of a bitmap
 pub record IsBitmap (body cats : List ℕ) : Type 0 where
-  pub room : length body ≤ 30
+  pub room : length body ≤ MOST_OCTETS
   pub octets : IsOctets body
   pub carries : cats ≡ bitmap_cats body
 
@@ -36,5 +42,5 @@ covers (top ∷ bottom ∷ numbers) c = is_within bottom top c || covers numbers
 -- type 1, a bitmap; type 2, up to 15 categories, strictly ascending; type 5, up to 7 ranges, from the highest down
 abbrev pub IsBody : Tag → List ℕ → List ℕ → Type 0
 IsBody One body cats = IsBitmap body cats
-IsBody Two body cats = IsNumbers 15 IsCats (λ numbers. numbers) body cats
-IsBody Five body cats = IsNumbers 14 (Descends 65535) (λ numbers. cats_where (covers numbers)) body cats
+IsBody Two body cats = IsNumbers MOST_CATEGORIES IsCats (λ numbers. numbers) body cats
+IsBody Five body cats = IsNumbers (2 * MOST_RANGES) (Descends 65535) (λ numbers. cats_where (covers numbers)) body cats

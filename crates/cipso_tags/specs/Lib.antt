@@ -1,6 +1,4 @@
-pub mod Words
 pub mod Body
 pub mod Tag
-pub mod Place
-pub mod Header
 pub mod Text
+pub mod inside

@@ -4,18 +4,19 @@ use Rattle.std.specs.Prelude.{ℕ, ◌≡◌, ◌+◌, ◌<◌, List, ◌∷◌,
 use Rattle.mls_label.specs.declared.label.Tag.{Tag}
 use Rattle.mls_label.specs.declared.label.Tag.TheVariants.{One, Two, Five}
 use Rattle.mls_label.specs.declared.label.Label.{Label}
+use Rattle.cipso_tags.specs.declared.bounds.TheConstants.{HEADER_OCTETS}
 use Rattle.cipso_tags.specs.Body.{IsBody}
 
 -- the number of a tag's type
-abbrev pub type_of : Tag → ℕ
-type_of One = 1
-type_of Two = 2
-type_of Five = 5
+abbrev pub tag_type : Tag → ℕ
+tag_type One = 1
+tag_type Two = 2
+tag_type Five = 5
 
 -- type, length of the whole tag, alignment octet 0, level, and the body with the label's categories
 pub record IsTag (bytes : List ℕ) (value : Tag × Label) : Type 0 where
   pub body : List ℕ
-  pub is : bytes ≡ type_of value.0 ∷ (4 + length body) ∷ 0 ∷ value.1.level ∷ body
+  pub is : bytes ≡ tag_type value.0 ∷ (HEADER_OCTETS + length body) ∷ 0 ∷ value.1.level ∷ body
   pub level : value.1.level < 256
   pub carries : IsBody value.0 body value.1.cats
 

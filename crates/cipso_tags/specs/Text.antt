@@ -6,14 +6,15 @@ use Rattle.mls_label.specs.declared.label.Tag.TheVariants.{One, Two, Five}
 use Rattle.mls_label.specs.declared.label.Label.{Label}
 use Rattle.mls_label.specs.Runs.{runs_of}
 use Rattle.category_bitmap.specs.Bitmap.{octets_needed, bitmap_of}
-use Rattle.cipso_tags.specs.Words.{words}
-use Rattle.cipso_tags.specs.Tag.{type_of}
+use Rattle.cipso_tags.specs.declared.bounds.TheConstants.{HEADER_OCTETS, HIGHEST_IN_BITMAP, MOST_CATEGORIES, MOST_RANGES}
+use Rattle.cipso_tags.specs.Body.{words}
+use Rattle.cipso_tags.specs.Tag.{tag_type}
 
--- no category above 239 in a bitmap of 30 octets; at most 15 categories; at most 7 maximal runs
+-- no category above 239, the last of 30 octets; at most 15 categories; at most 7 maximal runs
 abbrev pub fits : Tag → Label → Bool
-fits One label = list_all (λ c. nat_le c 239) label.cats
-fits Two label = nat_le (length label.cats) 15
-fits Five label = nat_le (length (runs_of label.cats)) 7
+fits One label = list_all (λ c. nat_le c HIGHEST_IN_BITMAP) label.cats
+fits Two label = nat_le (length label.cats) MOST_CATEGORIES
+fits Five label = nat_le (length (runs_of label.cats)) MOST_RANGES
 
 abbrev pub Fits : Tag → Label → Type 0
 Fits tag label = IsTrue (fits tag label)
@@ -35,7 +36,7 @@ body_text Two cats = words cats
 body_text Five cats = words (range_numbers (runs_of cats))
 
 abbrev pub tag_text : Tag → Label → List ℕ
-tag_text tag label = type_of tag ∷ (4 + length (body_text tag label.cats)) ∷ 0 ∷ label.level ∷ body_text tag label.cats
+tag_text tag label = tag_type tag ∷ (HEADER_OCTETS + length (body_text tag label.cats)) ∷ 0 ∷ label.level ∷ body_text tag label.cats
 
 -- the first of the tags that can express the label
 abbrev pub first_tag_of : List Tag → Label → Option Tag

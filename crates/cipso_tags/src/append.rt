@@ -1,10 +1,11 @@
 //! Written numbers of two octets: one, those of a run, those of a set, the ends of its runs.
 
 ghost use Rattle.std.specs.Prelude.{◌≡◌, ◌+◌, ◌*◌, ◌-◌, ◌<◌, ◌≤◌, ◌++◌, length, drop};
+ghost use Rattle.std.specs.Int.{w16, to_be_bytes};
 ghost use Rattle.std.specs.List.{range_with_len};
 ghost use Rattle.arrayvec.specs.ArrayVec.{array_vec_len};
 ghost use Rattle.mls_label.specs.Runs.{runs_of};
-ghost use Rattle.cipso_tags.specs.Words.{word, words};
+ghost use Rattle.cipso_tags.specs.Body.{words};
 ghost use Rattle.cipso_tags.specs.Text.{ends_down, range_numbers};
 
 use arrayvec::ArrayVec;
@@ -28,7 +29,7 @@ fn append_run<const N: usize>(first: u16, last: u16, out: &mut ArrayVec<u8, N>)
     ensures { out.new.items ≡ out.old.items ++ words (range_with_len first (last + 1 - first)) }
 {
     for category in first..last + 1 {
-        append_word(category, out);
+        append_number(category, out);
     }
 }
 
@@ -42,9 +43,9 @@ pub(crate) fn append_ranges<const N: usize>(cats: &CatSet, out: &mut ArrayVec<u8
         return;
     }
     let (bottom, top) = cats.run(0);
-    append_word(top, out);
+    append_number(top, out);
     if bottom != 0 {
-        append_word(bottom, out);
+        append_number(bottom, out);
     }
 }
 
@@ -56,15 +57,16 @@ fn append_upper_ranges<const N: usize>(cats: &CatSet, out: &mut ArrayVec<u8, N>)
     while left > 1 {
         left -= 1;
         let (bottom, top) = cats.run(left);
-        append_word(top, out);
-        append_word(bottom, out);
+        append_number(top, out);
+        append_number(bottom, out);
     }
 }
 
-fn append_word<const N: usize>(number: u16, out: &mut ArrayVec<u8, N>)
+fn append_number<const N: usize>(number: u16, out: &mut ArrayVec<u8, N>)
     requires { array_vec_len out.old + 2 ≤ N }
-    ensures { out.new.items ≡ out.old.items ++ word number }
+    ensures { out.new.items ≡ out.old.items ++ to_be_bytes w16 number }
 {
-    out.push((number / 256) as u8);
-    out.push((number % 256) as u8);
+    let [high, low] = number.to_be_bytes();
+    out.push(high);
+    out.push(low);
 }

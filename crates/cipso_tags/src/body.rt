@@ -1,20 +1,17 @@
 //! The body of a tag, as long as its header says.
 
-ghost use Rattle.std.specs.Prelude.{◌≡◌, ◌+◌, ◌*◌, ◌||◌, ◌<◌, ◌≤◌, IsTrue, MatchBool, length, IfOk, IfErr, OnOk};
+ghost use Rattle.std.specs.Prelude.{◌≡◌, ◌+◌, ◌*◌, ◌≤◌, IsTrue, MatchBool, length, IfOk, IfErr, OnOk};
 ghost use Rattle.octet_grammar.specs.Front.{ReadsFront};
 ghost use Rattle.octet_grammar.specs.Fault.{FailsFront};
 ghost use Rattle.mls_label.specs.declared.label.Tag.TheVariants.{One, Two, Five};
-ghost use Rattle.mls_label.specs.Cats.{has, cats_where, is_within};
-ghost use Rattle.mls_label.specs.Runs.{runs_of};
 ghost use Rattle.cipso_tags.specs.Body.{IsBody};
-ghost use Rattle.cipso_tags.specs.Tag.{HasLength};
-ghost use Rattle.cipso_tags.specs.Header.{IsSized};
-ghost use Rattle.cipso_tags.specs.Place.{FaultsInNumber, IsNumberAt};
+ghost use Rattle.octet_grammar.specs.Place.{FaultsInNumber, IsNumberAt};
+ghost use Rattle.cipso_tags.specs.inside.Header.{IsSize, IsSized};
 
-use crate::number::number_in;
+use crate::bounds::{HIGHEST_CATEGORY, MOST_CATEGORIES, MOST_OCTETS, MOST_RANGES};
 use category_bitmap::read_bitmap;
-use mls_label::{CatSet, Tag, TooManyRuns, WireFault};
-use octet_grammar::ended;
+use mls_label::{CatSet, Tag, WireFault};
+use octet_grammar::{ended, number_in};
 
 /// Reads the categories that the first `size` octets carry, in place of those that the set has.
 pub(crate) fn read_body(
@@ -23,7 +20,7 @@ pub(crate) fn read_body(
     size: usize,
     cats: &mut CatSet,
 ) -> Result<(), WireFault>
-    requires { HasLength tag (4 + size) }
+    requires { IsSize tag size }
     ensures ok { OnOk result (ReadsFront (IsSized size (IsBody tag)) bytes.now cats.new size) }
     ensures err { IfErr result (λ e. FailsFront (IsSized size (IsBody tag)) bytes.now e) }
 {
@@ -35,7 +32,7 @@ pub(crate) fn read_body(
 }
 
 fn read_bits(bytes: &[u8], size: usize, cats: &mut CatSet) -> Result<(), WireFault>
-    requires { size ≤ 30 }
+    requires { size ≤ MOST_OCTETS }
     ensures ok { OnOk result (ReadsFront (IsSized size (IsBody One)) bytes.now cats.new size) }
     ensures err { IfErr result (λ e. FailsFront (IsSized size (IsBody One)) bytes.now e) }
 {
@@ -47,36 +44,36 @@ fn read_bits(bytes: &[u8], size: usize, cats: &mut CatSet) -> Result<(), WireFau
 }
 
 fn read_enumeration(bytes: &[u8], count: usize, cats: &mut CatSet) -> Result<(), WireFault>
-    requires { count ≤ 15 }
+    requires { count ≤ MOST_CATEGORIES }
     ensures ok { OnOk result (ReadsFront (IsSized (2 * count) (IsBody Two)) bytes.now cats.new (2 * count)) }
     ensures err { IfErr result (λ e. FailsFront (IsSized (2 * count) (IsBody Two)) bytes.now e) }
 {
     cats.clear();
     let mut low = 0;
     for read in 0..count {
-        // The categories after this one need room below 65535.
+        // The categories after this one need room above it.
         let later = (count - 1 - read) as u16;
-        let category = number_in(bytes, 2 * read, low, 65534 - later)?;
-        add(cats, category, category);
+        let category = number_in(bytes, 2 * read, low, HIGHEST_CATEGORY - later)?;
+        cats.insert_run(category, category);
         low = category + 1;
     }
     Ok(())
 }
 
 fn read_ranges(bytes: &[u8], count: usize, cats: &mut CatSet) -> Result<(), WireFault>
-    requires { count ≤ 14 }
+    requires { count ≤ 2 * MOST_RANGES }
     ensures ok { OnOk result (ReadsFront (IsSized (2 * count) (IsBody Five)) bytes.now cats.new (2 * count)) }
     ensures err { IfErr result (λ e. FailsFront (IsSized (2 * count) (IsBody Five)) bytes.now e) }
 {
     cats.clear();
-    let mut upper: u16 = 65535;
+    let mut upper = HIGHEST_CATEGORY + 1;
     let ranges = (count + 1) / 2;
     for read in 0..ranges {
         // Each of the ranges after this one needs a number of its own.
         let later = (ranges - 1 - read) as u16;
         let top = number_in(bytes, 4 * read, later, upper - 1)?;
         let bottom = bottom_in(bytes, 4 * read + 2, 2 * read + 1 < count, later, top)?;
-        add(cats, bottom, top);
+        cats.insert_run(bottom, top);
         upper = bottom;
     }
     Ok(())
@@ -92,19 +89,5 @@ fn bottom_in(bytes: &[u8], at: usize, is_there: bool, low: u16, top: u16) -> Res
         number_in(bytes, at, low, top)
     } else {
         Ok(0)
-    }
-}
-
-// Adds a run to a set of few runs.
-fn add(cats: &mut CatSet, first: u16, last: u16)
-    requires order { first ≤ last }
-    requires categories { last < 65535 }
-    requires few { length (runs_of cats.old) < 1952 }
-    ensures cats { cats.new ≡ cats_where (λ c. has cats.old c || is_within first last c) }
-    ensures one_more { length (runs_of cats.new) ≤ length (runs_of cats.old) + 1 }
-{
-    match cats.add_run(first, last) {
-        Ok(()) => {}
-        Err(TooManyRuns) => unreachable!(),
     }
 }

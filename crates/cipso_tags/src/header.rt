@@ -3,9 +3,10 @@
 ghost use Rattle.std.specs.Prelude.{◌≡◌, ◌↔◌, IsTrue, MatchOption, IfOk, IfErr};
 ghost use Rattle.octet_grammar.specs.Fault.{FailsFront};
 ghost use Rattle.mls_label.specs.declared.label.Tag.{Tag};
-ghost use Rattle.cipso_tags.specs.Tag.{type_of, IsTag, HasLength};
-ghost use Rattle.cipso_tags.specs.Header.{BeginsWith, IsSize};
+ghost use Rattle.cipso_tags.specs.Tag.{tag_type, IsTag, HasLength};
+ghost use Rattle.cipso_tags.specs.inside.Header.{BeginsWith, IsSize};
 
+use crate::bounds::{HEADER_OCTETS, MOST_CATEGORIES, MOST_OCTETS, MOST_RANGES};
 use mls_label::{Tag, WireFault};
 use octet_grammar::{octet_at, unfit};
 
@@ -20,7 +21,7 @@ pub(crate) struct Header {
 
 /// The tag with this type octet: 1, 2 or 5.
 pub fn tag_of_type(octet: u8) -> Option<Tag>
-    ensures { MatchOption result ((tag : Tag) → type_of tag ≡ octet → ⊥) (λ tag. type_of tag ≡ octet) }
+    ensures { MatchOption result ((tag : Tag) → tag_type tag ≡ octet → ⊥) (λ tag. tag_type tag ≡ octet) }
 {
     match octet {
         1 => Some(Tag::One),
@@ -34,18 +35,18 @@ pub fn tag_of_type(octet: u8) -> Option<Tag>
 pub fn has_length(tag: Tag, length: u8) -> bool
     ensures { IsTrue result ↔ HasLength tag length }
 {
-    is_size(tag, length)
+    let length = usize::from(length);
+    length >= HEADER_OCTETS && is_size(tag, length - HEADER_OCTETS)
 }
 
-fn is_size(tag: Tag, length: u8) -> bool
-    ensures { IsTrue result ↔ IsSize tag length }
+fn is_size(tag: Tag, size: usize) -> bool
+    ensures { IsTrue result ↔ IsSize tag size }
 {
-    let (most, step) = match tag {
-        Tag::One => (34, 1),
-        Tag::Two => (34, 2),
-        Tag::Five => (32, 2),
-    };
-    length >= 4 && length <= most && length % step == 0
+    match tag {
+        Tag::One => size <= MOST_OCTETS,
+        Tag::Two => size <= 2 * MOST_CATEGORIES && size % 2 == 0,
+        Tag::Five => size <= 4 * MOST_RANGES && size % 2 == 0,
+    }
 }
 
 /// The header at the front of the octets.

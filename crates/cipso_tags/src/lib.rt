@@ -5,15 +5,16 @@
 
 mod append;
 mod body;
+mod bounds;
 mod header;
 pub mod laws;
-mod number;
 mod tag;
 mod write;
 
+pub use bounds::{HIGHEST_IN_BITMAP, MOST_CATEGORIES, MOST_RANGES, TAG_OCTETS};
 pub use header::{has_length, tag_of_type};
 pub use tag::{read_tag, read_tag_into};
-pub use write::{append_tag, can_express, tag_octets, write_tag};
+pub use write::{append_tag, can_express, write_tag};
 
 #[cfg(test)]
 mod tests;

@@ -6,9 +6,10 @@ ghost use Rattle.octet_grammar.specs.Fault.{FailsFront};
 ghost use Rattle.cipso_tags.specs.Tag.{IsTag};
 
 use crate::body::read_body;
+use crate::bounds::HEADER_OCTETS;
 use crate::header::read_header;
 use mls_label::{Label, Tag, WireFault};
-use octet_grammar::moved_fault;
+use octet_grammar::moved;
 
 /// The tag at the front of the octets, its label, and how many octets it has (FIPS 188; CIPSO draft 2.2, section 3.4).
 /// A fault stands at the first octet that no tag with the octets before it has there.
@@ -27,10 +28,10 @@ pub fn read_tag_into(bytes: &[u8], label: &mut Label) -> Result<(Tag, usize), Wi
     ensures err { IfErr result (λ e. FailsFront IsTag bytes.now e) }
 {
     let header = read_header(bytes)?;
-    let length = header.length as usize;
+    let length = usize::from(header.length);
     label.level = header.level;
-    match read_body(header.tag, &bytes[4..], length - 4, &mut label.cats) {
-        Ok(()) => Ok((header.tag, length)),
-        Err(fault) => Err(moved_fault(fault, 4, bytes.len() - 4)),
-    }
+    let body = &bytes[HEADER_OCTETS..];
+    let read = read_body(header.tag, body, length - HEADER_OCTETS, &mut label.cats);
+    moved(read, HEADER_OCTETS, body.len())?;
+    Ok((header.tag, length))
 }

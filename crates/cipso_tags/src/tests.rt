@@ -1,6 +1,6 @@
 use super::*;
 use arrayvec::ArrayVec;
-use mls_label::{CatSet, Tag, WireFault, WireKind};
+use mls_label::{CatSet, Label, Tag, WireFault, WireKind};
 use std::test::Fail;
 
 const OCTET: WireKind = WireKind::Octet;
@@ -126,8 +126,8 @@ fn has_runs(cats: &CatSet, runs: &[(u16, u16)]) -> bool {
     true
 }
 
-// With ample memory each of these is read, whatever stands behind it; and it is written as the octets behind it, which
-// are fewer where zero octets or a bottom of 0 were there.
+// Each of these is read whole, and written as the octets behind it, which are fewer where zero octets or a bottom of 0
+// were there.
 #[test]
 fn each_tag_is_read_and_written_again(rt: HostRuntime) -> Result<(), Fail> {
     let cases: [(&[u8], Tag, u8, &[(u16, u16)], &[u8]); 16] = [
@@ -154,7 +154,7 @@ fn each_tag_is_read_and_written_again(rt: HostRuntime) -> Result<(), Fail> {
             &[1, 6, 0, 255, 0x01, 0xff],
         ),
         (
-            &[1, 5, 0, 0, 0xff, 0x80],
+            &[1, 5, 0, 0, 0xff],
             Tag::One,
             0,
             &[(0, 7)],
@@ -227,7 +227,8 @@ fn each_tag_is_read_and_written_again(rt: HostRuntime) -> Result<(), Fail> {
         ),
     ];
     for (octets, kind, level, runs, text) in cases {
-        let (tag, label, _length) = read_tag(octets)?;
+        let (tag, label, length) = read_tag(octets)?;
+        assert_eq!(rt; length, octets.len(), "{octets:?}");
         assert_eq!(rt; tag, kind, "{octets:?}");
         assert_eq!(rt; label.level, level, "{octets:?}");
         assert!(rt; has_runs(&label.cats, runs), "{octets:?}");
@@ -235,6 +236,65 @@ fn each_tag_is_read_and_written_again(rt: HostRuntime) -> Result<(), Fail> {
         let mut out = ArrayVec::new();
         write_tag(tag, &label, &mut out);
         assert_eq!(rt; out.as_slice(), text, "{octets:?}");
+    }
+    Ok(())
+}
+
+// What stands behind a tag isn't its own.
+#[test]
+fn a_tag_ends_where_its_length_says(rt: HostRuntime) -> Result<(), Fail> {
+    let cases: [(&[u8], usize); 4] = [
+        (&[1, 4, 0, 7, 1, 4], 4),
+        (&[1, 5, 0, 2, 0x50, 0xff], 5),
+        (&[2, 6, 0, 9, 0, 3, 0, 4], 6),
+        (&[5, 6, 0, 1, 0, 9, 0, 4], 6),
+    ];
+    for (octets, ends) in cases {
+        let (_tag, _label, length) = read_tag(octets)?;
+        assert_eq!(rt; length, ends, "{octets:?}");
+    }
+    Ok(())
+}
+
+fn label_of(runs: &[(u16, u16)]) -> Result<Label, Fail> {
+    let mut label = Label::lowest();
+    for (first, last) in runs {
+        if first <= last && *last < 65535 {
+            label.cats.add_run(*first, *last)?;
+        }
+    }
+    Ok(label)
+}
+
+// Worked by hand: the highest category of a bitmap, 15 categories, 7 runs, and one more of each.
+#[test]
+fn a_tag_expresses_what_it_has_room_for(rt: HostRuntime) -> Result<(), Fail> {
+    let seven: &[(u16, u16)] = &[(0, 0), (2, 2), (4, 4), (6, 6), (8, 8), (10, 10), (12, 12)];
+    let eight: &[(u16, u16)] = &[
+        (0, 0),
+        (2, 2),
+        (4, 4),
+        (6, 6),
+        (8, 8),
+        (10, 10),
+        (12, 12),
+        (14, 14),
+    ];
+    let cases: [(&[(u16, u16)], bool, bool, bool); 8] = [
+        (&[], true, true, true),
+        (&[(239, 239)], true, true, true),
+        (&[(240, 240)], false, true, true),
+        (&[(0, 14)], true, true, true),
+        (&[(0, 15)], true, false, true),
+        (&[(0, 300)], false, false, true),
+        (seven, true, true, true),
+        (eight, true, true, false),
+    ];
+    for (runs, one, two, five) in cases {
+        let label = label_of(runs)?;
+        assert_eq!(rt; can_express(Tag::One, &label), one, "{runs:?}");
+        assert_eq!(rt; can_express(Tag::Two, &label), two, "{runs:?}");
+        assert_eq!(rt; can_express(Tag::Five, &label), five, "{runs:?}");
     }
     Ok(())
 }

@@ -1,15 +1,15 @@
--- The general laws of faults: one for a fault at a place whose octets are known, one for a grammar within another,
--- two for texts that are read as a whole.
-use Rattle.std.proofs.Common.{◌≡◌, ℕ, zero, suc, ◌+◌, ◌-◌, ◌<◌, ◌≤◌, List, [], ◌∷◌, ◌++◌, length, get_or, take, drop, refl, sym, ap, subst, ◌∙◌, append_assoc, arith, inl, inr}
+-- The general laws of faults: one for a fault at a place whose octets are known, one for a grammar within another.
+use Rattle.std.proofs.Common.{◌≡◌, ℕ, ◌+◌, ◌-◌, ◌<◌, ◌≤◌, List, ◌++◌, length, take, refl, sym, ap, subst, ◌∙◌, append_assoc, arith, inl, inr}
 use Rattle.std.specs.Prelude.{slice_index}
 use Rattle.std.proofs.lemmas.Bool.{cases_lt}
-use Rattle.std.proofs.lemmas.List.{append-nil, take-append-drop, take-append-le, length-take, length-append, take_all}
+use Rattle.std.proofs.Math.Seq.{take-append-add}
+use Rattle.std.proofs.lemmas.List.{take-take, length-take, length-append, take_all}
 use Rattle.octet_grammar.specs.declared.fault.WireKind.{WireKind}
 use Rattle.octet_grammar.specs.declared.fault.WireKind.TheVariants.{Octet, End}
 use Rattle.octet_grammar.specs.declared.fault.WireFault.{WireFault}
 use Rattle.octet_grammar.specs.Front.{IsFront, IsNoMember, HasNoMember, IsPrefixFree, ReadsFront}
 use Rattle.octet_grammar.specs.Fault.{StopsAt, IsFault, FailsFront, IsUnfit}
-use Rattle.octet_grammar.proofs.Fronts.{take-take, take_agree_less, at_agree, long_agree, take_front, front_of_member, front_take, front_less, member_long}
+use Rattle.octet_grammar.proofs.Fronts.{take_agree_less, at_agree, long_agree, take_front, front_of_member, front_take, front_less, member_long}
 
 -- Each member that agrees with s on the first o octets goes on with an octet that passes P.
 abbrev pub HasAt : {V : Type 0} → (List ℕ → V → Type 0) → List ℕ → ℕ → (ℕ → Type 0) → Type 0
@@ -69,12 +69,6 @@ pub record IsWithin {V W : Type 0} (to : V → W) (G : List ℕ → V → Type 0
   pub into : (t : List ℕ) (v : V) → take i t ≡ take i s → G t v → H (p ++ t) (to v)
   pub back : (t : List ℕ) (w : W) → take i t ≡ take i s → H (p ++ t) w → (v : V) × G t v
 
-take_past : (p s : List ℕ) (n : ℕ) → take (length p + n) (p ++ s) ≡ p ++ take n s
-take_past [] s n = ap (λ k. take k s) (omega arith)
-take_past (x ∷ p) s n =
-    let e : length (x ∷ p) + n ≡ suc (length p + n) = omega arith in
-    ap (λ k. take k (x ∷ (p ++ s))) e ∙ ap (λ t. x ∷ t) (take_past p s n)
-
 front_under : {V W : Type 0} (to : V → W) (G : List ℕ → V → Type 0) (H : List ℕ → W → Type 0) (p s : List ℕ) (i o : ℕ) → i ≤ length s → o ≤ length s → i ≤ o → IsWithin to G H p s i → IsFront G (take o s) → IsFront H (p ++ take o s)
 front_under to G H p s i o le le2 io within f =
     let t = take o s ++ f.more in
@@ -89,7 +83,8 @@ front_back to G H p s i o le io within f =
     let b = within.back t f.value agree (subst (λ x. H x f.value) (append_assoc p (take o s) f.more) f.member) in
     record { more = f.more; value = b.0; member = b.1 }
 
-fault_within : {V : Type 0} (G : List ℕ → V → Type 0) (s : List ℕ) (o : ℕ) (k : WireKind) → StopsAt G s o k → o ≤ length s
+-- A fault stands within its string.
+pub fault_within : {V : Type 0} (G : List ℕ → V → Type 0) (s : List ℕ) (o : ℕ) (k : WireKind) → StopsAt G s o k → o ≤ length s
 fault_within G s o Octet stops = omega (arith, stops.0)
 fault_within G s o End stops = omega (arith, stops.0)
 
@@ -97,12 +92,12 @@ none_under : {V W : Type 0} (to : V → W) (G : List ℕ → V → Type 0) (H : 
 none_under to G H free p s i le within front none n w m =
     elim (cases_lt n (length p + i)) [
       | inl lt ↦
-          let hf : IsFront H (take (length p + i) (p ++ s)) = subst (IsFront H) (sym (take_past p s i)) (front_under to G H p s i i le le (omega arith) within front) in
+          let hf : IsFront H (take (length p + i) (p ++ s)) = subst (IsFront H) (sym (take-append-add p s i)) (front_under to G H p s i i le le (omega arith) within front) in
           member_long H free (p ++ s) n (length p + i) w (omega (arith, length-append p s)) hf m lt
       | inr ge ↦
           let j = n - length p in
           let e : n ≡ length p + j = omega arith in
-          let at : take n (p ++ s) ≡ p ++ take j s = ap (λ k. take k (p ++ s)) e ∙ take_past p s j in
+          let at : take n (p ++ s) ≡ p ++ take j s = ap (λ k. take k (p ++ s)) e ∙ take-append-add p s j in
           let b = within.back (take j s) w (take-take i j s (omega arith)) (subst (λ x. H x w) at m) in
           none j b.0 b.1
     ]
@@ -112,7 +107,7 @@ stops_under to G H p s i o Octet le within front none stops = (
   omega (arith, stops.0, length-append p s),
   λ hf.
       let e : length p + o + 1 ≡ length p + (o + 1) = omega arith in
-      let at : take (length p + o + 1) (p ++ s) ≡ p ++ take (o + 1) s = ap (λ k. take k (p ++ s)) e ∙ take_past p s (o + 1) in
+      let at : take (length p + o + 1) (p ++ s) ≡ p ++ take (o + 1) s = ap (λ k. take k (p ++ s)) e ∙ take-append-add p s (o + 1) in
       elim (cases_lt (o + 1) i) [
         | inl lt ↦ stops.1 (front_less G (o + 1) i s (omega arith) front)
         | inr ge ↦ stops.1 (front_back to G H p s i (o + 1) (omega (arith, stops.0)) ge within (subst (IsFront H) at hf))
@@ -130,11 +125,11 @@ fails_under to G H free p s i f g le within front fails at kind =
     let part : IsFront H (p ++ take o s) =
     elim (cases_lt o i) [
       | inl lt ↦
-          let hf : IsFront H (take (length p + i) (p ++ s)) = subst (IsFront H) (sym (take_past p s i)) (front_under to G H p s i i le le (omega arith) within front) in
-          subst (IsFront H) (take_past p s o) (front_less H (length p + o) (length p + i) (p ++ s) (omega arith) hf)
+          let hf : IsFront H (take (length p + i) (p ++ s)) = subst (IsFront H) (sym (take-append-add p s i)) (front_under to G H p s i i le le (omega arith) within front) in
+          subst (IsFront H) (take-append-add p s o) (front_less H (length p + o) (length p + i) (p ++ s) (omega arith) hf)
       | inr ge ↦ front_under to G H p s i o le small ge within fails.fault.front
     ] in
-    let here : IsFront H (take (length p + o) (p ++ s)) = subst (IsFront H) (sym (take_past p s o)) part in
+    let here : IsFront H (take (length p + o) (p ++ s)) = subst (IsFront H) (sym (take-append-add p s o)) part in
     let stops : StopsAt H (p ++ s) (length p + o) f.kind = stops_under to G H p s i o f.kind le within front none fails.fault.stops in
     record {
       none = none;
@@ -148,25 +143,7 @@ pub reads_under : {V W : Type 0} (to : V → W) (G : List ℕ → V → Type 0) 
 reads_under to G H p s i n v le within reads =
     record {
       within = omega (arith, reads.within, length-append p s);
-      member = subst (λ x. H x (to v)) (sym (take_past p s n)) (within.into (take n s) v (take-take i n s le) reads.member);
-    }
-
--- A text that is read as a whole: the octet at o is none that a member may have there.
-pub whole_octet : {V : Type 0} (G : List ℕ → V → Type 0) (s : List ℕ) (o : ℕ) (P : ℕ → Type 0) (f : WireFault) → o < length s → IsFront G (take o s) → MayHaveAt G s o P → (P (slice_index s o) → ⊥) → f.octet ≡ o → f.kind ≡ Octet → IsFault G s f
-whole_octet G s o P f lt front has not at kind =
-    let stops : StopsAt G s o Octet = (lt, stops_at G s o P lt has not) in
-    record {
-      front = subst (λ i. IsFront G (take i s)) (sym at) front;
-      stops = subst (λ i. StopsAt G s i f.kind) (sym at) (subst (StopsAt G s o) (sym kind) stops);
-    }
-
--- It ends early.
-pub whole_end : {V : Type 0} (G : List ℕ → V → Type 0) (s : List ℕ) (f : WireFault) → IsFront G s → IsNoMember G s → f.octet ≡ length s → f.kind ≡ End → IsFault G s f
-whole_end G s f front none at kind =
-    let stops : StopsAt G s (length s) End = (refl, none) in
-    record {
-      front = subst (λ i. IsFront G (take i s)) (sym at) (subst (IsFront G) (sym (take_all (length s) s (omega arith))) front);
-      stops = subst (λ i. StopsAt G s i f.kind) (sym at) (subst (StopsAt G s (length s)) (sym kind) stops);
+      member = subst (λ x. H x (to v)) (sym (take-append-add p s n)) (within.into (take n s) v (take-take i n s le) reads.member);
     }
 
 -- A member is no fault of the whole text: where there is a fault there is no member.

@@ -1,14 +1,7 @@
 -- Fronts of members: closed under shortening, and found by a member that agrees so far.
-use Rattle.std.proofs.Common.{◌≡◌, ℕ, zero, suc, ◌+◌, ◌-◌, ◌<◌, ◌≤◌, List, [], ◌∷◌, ◌++◌, length, get_or, take, drop, refl, sym, ap, subst, ◌∙◌, append_assoc, arith, inl, inr}
-use Rattle.std.proofs.lemmas.Bool.{cases_lt}
-use Rattle.std.proofs.lemmas.List.{append-nil, take-append-drop, take-append-le, length-take, length-take-le, length-append, get_or-take, get_or_append_left, nil_from_length, take_all}
+use Rattle.std.proofs.Common.{◌≡◌, ℕ, ◌<◌, ◌≤◌, List, [], ◌++◌, length, get_or, take, drop, sym, ap, subst, ◌∙◌, append_assoc, arith}
+use Rattle.std.proofs.lemmas.List.{append-nil, take-take, take-append-drop, take-append-le, length-take, length-append, get_or-take, nil_from_length}
 use Rattle.octet_grammar.specs.Front.{IsFront, IsPrefixFree}
-
-pub take-take : {X : Type 0} (m n : ℕ) (xs : List X) → m ≤ n → take m (take n xs) ≡ take m xs
-take-take zero n xs le = refl
-take-take (suc m) zero xs le = absurd (omega arith)
-take-take (suc m) (suc n) [] le = refl
-take-take (suc m) (suc n) (x ∷ xs) le = ap (λ t. x ∷ t) (take-take m n xs (omega arith))
 
 -- what agrees with s on n octets agrees on fewer
 pub take_agree_less : (m n : ℕ) (t s : List ℕ) → m ≤ n → take n t ≡ take n s → take m t ≡ take m s
@@ -53,3 +46,10 @@ member_long G free s n o v le f m lt =
     let same = free (take n s) (drop n (take o s) ++ f.more) v f.value m (subst (λ x. G x f.value) (sym whole) f.member) in
     let e : length (take o s ++ f.more) ≡ length (take n s) = ap length (sym whole ∙ same.0) in
     omega (arith, e, length-append (take o s) f.more, length-take o s, length-take n s)
+
+-- Where a member's front can be no shorter member, and each member has one value, no member begins another.
+pub free_by_length : {V : Type 0} (G : List ℕ → V → Type 0) → ((a b : List ℕ) (v w : V) → G a v → G (a ++ b) w → length (a ++ b) ≡ length a) → ((t : List ℕ) (v w : V) → G t v → G t w → v ≡ w) → IsPrefixFree G
+free_by_length G long once a b v w m n =
+    let none : b ≡ [] = nil_from_length b (omega (arith, long a b v w m n, length-append a b)) in
+    let whole : a ++ b ≡ a = ap (λ x. a ++ x) none ∙ append-nil a in
+    (whole, once a v w m (subst (λ x. G x w) whole n))

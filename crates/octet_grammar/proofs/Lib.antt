@@ -1,4 +1,6 @@
+pub mod Octets
+pub mod Numbers
 pub mod Fronts
 pub mod Faults
 pub mod Places
-pub mod Octets
+pub mod Layouts

@@ -1,4 +1,5 @@
 pub mod Octets
 pub mod Front
 pub mod Fault
+pub mod Numbers
 pub mod Place

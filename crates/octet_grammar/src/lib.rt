@@ -4,7 +4,9 @@
 #![tactic(auto)]
 
 mod fault;
+mod number;
 mod octet;
 
 pub use fault::{WireFault, WireKind};
-pub use octet::{ended, moved_fault, octet_at, unfit};
+pub use number::{nonzero_at, number_in, u16_at, u32_at};
+pub use octet::{ended, moved, octet_at, unfit};

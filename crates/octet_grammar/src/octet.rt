@@ -1,6 +1,6 @@
 //! Readers of single octets, and the places of faults.
 
-ghost use Rattle.std.specs.Prelude.{◌≡◌, ◌+◌, ◌^◌, ◌<◌, ◌≤◌, length, slice_index, IfOk, IfErr};
+ghost use Rattle.std.specs.Prelude.{◌≡◌, ◌+◌, ◌^◌, ◌<◌, ◌≤◌, length, slice_index, IfOk, IfErr, MatchResult, Ok, Err};
 ghost use Rattle.octet_grammar.specs.Place.{EndsAt, moved_by};
 
 use crate::{WireFault, WireKind};
@@ -37,14 +37,17 @@ pub fn octet_at(bytes: &[u8], at: usize) -> Result<u8, WireFault>
     Ok(bytes[at])
 }
 
-/// The fault of a part of `length` octets, counted from `before` octets before the part.
-pub fn moved_fault(fault: WireFault, before: usize, length: usize) -> WireFault
-    requires within { fault.octet ≤ length }
+/// What the reader of a part of `length` octets answered, its fault counted from `before` octets before the part.
+pub fn moved<T>(read: Result<T, WireFault>, before: usize, length: usize) -> Result<T, WireFault>
+    requires within { IfErr read (λ f. f.octet ≤ length) }
     requires fits { before + length < 2 ^ 64 }
-    ensures { result ≡ moved_by before fault }
+    ensures { MatchResult read (λ x. result ≡ Ok x) (λ f. result ≡ Err (moved_by before f)) }
 {
-    WireFault {
-        octet: before + fault.octet,
-        kind: fault.kind,
+    match read {
+        Ok(value) => Ok(value),
+        Err(fault) => Err(WireFault {
+            octet: before + fault.octet,
+            kind: fault.kind,
+        }),
     }
 }

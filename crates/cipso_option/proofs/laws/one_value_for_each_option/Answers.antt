@@ -1,5 +1,5 @@
-use Rattle.cipso_option.proofs.Options.{options_free}
+use Rattle.cipso_option.proofs.Law.{one_value_for_each_option}
 use Rattle.cipso_option.proofs.laws.one_value_for_each_option.Goals as goal
 
 pub returns : goal.returns
-returns c = options_free
+returns c = one_value_for_each_option

@@ -1,6 +1,6 @@
 use Rattle.std.proofs.Common.{◌≡◌, ◌-◌, ◌++◌}
 use Rattle.std.specs.List.{range_with_len}
-use Rattle.cipso_tags.specs.Words.{words}
+use Rattle.cipso_tags.specs.Body.{words}
 use Rattle.cipso_tags.proofs.append.append_run.Given as goal
 
 abbrev pub invariant-loop-category : goal.invariant-loop-category

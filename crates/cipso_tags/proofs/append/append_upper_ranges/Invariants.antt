@@ -1,6 +1,6 @@
 use Rattle.std.proofs.Common.{◌≡◌, ◌≤◌, ◌<◌, ◌++◌, length, drop}
 use Rattle.mls_label.specs.Runs.{runs_of}
-use Rattle.cipso_tags.specs.Words.{words}
+use Rattle.cipso_tags.specs.Body.{words}
 use Rattle.cipso_tags.specs.Text.{ends_down}
 use Rattle.cipso_tags.proofs.append.append_upper_ranges.Given as goal
 

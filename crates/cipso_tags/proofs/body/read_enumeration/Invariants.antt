@@ -1,7 +1,7 @@
 use Rattle.std.proofs.Common.{◌≡◌, ◌+◌, ◌*◌, ◌≤◌, length, take}
 use Rattle.mls_label.specs.Cats.{Ascends, IsCats}
 use Rattle.mls_label.specs.Runs.{runs_of}
-use Rattle.cipso_tags.specs.Words.{words}
+use Rattle.cipso_tags.specs.Body.{words}
 use Rattle.cipso_tags.proofs.Numbers.{IsAfter}
 use Rattle.cipso_tags.proofs.body.read_enumeration.Given as goal
 

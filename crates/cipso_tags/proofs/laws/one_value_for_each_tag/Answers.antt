@@ -1,5 +1,5 @@
-use Rattle.cipso_tags.proofs.Headers.{tags_free}
+use Rattle.cipso_tags.proofs.Law.{one_value_for_each_tag}
 use Rattle.cipso_tags.proofs.laws.one_value_for_each_tag.Goals as goal
 
 pub returns : goal.returns
-returns c = tags_free
+returns c = one_value_for_each_tag
