@@ -6,7 +6,7 @@ use Rattle.std.proofs.lemmas.Nat.Bits.{bit_at-zero}
 use Rattle.std.proofs.lemmas.List.{get_or_past}
 use Rattle.std.specs.Int.{bit_at}
 use Rattle.mls_label.specs.Cats.{has, cats_where, is_within}
-use Rattle.mls_label.proofs.Cats.{cats_where_is, cats_where_same, has-cats_where}
+use Rattle.mls_label.proofs.Law.{sets_of_a_test_have_what_passes, sets_are_what_they_have, equal_tests_give_equal_sets}
 use Rattle.category_bitmap.specs.Bitmap.{has_bit, bitmap_cats}
 
 -- behind the last octet no bit is 1
@@ -29,7 +29,7 @@ none_below b c first zeros =
 
 pub below_start : (bitmap : List ℕ) (first : ℕ) → ((c : ℕ) → 0 ≤ c → c < first → has_bit bitmap c ≡ false) → [] ≡ cats_below bitmap first
 below_start bitmap first zeros =
-    cats_where_is [] (λ c. has_bit bitmap c && nat_lt c first) tt (λ c lt. none_below (has_bit bitmap c) c first (zeros c (omega arith)))
+    sets_are_what_they_have [] (λ c. has_bit bitmap c && nat_lt c first) tt (λ c lt. none_below (has_bit bitmap c) c first (zeros c (omega arith)))
 
 one_more : (b : Bool) (c first after next : ℕ) → first < after → after ≤ next → (first ≤ c → c < after → b ≡ true) → (after ≤ c → c < next → b ≡ false) → ((b && nat_lt c first) || is_within first (after - 1) c) ≡ (b && nat_lt c next)
 one_more b c first after next lt le ones zeros =
@@ -48,10 +48,10 @@ one_more b c first after next lt le ones zeros =
 pub below_more : (bitmap cats new : List ℕ) (first after next : ℕ) → first < after → after ≤ next → cats ≡ cats_below bitmap first → new ≡ cats_where (λ c. has cats c || is_within first (after - 1) c) → ((c : ℕ) → first ≤ c → c < after → has_bit bitmap c ≡ true) → ((c : ℕ) → after ≤ c → c < next → has_bit bitmap c ≡ false) → new ≡ cats_below bitmap next
 below_more bitmap cats new first after next lt le so_far added ones zeros =
     added
-    ∙ cats_where_same (λ c. has cats c || is_within first (after - 1) c) (λ c. has_bit bitmap c && nat_lt c next)
+    ∙ equal_tests_give_equal_sets (λ c. has cats c || is_within first (after - 1) c) (λ c. has_bit bitmap c && nat_lt c next)
     (λ c small.
     ap (λ xs. has xs c || is_within first (after - 1) c) so_far
-    ∙ ap (λ b. b || is_within first (after - 1) c) (has-cats_where (λ d. has_bit bitmap d && nat_lt d first) c small)
+    ∙ ap (λ b. b || is_within first (after - 1) c) (sets_of_a_test_have_what_passes (λ d. has_bit bitmap d && nat_lt d first) c small)
     ∙ one_more (has_bit bitmap c) c first after next lt le (ones c) (zeros c))
 
 all_below : (b : Bool) (c end : ℕ) → (end ≤ c → b ≡ false) → (b && nat_lt c end) ≡ b
@@ -63,7 +63,7 @@ all_below b c end zeros =
 
 pub below_end : (bitmap cats : List ℕ) (end : ℕ) → 8 * length bitmap ≤ end → cats ≡ cats_below bitmap end → cats ≡ bitmap_cats bitmap
 below_end bitmap cats end le so_far =
-    so_far ∙ cats_where_same (λ c. has_bit bitmap c && nat_lt c end) (has_bit bitmap) (λ c small. all_below (has_bit bitmap c) c end (λ past. bits_past bitmap c (omega arith)))
+    so_far ∙ equal_tests_give_equal_sets (λ c. has_bit bitmap c && nat_lt c end) (has_bit bitmap) (λ c small. all_below (has_bit bitmap c) c end (λ past. bits_past bitmap c (omega arith)))
 
 -- a stretch that begins with a one has an octet
 pub past_first : (bitmap : List ℕ) (first after end : ℕ) → first ≤ after → first < end → has_bit bitmap first ≡ true → (after < end → has_bit bitmap after ≡ false) → first < after

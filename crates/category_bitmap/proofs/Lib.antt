@@ -1,3 +1,6 @@
 pub mod Bits
 pub mod Octets
+pub mod Places
 pub mod Written
+pub mod Marks
+pub mod Law

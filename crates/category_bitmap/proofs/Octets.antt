@@ -1,21 +1,12 @@
 -- An octet as eight bits.
-use Rattle.std.proofs.Common.{◌≡◌, ℕ, zero, suc, ◌+◌, ◌-◌, ◌*◌, ◌/◌, ◌%◌, ◌^◌, ◌<◌, ◌≤◌, Bool, true, false, ◌==◌, List, [], ◌∷◌, ◌++◌, length, map, refl, sym, ap, ◌∙◌, arith}
+use Rattle.std.proofs.Common.{◌≡◌, ℕ, zero, suc, ◌+◌, ◌-◌, ◌*◌, ◌/◌, ◌%◌, ◌^◌, ◌<◌, Bool, true, false, ◌==◌, List, [], ◌∷◌, ◌++◌, length, map, refl, sym, ap, ◌∙◌, arith}
 use Rattle.std.specs.Int.{bit_at, from_bool}
 use Rattle.std.specs.List.{range_with_len}
-use Rattle.std.proofs.Math.Nat.{pow-suc, pow-le-pow_right, div-div-eq-div-mul}
+use Rattle.std.proofs.Math.Nat.{pow-suc, div-div-eq-div-mul}
 use Rattle.std.proofs.lemmas.List.{map-append}
 use Rattle.std.proofs.lemmas.List.FromFn.{length-map-range_with_len}
 use Rattle.mls_label.specs.Cats.{has}
 use Rattle.category_bitmap.specs.Bitmap.{bits_after, octet_of}
-
-pub bool_small : (b : Bool) → from_bool b < 2
-bool_small true = omega arith
-bool_small false = omega arith
-
--- one bit more doubles the number
-pub bits_more : (n : ℕ) (bits : List Bool) (b : Bool) → bits_after n (bits ++ b ∷ []) ≡ 2 * bits_after n bits + from_bool b
-bits_more n [] b = refl
-bits_more n (x ∷ bits) b = bits_more (2 * n + from_bool x) bits b
 
 bits_below : (n : ℕ) (bits : List Bool) → bits_after n bits < (n + 1) * 2 ^ length bits
 bits_below n [] = omega arith
@@ -25,14 +16,6 @@ bits_below n (true ∷ bits) =
 bits_below n (false ∷ bits) =
     let rest : bits_after (2 * n + 0) bits < (2 * n + 0 + 1) * 2 ^ length bits = bits_below (2 * n + 0) bits in
     rw (pow-suc 2 (length bits)) (omega arith)
-
--- fewer than eight bits leave room for one more
-pub bits_room : (f : ℕ → Bool) (a n : ℕ) → n ≤ 7 → bits_after 0 (map f (range_with_len a n)) < 128
-bits_room f a n le =
-    let long : length (map f (range_with_len a n)) ≡ n = length-map-range_with_len f a n in
-    let below = bits_below 0 (map f (range_with_len a n)) in
-    let most : 2 ^ n ≤ 2 ^ 7 = pow-le-pow_right (omega arith) le in
-    omega (arith, below, most, ap (λ k. 2 ^ k) long)
 
 pub octet_small : (cats : List ℕ) (i : ℕ) → octet_of cats i < 256
 unfolding octet_of

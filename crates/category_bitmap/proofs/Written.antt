@@ -1,17 +1,23 @@
 -- A written bitmap has the categories of its set.
-use Rattle.std.proofs.Common.{◌≡◌, ℕ, ◌+◌, ◌-◌, ◌*◌, ◌/◌, ◌%◌, ◌<◌, ◌≤◌, Bool, true, false, ◌==◌, List, [], ◌∷◌, length, get_or, refl, sym, ap, ◌∙◌, arith, inl, inr}
+use Rattle.std.proofs.Common.{◌≡◌, ℕ, ◌+◌, ◌-◌, ◌*◌, ◌/◌, ◌%◌, ◌<◌, ◌≤◌, Bool, true, false, ◌==◌, ◌||◌, List, [], ◌∷◌, length, get_or, refl, sym, ap, ◌∙◌, arith, inl, inr}
 use Rattle.std.specs.Int.{bit_at}
-use Rattle.std.proofs.lemmas.Bool.{cases_lt, cases_eq, false≢true}
+use Rattle.std.proofs.lemmas.Bool.{cases_lt, cases_eq, eq-eqb, ne_eqb, false≢true}
 use Rattle.std.proofs.lemmas.List.{get_or_past}
 use Rattle.std.proofs.lemmas.List.FromFn.{length-map-range_with_len, get_or-map-range_with_len}
 use Rattle.octet_grammar.specs.Octets.{IsOctets}
 use Rattle.mls_label.specs.Cats.{has, IsCats}
-use Rattle.mls_label.proofs.Cats.{cats_where_is, has_first, has_rest}
+use Rattle.mls_label.proofs.Law.{sets_are_what_they_have}
 use Rattle.category_bitmap.specs.Bitmap.{has_bit, bitmap_cats, octets_needed, octet_of, bitmap_of}
 use Rattle.category_bitmap.proofs.Bits.{bits_past}
 use Rattle.category_bitmap.proofs.Octets.{octet_bit, octet_small}
 
 -- ---- the octets that a set needs
+
+has_first : (x : ℕ) (cats : List ℕ) (c : ℕ) → c ≡ x → has (x ∷ cats) c ≡ true
+has_first x cats c e = ap (λ b. b || has cats c) (eq-eqb c x e)
+
+has_rest : (x : ℕ) (cats : List ℕ) (c : ℕ) → (c ≡ x → ⊥) → has (x ∷ cats) c ≡ has cats c
+has_rest x cats c ne = ap (λ b. b || has cats c) (ne_eqb c x ne)
 
 has_more : (x : ℕ) (cats : List ℕ) (c : ℕ) → has cats c ≡ true → has (x ∷ cats) c ≡ true
 has_more x cats c h =
@@ -67,7 +73,7 @@ none_past false not = refl
 
 pub written_reads_back : (cats : List ℕ) (n : ℕ) → IsCats cats → octets_needed cats ≤ n → bitmap_cats (bitmap_of cats n) ≡ cats
 written_reads_back cats n is enough =
-    sym (cats_where_is cats (has_bit (bitmap_of cats n)) is
+    sym (sets_are_what_they_have cats (has_bit (bitmap_of cats n)) is
     (λ c small.
     elim (cases_lt (c / 8) n) [
       | inl lt ↦ sym (bitmap_bit cats n c lt)

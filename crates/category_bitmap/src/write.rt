@@ -1,8 +1,10 @@
-//! Writing: octet by octet, as many as asked for.
+//! Writing: zeros, and then the ones of each run, octet by octet.
 
-ghost use Rattle.std.specs.Prelude.{◌≡◌, ◌+◌, ◌++◌, ◌<◌, ◌≤◌};
+ghost use Rattle.std.specs.Prelude.{◌≡◌, ◌+◌, ◌-◌, ◌*◌, ◌++◌, ◌<◌, ◌≤◌, ◌||◌, ◌==◌, ℕ, length, replicate};
+ghost use Rattle.std.specs.Int.{bit_at};
 ghost use Rattle.arrayvec.specs.ArrayVec.{array_vec_len};
-ghost use Rattle.category_bitmap.specs.Bitmap.{octets_needed, octet_of, bitmap_of};
+ghost use Rattle.mls_label.specs.Cats.{is_within};
+ghost use Rattle.category_bitmap.specs.Bitmap.{has_bit, octets_needed, bitmap_of};
 
 use arrayvec::ArrayVec;
 use mls_label::CatSet;
@@ -23,20 +25,54 @@ pub fn write_bitmap<const N: usize>(cats: &CatSet, octets: usize, out: &mut Arra
     requires room { array_vec_len out.old + octets ≤ N }
     ensures { out.new.items ≡ out.old.items ++ bitmap_of cats.now octets }
 {
-    for octet in 0..octets {
-        out.push(octet_at(cats, octet));
+    let start = out.len();
+    push_zeros(octets, out);
+    set_cats(cats, &mut out[start..]);
+}
+
+fn push_zeros<const N: usize>(octets: usize, out: &mut ArrayVec<u8, N>)
+    requires { array_vec_len out.old + octets ≤ N }
+    ensures { out.new.items ≡ out.old.items ++ replicate octets 0 }
+{
+    for _ in 0..octets {
+        out.push(0);
     }
 }
 
-// The octet of eight categories, the lowest of them first.
-fn octet_at(cats: &CatSet, octet: usize) -> u8
-    requires { octet < 8192 }
-    ensures { result ≡ octet_of cats.now octet }
+// Makes a bitmap of zeros that of the set.
+fn set_cats(cats: &CatSet, bitmap: &mut [u8])
+    requires most { length bitmap.old ≤ 8192 }
+    requires zeros { bitmap.old ≡ replicate (length bitmap.old) 0 }
+    ensures { bitmap.new ≡ bitmap_of cats.now (length bitmap.old) }
 {
-    let mut bits: u8 = 0;
-    for place in 0..8 {
-        let bit = cats.contains((8 * octet + place) as u16);
-        bits = 2 * bits + u8::from(bit);
+    for i in 0..cats.runs() {
+        let (first, last) = cats.run(i);
+        set_run(usize::from(first), usize::from(last), bitmap);
     }
-    bits
+}
+
+// Sets the bits of a run, as far as the bitmap goes.
+fn set_run(first: usize, last: usize, bitmap: &mut [u8])
+    requires order { first ≤ last }
+    requires categories { last < 65535 }
+    requires most { length bitmap.old ≤ 8192 }
+    ensures length { length bitmap.new ≡ length bitmap.old }
+    ensures bits { (c : ℕ) → c < 8 * length bitmap.old
+        → has_bit bitmap.new c ≡ (has_bit bitmap.old c || is_within first last c) }
+{
+    let end = bitmap.len().min(last / 8 + 1);
+    for at in first / 8..end {
+        let from = first.saturating_sub(8 * at);
+        let to = (last - 8 * at).min(7);
+        bitmap[at] |= ones(from, to);
+    }
+}
+
+// The octet whose bits are 1 from place `first` to place `last`. Place 0 is the most significant bit.
+fn ones(first: usize, last: usize) -> u8
+    requires order { first ≤ last }
+    requires places { last < 8 }
+    ensures { (k : ℕ) → k < 8 → (bit_at result (7 - k) == 1) ≡ is_within first last k }
+{
+    0xff >> first & !(0x7f >> last)
 }

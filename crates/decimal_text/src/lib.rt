@@ -1,4 +1,4 @@
-//! Numbers as decimal text, without sign or leading zero: the one spelling that words, scripts, labels and reports
+//! Numbers as decimal text, without sign or leading zero: the one spelling that words, texts of labels and the report
 //! share. A contract sees the spelling as std's `decimal`, which is what `{}` prints.
 #![tactic(auto)]
 

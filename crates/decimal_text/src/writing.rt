@@ -1,4 +1,4 @@
-ghost use Rattle.std.specs.Prelude.{◌≡◌, ◌+◌, ◌≤◌, ◌++◌, length, drop, OnOk, OnErr};
+ghost use Rattle.std.specs.Prelude.{◌≡◌, ◌+◌, ◌≤◌, ◌++◌, drop, OnOk, OnErr};
 ghost use Rattle.std.specs.Fmt.{decimal};
 
 use std::alloc::AllocError;
@@ -18,7 +18,7 @@ pub fn write_decimal(n: u64, out: &mut Vec<u8>) -> Result<(), AllocError>
 
 /// Writes the digits of a number to the end of the array, and tells where they begin.
 fn fill_from_end(n: u64, digits: &mut [u8; MOST_DIGITS]) -> usize
-    ensures within { result ≤ 20 }
+    ensures within { result ≤ MOST_DIGITS }
     ensures digits { drop result digits.new ≡ decimal n }
 {
     let mut rest = n;

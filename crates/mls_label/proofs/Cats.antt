@@ -144,9 +144,6 @@ pub has-cats_where : (p : ℕ → Bool) (c : ℕ) → c < 65535 → has (cats_wh
 unfolding cats_where
 has-cats_where p c lt = has_filtered_range p 65535 c lt
 
-pub has-cats_where_past : (p : ℕ → Bool) (c : ℕ) → 65535 ≤ c → has (cats_where p) c ≡ false
-has-cats_where_past p c le = has_past 0 65535 (cats_where p) c (cats_where-cats p) le
-
 pub cats_where_is : (cats : List ℕ) (p : ℕ → Bool) → IsCats cats → ((c : ℕ) → c < 65535 → has cats c ≡ p c) → cats ≡ cats_where p
 cats_where_is cats p is same =
     cats_same cats (cats_where p) is (cats_where-cats p) (λ c lt. same c lt ∙ sym (has-cats_where p c lt))
@@ -154,6 +151,3 @@ cats_where_is cats p is same =
 pub cats_where_same : (p q : ℕ → Bool) → ((c : ℕ) → c < 65535 → p c ≡ q c) → cats_where p ≡ cats_where q
 cats_where_same p q same =
     cats_where_is (cats_where p) q (cats_where-cats p) (λ c lt. has-cats_where p c lt ∙ same c lt)
-
-pub cats_where-has : (cats : List ℕ) → IsCats cats → cats_where (has cats) ≡ cats
-cats_where-has cats is = sym (cats_where_is cats (has cats) is (λ c lt. refl))

@@ -8,7 +8,7 @@ use Rattle.std.proofs.lemmas.List.{get_or_default, take_rest, drop_more, length-
 use Rattle.std.proofs.lemmas.List.FromFn.{length-range_with_len}
 use Rattle.mls_label.specs.declared.cat_set.Run.{Run}
 use Rattle.mls_label.specs.Cats.{has, Ascends, IsSubset}
-use Rattle.mls_label.specs.Kept.{cats_of, AreApart}
+use Rattle.mls_label.specs.inside.Kept.{cats_of, AreApart}
 use Rattle.mls_label.proofs.Cats.{has_below}
 use Rattle.mls_label.proofs.Runs.{is_in, ends_of, apart_less, has-cats_of, ascends-cats_of}
 use Rattle.mls_label.proofs.Splice.{apart_at, firsts_rise, lasts_rise}

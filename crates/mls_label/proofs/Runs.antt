@@ -7,7 +7,7 @@ use Rattle.std.proofs.lemmas.List.{length-map}
 use Rattle.mls_label.specs.declared.cat_set.Run.{Run}
 use Rattle.mls_label.specs.Cats.{has, IsCats, Ascends, is_within}
 use Rattle.mls_label.specs.Runs.{join_front, runs_of, numbers_of, AreSpaced, AreRunsOf}
-use Rattle.mls_label.specs.Kept.{cats_of, AreApart}
+use Rattle.mls_label.specs.inside.Kept.{cats_of, AreApart}
 use Rattle.mls_label.proofs.Cats.{has-append, has-range_with_len, ascends_range, ascends-append, ascends_less}
 
 -- ---- plain lists
@@ -15,9 +15,6 @@ use Rattle.mls_label.proofs.Cats.{has-append, has-range_with_len, ascends_range,
 abbrev pub AreInOrder : List (ℕ × ℕ) → Type 0
 AreInOrder [] = Unit {0}
 AreInOrder (r ∷ runs) = (r.0 ≤ r.1) × AreInOrder runs
-
-range_more : (a n : ℕ) → range_with_len a (suc n) ≡ a ∷ range_with_len (a + 1) n
-range_more a n = refl
 
 numbers_join : (c : ℕ) (runs : List (ℕ × ℕ)) → AreInOrder runs → (numbers_of (join_front c runs) ≡ c ∷ numbers_of runs) × AreInOrder (join_front c runs)
 numbers_join c [] o =
@@ -47,13 +44,6 @@ runs_numbers (c ∷ cats) =
 -- the runs of a set have its numbers
 pub cats_of_runs : (cats : List ℕ) → numbers_of (runs_of cats) ≡ cats
 cats_of_runs cats = (runs_numbers cats).0
-
-pub runs_in_order : (cats : List ℕ) → AreInOrder (runs_of cats)
-runs_in_order cats = (runs_numbers cats).1
-
--- sets with the same runs are the same
-pub runs_of-same : (a b : List ℕ) → runs_of a ≡ runs_of b → a ≡ b
-runs_of-same a b e = sym (cats_of_runs a) ∙ ap numbers_of e ∙ cats_of_runs b
 
 spaced_join : (c : ℕ) (runs : List (ℕ × ℕ)) → AreSpaced (c + 1) runs → AreSpaced c (join_front c runs)
 spaced_join c [] s = (omega arith, omega arith, tt)

@@ -9,7 +9,7 @@ use Rattle.std.proofs.lemmas.List.{take_all, drop_all, length-take-le, length-dr
 use Rattle.std.proofs.lemmas.List.Folds.{list_any-append}
 use Rattle.mls_label.specs.declared.cat_set.Run.{Run}
 use Rattle.mls_label.specs.Cats.{has, cats_where, is_within}
-use Rattle.mls_label.specs.Kept.{cats_of, AreApart, hull, IsPlace}
+use Rattle.mls_label.specs.inside.Kept.{cats_of, AreApart, hull, IsPlace}
 use Rattle.mls_label.proofs.Cats.{cats_where_is}
 use Rattle.mls_label.proofs.Runs.{is_in, apart_less, has-cats_of, ascends-cats_of}
 

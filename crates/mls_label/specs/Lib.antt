@@ -1,4 +1,4 @@
 pub mod Cats
 pub mod Runs
-pub mod Kept
 pub mod Label
+pub mod inside

@@ -33,11 +33,11 @@ impl Model for CatSet {
 
     ghost Value = { List ℕ };
 
-    ghost use Rattle.mls_label.specs.Kept.{cats_of, IsKept};
+    ghost use Rattle.mls_label.specs.inside.Kept.{cats_of, AreKeptRuns};
 
     ghost view = { λ s. cats_of s.runs.items };
 
-    ghost invariant = { λ s. IsKept s.runs.items };
+    ghost invariant = { λ s. AreKeptRuns s.runs.items };
 }
 
 impl CatSet {
@@ -63,25 +63,39 @@ impl CatSet {
         requires categories { last < 65535 }
         ensures ok { OnOk result
             (self.new ≡ cats_where (λ c. has self.old c || is_within first last c)) }
-        ensures few { OnOk result (length (runs_of self.new) ≤ 1952) }
+        ensures few { OnOk result (length (runs_of self.new) ≤ MOST_RUNS) }
         ensures too_many { OnErr result
-            (1952 < length (runs_of (cats_where (λ c. has self.old c || is_within first last c)))) }
+            (MOST_RUNS < length (runs_of (cats_where (λ c. has self.old c || is_within first last c)))) }
         ensures one_more { OnOk result (length (runs_of self.new) ≤ length (runs_of self.old) + 1) }
-        ensures full { OnErr result (1952 ≤ length (runs_of self.old)) }
+        ensures full { OnErr result (MOST_RUNS ≤ length (runs_of self.old)) }
         ensures err { OnErr result (self.new ≡ self.old) }
     {
         join(&mut self.runs, Run { first, last })
+    }
+
+    /// Adds all categories from `first` to `last`, both included, to a set that has room for one more run.
+    pub fn insert_run(&mut self, first: u16, last: u16)
+        requires order { first ≤ last }
+        requires categories { last < 65535 }
+        requires room { length (runs_of self.old) < MOST_RUNS }
+        ensures cats { self.new ≡ cats_where (λ c. has self.old c || is_within first last c) }
+        ensures one_more { length (runs_of self.new) ≤ length (runs_of self.old) + 1 }
+    {
+        match self.add_run(first, last) {
+            Ok(()) => {}
+            Err(TooManyRuns) => unreachable!(),
+        }
     }
 
     /// Adds one category. After an error nothing has changed.
     pub fn add(&mut self, c: u16) -> Result<(), TooManyRuns>
         requires { c < 65535 }
         ensures ok { OnOk result (self.new ≡ cats_where (λ k. has self.old k || is_within c c k)) }
-        ensures few { OnOk result (length (runs_of self.new) ≤ 1952) }
+        ensures few { OnOk result (length (runs_of self.new) ≤ MOST_RUNS) }
         ensures too_many { OnErr result
-            (1952 < length (runs_of (cats_where (λ k. has self.old k || is_within c c k)))) }
+            (MOST_RUNS < length (runs_of (cats_where (λ k. has self.old k || is_within c c k)))) }
         ensures one_more { OnOk result (length (runs_of self.new) ≤ length (runs_of self.old) + 1) }
-        ensures full { OnErr result (1952 ≤ length (runs_of self.old)) }
+        ensures full { OnErr result (MOST_RUNS ≤ length (runs_of self.old)) }
         ensures err { OnErr result (self.new ≡ self.old) }
     {
         self.add_run(c, c)
@@ -111,7 +125,7 @@ impl CatSet {
     /// How many maximal runs the set has.
     pub fn runs(&self) -> usize
         ensures count { result ≡ length (runs_of self.now) }
-        ensures few { result ≤ 1952 }
+        ensures few { result ≤ MOST_RUNS }
         ensures categories { IsCats self.now }
     {
         self.runs.len()

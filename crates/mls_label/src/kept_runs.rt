@@ -5,7 +5,7 @@ ghost use Rattle.std.specs.List.{AllWithin, splice};
 ghost use Rattle.arrayvec.specs.ArrayVec.{array_vec_len};
 ghost use Rattle.mls_label.specs.Cats.{has, is_within, cats_where, IsSubset};
 ghost use Rattle.mls_label.specs.Runs.{runs_of};
-ghost use Rattle.mls_label.specs.Kept.{cats_of, AreApart, IsKept, IsPlace, hull};
+ghost use Rattle.mls_label.specs.inside.Kept.{cats_of, AreApart, AreKeptRuns, IsPlace, hull};
 
 use crate::cat_set::{MOST_RUNS, Run, TooManyRuns};
 use arrayvec::ArrayVec;
@@ -57,16 +57,16 @@ fn place_of(runs: &[Run], run: Run) -> (usize, usize)
 
 /// Adds a run. After an error nothing has changed.
 pub fn join(runs: &mut ArrayVec<Run, MOST_RUNS>, run: Run) -> Result<(), TooManyRuns>
-    requires kept { IsKept runs.old.items }
+    requires kept { AreKeptRuns runs.old.items }
     requires order { run.first ≤ run.last }
     requires categories { run.last < 65535 }
-    ensures kept { OnOk result (IsKept runs.new.items) }
+    ensures kept { OnOk result (AreKeptRuns runs.new.items) }
     ensures cats { OnOk result (cats_of runs.new.items
         ≡ cats_where (λ c. has (cats_of runs.old.items) c || is_within run.first run.last c)) }
     ensures one_more { OnOk result (array_vec_len runs.new ≤ array_vec_len runs.old + 1) }
-    ensures too_many { OnErr result (1952 < length (runs_of
+    ensures too_many { OnErr result (MOST_RUNS < length (runs_of
         (cats_where (λ c. has (cats_of runs.old.items) c || is_within run.first run.last c)))) }
-    ensures full { OnErr result (array_vec_len runs.old ≡ 1952) }
+    ensures full { OnErr result (array_vec_len runs.old ≡ MOST_RUNS) }
     ensures err { OnErr result (runs.new.items ≡ runs.old.items) }
 {
     let (start, end) = place_of(runs, run);
@@ -83,11 +83,11 @@ fn put(
 ) -> Result<(), TooManyRuns>
     requires order { start ≤ end }
     requires within { end ≤ array_vec_len runs.old }
-    requires few { array_vec_len runs.old ≤ 1952 }
+    requires few { array_vec_len runs.old ≤ MOST_RUNS }
     ensures ok { OnOk result (runs.new.items ≡ splice runs.old.items start end (run ∷ [])) }
-    ensures few { OnOk result (array_vec_len runs.new ≤ 1952) }
+    ensures few { OnOk result (array_vec_len runs.new ≤ MOST_RUNS) }
     ensures one_more { OnOk result (array_vec_len runs.new ≤ array_vec_len runs.old + 1) }
-    ensures too_many { OnErr result ((start ≡ end) × (array_vec_len runs.old ≡ 1952)) }
+    ensures too_many { OnErr result ((start ≡ end) × (array_vec_len runs.old ≡ MOST_RUNS)) }
     ensures err { OnErr result (runs.new.items ≡ runs.old.items) }
 {
     if start < end {
@@ -104,7 +104,7 @@ fn put(
 fn replace(runs: &mut ArrayVec<Run, MOST_RUNS>, start: usize, end: usize, run: Run)
     requires order { start < end }
     requires within { end ≤ array_vec_len runs.old }
-    requires few { array_vec_len runs.old ≤ 1952 }
+    requires few { array_vec_len runs.old ≤ MOST_RUNS }
     ensures items { runs.new.items ≡ splice runs.old.items start end (run ∷ []) }
     ensures len { array_vec_len runs.new ≤ array_vec_len runs.old }
 {
@@ -180,7 +180,7 @@ pub fn highest_of(runs: &[Run]) -> Option<u16>
 
 /// Takes these runs in place of its own.
 pub fn assign(runs: &mut ArrayVec<Run, MOST_RUNS>, from: &[Run])
-    requires { length from.now ≤ 1952 }
+    requires { length from.now ≤ MOST_RUNS }
     ensures { runs.new.items ≡ from.now }
 {
     runs.clear();

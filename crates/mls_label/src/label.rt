@@ -83,3 +83,12 @@ pub enum Tag {
     /// Ranges of categories.
     Five,
 }
+
+/// The protocols that carry a label in a packet.
+#[derive(Clone, Copy, Debug, PartialEq, Eq, Hash)]
+pub enum Proto {
+    /// The option of type 134 in an IPv4 header (FIPS 188 and the CIPSO draft 2.2).
+    Cipso,
+    /// The option of type 7 in an IPv6 Hop-by-Hop header (RFC 5570).
+    Calipso,
+}

@@ -3,12 +3,14 @@
 #![tactic(auto)]
 
 mod cat_set;
+mod kept_label;
 mod kept_runs;
 mod label;
-mod laws;
+pub mod laws;
 #[cfg(test)]
 mod tests;
 
-pub use cat_set::{CatSet, TooManyRuns};
-pub use label::{Label, OutOfMemory, Tag};
+pub use cat_set::{CatSet, MOST_RUNS, TooManyRuns};
+pub use kept_label::KeptLabel;
+pub use label::{Label, OutOfMemory, Proto, Tag};
 pub use octet_grammar::{WireFault, WireKind};

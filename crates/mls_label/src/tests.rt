@@ -77,5 +77,7 @@ fn copies_labels(rt: HostRuntime) -> Result<(), Fail> {
     let high = Label { level: 2, cats };
     assert!(rt; low.copy().same(&low) && !low.same(&high));
     assert!(rt; high.dominates(&low) && !low.dominates(&high));
+    let kept = KeptLabel::of(rt.alloc(), &high).expect(&rt, "memory");
+    assert!(rt; kept.label().same(&high));
     Ok(())
 }

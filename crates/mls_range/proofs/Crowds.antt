@@ -9,26 +9,30 @@ use Rattle.std.proofs.lemmas.List.Folds.{list_any-append}
 use Rattle.std.proofs.lemmas.List.Elements.{All-nil, All-tail, All-push}
 use Rattle.mls_label.specs.Cats.{has, cats_where, is_within}
 use Rattle.mls_label.specs.Runs.{runs_of}
-use Rattle.mls_label.proofs.Cats.{cats_where_is, cats_where_same, has-cats_where}
+use Rattle.mls_label.proofs.Law.{sets_of_a_test_have_what_passes, sets_are_what_they_have, equal_tests_give_equal_sets}
+use Rattle.octet_grammar.specs.declared.fault.WireFault.{WireFault}
 use Rattle.mls_range.specs.declared.fault.TextFault.{TextFault}
 use Rattle.mls_range.specs.declared.fault.TextKind.{TextKind}
-use Rattle.mls_range.specs.declared.fault.TextKind.TheVariants.{Grammar, End, TooManyRuns, NotOrdered}
+use Rattle.mls_range.specs.declared.fault.TextKind.TheVariants.{TooManyRuns}
 use Rattle.mls_range.specs.LabelText.{IsTerm, term_text, term_has, cats_of_terms}
-use Rattle.mls_range.specs.Crowd.{IsCounted, with_comma, run_count, CrowdsTerms}
-use Rattle.mls_range.specs.Rest.{Reads, FaultIn, StopsIn, separated, Terms, TermOn, ReadsTerm, ReadsTerms, IsLabelEnd, FailsTerms, StopsRun, StopsTerms}
+use Rattle.mls_range.specs.Crowd.{IsCounted, with_comma, run_count}
+use Rattle.mls_range.specs.inside.Rest.{Spells, FaultIn, separated, Terms, TermOn, ReadsTerm, IsLabelEnd}
+use Rattle.mls_range.specs.inside.Stops.{CrowdsTerms, FailsAt, ReadsTerms, StopsRun, StopsTerms}
 use Rattle.mls_range.proofs.Places.{reads_none, reads_octet, reads_on, reads_length, first_is}
+use Rattle.mls_range.specs.inside.Told.{text_fault}
 use Rattle.mls_range.proofs.Rests.{fault_goes}
+use Rattle.mls_range.proofs.Fails.{fails_in}
 use Rattle.mls_range.proofs.TermLists.{comma_is, Behind, First, peel, first_of_terms, term_unique, goes_terms, fault_terms, fault_no_counted}
 
 -- ---- sets of categories
 
 pub none_of_terms : [] ≡ cats_of_terms []
-none_of_terms = cats_where_is [] (term_has []) tt (λ c lt. refl)
+none_of_terms = sets_are_what_they_have [] (term_has []) tt (λ c lt. refl)
 
 pub cats_push : (cats : List ℕ) (terms : List (ℕ × ℕ)) (term : ℕ × ℕ) → cats ≡ cats_of_terms terms → cats_where (λ c. has cats c || is_within term.0 term.1 c) ≡ cats_of_terms (terms ++ term ∷ [])
 cats_push cats terms term e =
-    cats_where_same (λ c. has cats c || is_within term.0 term.1 c) (term_has (terms ++ term ∷ [])) (λ c lt.
-    let old : has cats c ≡ term_has terms c = ap (λ x. has x c) e ∙ has-cats_where (term_has terms) c lt in
+    equal_tests_give_equal_sets (λ c. has cats c || is_within term.0 term.1 c) (term_has (terms ++ term ∷ [])) (λ c lt.
+    let old : has cats c ≡ term_has terms c = ap (λ x. has x c) e ∙ sets_of_a_test_have_what_passes (term_has terms) c lt in
     ap (λ b. b || is_within term.0 term.1 c) old ∙ ap (λ b. term_has terms c || b) (sym (or-false (is_within term.0 term.1 c))) ∙ sym (list_any-append (λ t. is_within t.0 t.1 c) terms (term ∷ [])))
 
 -- ---- what is kept
@@ -36,7 +40,7 @@ cats_push cats terms term e =
 -- the terms from start on, each with its comma, their categories, and nowhere too many runs
 pub record HasTerms (text : List ℕ) (start at : ℕ) (cats : List ℕ) : Type 0 where
   pub terms : List (ℕ × ℕ)
-  pub reads : Reads text start at (flat_map with_comma terms)
+  pub reads : Spells text start at (flat_map with_comma terms)
   pub are : All IsTerm terms
   pub is : cats ≡ cats_of_terms terms
   pub few : (n : ℕ) → run_count (take n terms) ≤ 1952
@@ -74,11 +78,11 @@ pub has_more : (text : List ℕ) (start at end : ℕ) (cats more : List ℕ) (da
 has_more text start at end cats more dash first last h r e few lt comma =
     let term : ℕ × ℕ = (first, last) in
     let is : more ≡ cats_of_terms (h.terms ++ term ∷ []) = e ∙ cats_push cats h.terms term h.is in
-    let one : Reads text at (end + 1) (term_text term ++ 44 ∷ []) =
-    reads_on text at end (end + 1) (term_text term) (44 ∷ []) r.reads (subst (λ x. Reads text end (end + 1) (x ∷ [])) comma (reads_octet text end lt)) in
+    let one : Spells text at (end + 1) (term_text term ++ 44 ∷ []) =
+    reads_on text at end (end + 1) (term_text term) (44 ∷ []) r.reads (subst (λ x. Spells text end (end + 1) (x ∷ [])) comma (reads_octet text end lt)) in
     record {
       terms = h.terms ++ term ∷ [];
-      reads = subst (Reads text start (end + 1)) (sym (push_is h.terms term)) (reads_on text start at (end + 1) (flat_map with_comma h.terms) (with_comma term) h.reads one);
+      reads = subst (Spells text start (end + 1)) (sym (push_is h.terms term)) (reads_on text start at (end + 1) (flat_map with_comma h.terms) (with_comma term) h.reads one);
       are = All-push IsTerm h.terms term h.are r.is_term;
       is = is;
       few = few_push h.terms term h.few (omega (arith, ap (λ x. length (runs_of x)) (sym is), few));
@@ -104,21 +108,13 @@ first_behind dash text start at octet cats h c =
     let are = all_back h.terms b.us (subst (All IsTerm) b.terms c.are) in
     (b.us, b.terms, first_of_terms dash b.us c.term (drop at text) c.rest are c.is_term c.counts b.is)
 
-fault_whole : (dash : Bool) (text : List ℕ) (start at : ℕ) (cats : List ℕ) (fault : TextFault) → (h : HasTerms text start at cats) → FaultIn (TermOn dash) text at fault → FaultIn (Terms dash) text start fault × ((octet : ℕ) → CrowdsTerms dash (drop start text) octet → ⊥)
-fault_whole dash text start at cats fault h f = (
-  fault_goes (Terms dash) (flat_map with_comma h.terms) (Terms dash) text start at fault h.reads (goes_terms dash h.terms (drop at text) h.are) (fault_terms dash text at fault f),
-  λ octet c.
-      let b = first_behind dash text start at octet cats h c in
-      let first = b.2 in
-      fault_no_counted dash text at fault f (record { term = first.first; more = first.more; is_term = first.is_term; is = first.is; counts = first.counts }),
-)
-
 -- the fault of a term behind those that were read
-pub fails_term : (dash : Bool) (text : List ℕ) (start at : ℕ) (cats : List ℕ) (fault : TextFault) (kind : TextKind) → (h : HasTerms text start at cats) → (f : FaultIn (TermOn dash) text at fault) → StopsIn (TermOn dash) f.part (drop fault.octet text) kind → FailsTerms dash text start fault kind
-fails_term dash text start at cats fault Grammar h f stops = fault_whole dash text start at cats fault h f
-fails_term dash text start at cats fault End h f stops = fault_whole dash text start at cats fault h f
-fails_term dash text start at cats fault TooManyRuns h f stops = absurd stops
-fails_term dash text start at cats fault NotOrdered h f stops = absurd stops
+pub stops_term : (dash : Bool) (text : List ℕ) (start at : ℕ) (cats : List ℕ) (fault : WireFault) → (h : HasTerms text start at cats) → FaultIn (TermOn dash) text at fault → StopsTerms dash text start (text_fault fault)
+stops_term dash text start at cats fault h f =
+    fails_in (Terms dash) (CrowdsTerms dash (drop start text)) text start fault (fault_goes (Terms dash) (flat_map with_comma h.terms) (Terms dash) text start at fault h.reads (goes_terms dash h.terms (drop at text) h.are) (fault_terms dash text at fault f)) (λ octet c.
+    let b = first_behind dash text start at octet cats h c in
+    let first = b.2 in
+    fault_no_counted dash text at fault f (record { term = first.first; more = first.more; is_term = first.is_term; is = first.is; counts = first.counts }))
 
 -- the term that is too much
 pub crowds_term : (dash : Bool) (text : List ℕ) (start at end first last : ℕ) (cats : List ℕ) → (h : HasTerms text start at cats) → ReadsTerm dash text at first last end → 1952 < length (runs_of (cats_where (λ c. has cats c || is_within first last c))) → (octet : ℕ) × (at ≡ start + octet) × CrowdsTerms dash (drop start text) octet
@@ -198,11 +194,10 @@ reads_terms dash text start at end first last cats more h r e few over =
       roomy = λ octet c. no_crowd dash text start at end first last octet cats h r small ends c;
     }
 
-fails_run : (dash : Bool) (text : List ℕ) (start at end first last : ℕ) (cats : List ℕ) (fault : TextFault) (kind : TextKind) → (h : HasTerms text start at cats) → ReadsTerm dash text at first last end → fault.octet ≡ at → kind ≡ TooManyRuns → 1952 < length (runs_of (cats_where (λ c. has cats c || is_within first last c))) → FailsTerms dash text start fault kind
-fails_run dash text start at end first last cats fault kind h r place is many =
-    let c = crowds_term dash text start at end first last cats h r many in
-    subst (FailsTerms dash text start fault) (sym is) (c.0, place ∙ c.1, c.2)
+stops_run_kind : (dash : Bool) (text : List ℕ) (start at octet : ℕ) (kind : TextKind) → kind ≡ TooManyRuns → (o : ℕ) × (octet ≡ start + o) × CrowdsTerms dash (drop start text) o → FailsAt (Terms dash) (CrowdsTerms dash (drop start text)) text start octet kind
+stops_run_kind dash text start at octet kind is c = subst (FailsAt (Terms dash) (CrowdsTerms dash (drop start text)) text start octet) (sym is) c
 
-pub stops_run : (dash : Bool) (text : List ℕ) (start at end first last : ℕ) (cats : List ℕ) (stop : TextFault) → (h : HasTerms text start at cats) → ReadsTerm dash text at first last end → StopsRun cats first last at stop → StopsTerms dash text start stop
+pub stops_run : (dash : Bool) (text : List ℕ) (start at end first last : ℕ) (cats : List ℕ) (fault : TextFault) → (h : HasTerms text start at cats) → ReadsTerm dash text at first last end → StopsRun cats first last at fault → StopsTerms dash text start fault
 stops_run dash text start at end first last cats fault h r s =
-    fails_run dash text start at end first last cats fault fault.kind h r s.0 s.1 s.2
+    let c = crowds_term dash text start at end first last cats h r s.2 in
+    stops_run_kind dash text start at fault.octet fault.kind s.1 (c.0, s.0 ∙ c.1, c.2)

@@ -4,7 +4,7 @@ use Rattle.std.specs.Fmt.{decimal}
 use Rattle.std.proofs.lemmas.Bool.{cases_lt, cases_eq}
 use Rattle.std.proofs.lemmas.Str.Parse.{IsNumeralModel, numerals_by_fold}
 use Rattle.std.proofs.lemmas.Fmt.{digits_decimal, digits_value-decimal, decimal-digits_value, first_decimal, decimal_digit}
-use Rattle.mls_range.specs.Number.{BeginsNumber, AllDigits, number_after, Reaches, GoesOn}
+use Rattle.mls_range.specs.inside.Number.{BeginsNumber, AllDigits, number_after, Reaches, GoesOn}
 
 own : IsNumeralModel AllDigits (number_after 0)
 own = numerals_by_fold _ (search rules) number_after (search rules)

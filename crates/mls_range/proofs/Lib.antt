@@ -2,6 +2,7 @@ pub mod Digits
 pub mod Places
 pub mod Numbers
 pub mod Rests
+pub mod Fails
 pub mod TermRests
 pub mod Written
 pub mod TermLists
@@ -11,3 +12,4 @@ pub mod Wholes
 pub mod Unique
 pub mod ReadBack
 pub mod RangeTexts
+pub mod Law

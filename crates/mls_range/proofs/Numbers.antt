@@ -2,18 +2,18 @@
 use Rattle.std.proofs.Common.{◌≡◌, ℕ, ◌+◌, ◌-◌, ◌*◌, ◌<◌, ◌≤◌, List, [], ◌∷◌, ◌++◌, length, get_or, drop, refl, sym, ap, subst, ◌∙◌, append_assoc, arith, inl, inr, ◌⊎◌}
 use Rattle.std.specs.Fmt.{decimal}
 use Rattle.std.proofs.lemmas.Fmt.{decimal_nonempty}
-use Rattle.mls_range.specs.declared.fault.TextFault.{TextFault}
-use Rattle.mls_range.specs.declared.fault.TextKind.{TextKind}
-use Rattle.mls_range.specs.declared.fault.TextKind.TheVariants.{Grammar, End, TooManyRuns, NotOrdered}
-use Rattle.mls_range.specs.Number.{BeginsNumber, number_after, GoesOn}
-use Rattle.mls_range.specs.Rest.{Reads, FaultIn, FailsNumber, IsNumber, ReadsNumber, StopsHere, StopsIn}
+use Rattle.octet_grammar.specs.declared.fault.WireFault.{WireFault}
+use Rattle.octet_grammar.specs.declared.fault.WireKind.{WireKind}
+use Rattle.octet_grammar.specs.declared.fault.WireKind.TheVariants.{Octet, End}
+use Rattle.mls_range.specs.inside.Number.{BeginsNumber, number_after, GoesOn}
+use Rattle.mls_range.specs.inside.Rest.{Spells, FaultIn, FailsNumber, IsNumber, ReadsNumber, StopsHere, StopsIn}
 use Rattle.mls_range.proofs.Digits.{begins_goes, goes_begins, number-decimal, number_after-append, begins_small, begins_number, grows}
 use Rattle.mls_range.proofs.Places.{drop_at, drop_end, reads_none, reads_octet, reads_on, reads_length, reads_nothing}
 
 -- the digits from start on, and their number
 pub record HasDigits (text : List ℕ) (start at low high number : ℕ) : Type 0 where
   pub digits : List ℕ
-  pub reads : Reads text start at digits
+  pub reads : Spells text start at digits
   pub value : number_after 0 digits ≡ number
   pub begins : BeginsNumber low high digits
 
@@ -56,8 +56,8 @@ ends_past text at low high digits le octet more is b =
     let q : [] ≡ octet ∷ more = sym (drop_end text at le) ∙ is in
     cc
 
-stops_digits : (text : List ℕ) (at low high : ℕ) (digits : List ℕ) (kind : TextKind) → EndsDigits text at low high digits → (IsNumber low high digits → ⊥) → StopsHere (drop at text) kind → StopsIn (IsNumber low high) digits (drop at text) kind
-stops_digits text at low high digits Grammar ends none here = (
+stops_digits : (text : List ℕ) (at low high : ℕ) (digits : List ℕ) (kind : WireKind) → EndsDigits text at low high digits → (IsNumber low high digits → ⊥) → StopsHere (drop at text) kind → StopsIn (IsNumber low high) digits (drop at text) kind
+stops_digits text at low high digits Octet ends none here = (
   here.0,
   here.1,
   here.2,
@@ -66,25 +66,23 @@ stops_digits text at low high digits Grammar ends none here = (
       ends here.0 here.1 here.2 (record { number = n.number; more = end; is = is; above = n.above; below = n.below }),
 )
 stops_digits text at low high digits End ends none here = (here, none)
-stops_digits text at low high digits TooManyRuns ends none here = here
-stops_digits text at low high digits NotOrdered ends none here = here
 
 -- the digits are no number: there are none, or it is below low
 none_number : (text : List ℕ) (start at low high number : ℕ) → high < 65536 → (h : HasDigits text start at low high number) → (at ≡ start) ⊎ (number < low) → IsNumber low high h.digits → ⊥
 none_number text start at low high number small h (inl e) n =
-    let none : h.digits ≡ [] = reads_nothing text start h.digits (subst (λ k. Reads text start k h.digits) e h.reads) in
+    let none : h.digits ≡ [] = reads_nothing text start h.digits (subst (λ k. Spells text start k h.digits) e h.reads) in
     omega (arith, decimal_nonempty n.number (omega (arith, n.below)), ap length (sym n.is ∙ none))
 none_number text start at low high number small h (inr lt) n =
     let is : n.number ≡ number = sym (number-decimal n.number (omega (arith, n.below))) ∙ ap (number_after 0) (sym n.is) ∙ h.value in
     omega (arith, n.above, is)
 
-pub number_fault : (text : List ℕ) (start at low high number : ℕ) (fault : TextFault) → high < 65536 → (h : HasDigits text start at low high number) → EndsDigits text at low high h.digits → (at ≡ start) ⊎ (number < low) → fault.octet ≡ at → StopsHere (drop at text) fault.kind → FailsNumber text start low high fault
+pub number_fault : (text : List ℕ) (start at low high number : ℕ) (fault : WireFault) → high < 65536 → (h : HasDigits text start at low high number) → EndsDigits text at low high h.digits → (at ≡ start) ⊎ (number < low) → fault.octet ≡ at → StopsHere (drop at text) fault.kind → FailsNumber text start low high fault
 number_fault text start at low high number fault small h ends bad place here =
     let none = none_number text start at low high number small h bad in
     let stops = stops_digits text at low high h.digits fault.kind ends none here in
     let fails : FaultIn (IsNumber low high) text start fault = record {
       part = h.digits;
-      reads = subst (λ k. Reads text start k h.digits) (sym place) h.reads;
+      reads = subst (λ k. Spells text start k h.digits) (sym place) h.reads;
       more = h.begins.more;
       front = record { number = h.begins.number; is = sym h.begins.is; above = h.begins.above; below = h.begins.below };
       stops = subst (λ k. StopsIn (IsNumber low high) h.digits (drop k text) fault.kind) (sym place) stops;
@@ -98,7 +96,7 @@ number_read text start at low high number small h ends some above =
     let is : decimal number ≡ h.digits =
     ap decimal (sym h.value) ∙ begins_number low high h.digits small long (omega (arith, h.value)) h.begins in
     record {
-      reads = subst (Reads text start at) (sym is) h.reads;
+      reads = subst (Spells text start at) (sym is) h.reads;
       above = above;
       below = below;
       ends = subst (EndsDigits text at low high) (sym is) ends;

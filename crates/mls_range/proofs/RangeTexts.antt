@@ -7,14 +7,18 @@ use Rattle.std.proofs.lemmas.List.{append-nil}
 use Rattle.mls_label.specs.declared.label.Label.{Label}
 use Rattle.mls_label.specs.Cats.{IsCats}
 use Rattle.mls_label.specs.Label.{Dominates}
+use Rattle.octet_grammar.specs.declared.fault.WireKind.{WireKind}
+use Rattle.octet_grammar.specs.declared.fault.WireFault.{WireFault}
 use Rattle.mls_range.specs.declared.fault.TextFault.{TextFault}
+use Rattle.mls_range.specs.Place.{octet_fault, end_fault}
 use Rattle.mls_range.specs.declared.fault.TextKind.{TextKind}
 use Rattle.mls_range.specs.declared.fault.TextKind.TheVariants.{Grammar, End, TooManyRuns, NotOrdered}
 use Rattle.mls_range.specs.LabelText.{IsLabelText, label_text}
 use Rattle.mls_range.specs.Crowd.{CrowdsLabel, IsRoomy}
-use Rattle.mls_range.specs.Range.{Ends}
+use Rattle.mls_range.specs.Range.{LabelRange}
 use Rattle.mls_range.specs.RangeText.{IsPair, IsRangeText, same_label, range_text, IsRoomyRange, IsUnordered, FailsRange, StopsRange}
-use Rattle.mls_range.specs.Rest.{Reads, FaultIn, StopsIn, IsLabelEnd, LabelOn, FailsPart, StopsPart, ReadsPart}
+use Rattle.mls_range.specs.inside.Rest.{Spells, FaultIn, StopsIn, IsLabelEnd, LabelOn}
+use Rattle.mls_range.specs.inside.Stops.{FailsAt, ReadsPart, StopsPart}
 use Rattle.mls_range.proofs.Places.{reads_on, reads_length, reads_octet, drop_at, drop_end}
 use Rattle.mls_range.proofs.Rests.{Goes, fault_goes, cuts}
 use Rattle.mls_range.proofs.TermLists.{stops_not, stops_less}
@@ -26,7 +30,7 @@ use Rattle.mls_range.proofs.Wholes.{no_dash, IsTexts, octet_fault_of, end_fault_
 
 -- a text of some range
 abbrev pub IsRange : List ℕ → Type 0
-IsRange text = (range : Ends) × IsRangeText text range
+IsRange text = (range : LabelRange) × IsRangeText text range
 
 range_texts : IsTexts IsRangeText IsRange
 range_texts = record { into = λ t r. r; back = λ t v r. (v, r) }
@@ -34,7 +38,7 @@ range_texts = record { into = λ t r. r; back = λ t v r. (v, r) }
 dash_ends : (t : List ℕ) → IsLabelEnd true (45 ∷ t)
 dash_ends t = (refl, refl)
 
-range_on_of : (text : List ℕ) (range : Ends) → IsRangeText text range → LabelOn true text
+range_on_of : (text : List ℕ) (range : LabelRange) → IsRangeText text range → LabelOn true text
 range_on_of text range (inl lone) = subst (LabelOn true) (append-nil text) (on_label true text [] range.low lone.low tt)
 range_on_of text range (inr pair) = subst (LabelOn true) (sym pair.is) (on_label true pair.low_text (45 ∷ pair.high_text) range.low pair.low (dash_ends pair.high_text))
 
@@ -46,7 +50,7 @@ lone_range text label l = (record { low = label; high = label }, inl (record { l
 
 -- ---- the fault of the low label
 
-range_front : (part more rest : List ℕ) (kind : TextKind) → LabelOn true (part ++ more) → StopsIn (LabelOn true) part rest kind → (end : List ℕ) × IsRange (part ++ end)
+range_front : (part more rest : List ℕ) (kind : WireKind) → LabelOn true (part ++ more) → StopsIn (LabelOn true) part rest kind → (end : List ℕ) × IsRange (part ++ end)
 range_front part more rest kind l stops =
     let a = label_and true (part ++ more) l in
     elim (cuts part more a.text a.rest a.is) [
@@ -61,7 +65,7 @@ range_front part more rest kind l stops =
       ]
     ]
 
-fault_low : (text : List ℕ) (fault : TextFault) → FaultIn (LabelOn true) text 0 fault → FaultIn IsRange text 0 fault
+fault_low : (text : List ℕ) (fault : WireFault) → FaultIn (LabelOn true) text 0 fault → FaultIn IsRange text 0 fault
 fault_low text fault f =
     let front = range_front f.part f.more (drop fault.octet text) fault.kind f.front f.stops in
     record {
@@ -72,20 +76,20 @@ fault_low text fault f =
       stops = stops_less (LabelOn true) IsRange f.part (drop fault.octet text) fault.kind range_on f.stops;
     }
 
-roomy_low : (text : List ℕ) (fault : TextFault) → FaultIn (LabelOn true) text 0 fault → IsRoomy true text → IsRoomyRange text
+roomy_low : (text : List ℕ) (fault : WireFault) → FaultIn (LabelOn true) text 0 fault → IsRoomy true text → IsRoomyRange text
 roomy_low text fault f roomy octet (inl c) = roomy octet c
 roomy_low text fault f roomy octet (inr c) =
     let on = on_label true c.low_text (45 ∷ c.high_text) c.low c.is_low (dash_ends c.high_text) in
     stops_not (LabelOn true) f.part (drop fault.octet text) fault.kind (subst (LabelOn true) (sym c.is ∙ f.reads.is) on) f.stops
 
-fails_low : (text : List ℕ) (fault : TextFault) (kind : TextKind) → fault.kind ≡ kind → FailsPart true text 0 fault kind → FailsRange text fault.octet kind
-fails_low text fault Grammar e f = (octet_fault_of IsRangeText IsRange text fault range_texts (fault_low text fault f.0) e, roomy_low text fault f.0 f.1)
-fails_low text fault End e f = (end_fault_of IsRangeText IsRange text fault range_texts (fault_low text fault f.0) e, roomy_low text fault f.0 f.1)
-fails_low text fault TooManyRuns e f = inl (subst (CrowdsLabel true text) (let q : f.0 ≡ fault.octet = omega (arith, f.1) in q) f.2)
-fails_low text fault NotOrdered e f = absurd f
+fails_low : (text : List ℕ) (octet : ℕ) (kind : TextKind) → FailsAt (LabelOn true) (CrowdsLabel true text) text 0 octet kind → FailsRange text octet kind
+fails_low text octet Grammar f = (octet_fault_of IsRangeText IsRange text octet range_texts (fault_low text (octet_fault octet) f.0), roomy_low text (octet_fault octet) f.0 f.1)
+fails_low text octet End f = (end_fault_of IsRangeText IsRange text octet range_texts (fault_low text (end_fault octet) f.0), roomy_low text (end_fault octet) f.0 f.1)
+fails_low text octet TooManyRuns f = inl (subst (CrowdsLabel true text) (let q : f.0 ≡ octet = omega (arith, f.1) in q) f.2)
+fails_low text octet NotOrdered f = absurd f
 
-pub stops_low : (text : List ℕ) (stop : TextFault) → StopsPart true text 0 stop → StopsRange text stop
-stops_low text fault s = fails_low text fault fault.kind refl s
+pub stops_low : (text : List ℕ) (fault : TextFault) → StopsPart true text 0 fault → StopsRange text fault
+stops_low text fault s = fails_low text fault.octet fault.kind s
 
 -- ---- behind the dash
 
@@ -93,7 +97,7 @@ stops_low text fault s = fails_low text fault fault.kind refl s
 pub record LowAt (text : List ℕ) (low : Label) (start : ℕ) : Type 0 where
   pub part : List ℕ
   pub is_low : IsLabelText part low
-  pub reads : Reads text 0 start (part ++ 45 ∷ [])
+  pub reads : Spells text 0 start (part ++ 45 ∷ [])
   pub is : text ≡ part ++ 45 ∷ drop start text
   pub place : start ≡ length part + 1
   pub roomy : IsRoomy true text
@@ -107,7 +111,7 @@ low_at text low end r some =
     let lt : end < length text = omega (arith, r.reads.within) in
     let at = drop_at text end lt in
     let dash = dash_at (drop end text) _ _ r.ends at in
-    let one : Reads text end (end + 1) (45 ∷ []) = subst (λ x. Reads text end (end + 1) (x ∷ [])) dash (reads_octet text end lt) in
+    let one : Spells text end (end + 1) (45 ∷ []) = subst (λ x. Spells text end (end + 1) (x ∷ [])) dash (reads_octet text end lt) in
     record {
       part = r.part;
       is_low = r.is;
@@ -131,7 +135,7 @@ roomy_high text low start l roomy octet (inr c) =
     roomy c.at (subst (λ t. CrowdsLabel false t c.at) (sym same.1) c.crowds)
 
 -- what may come behind the dash
-high_back_of : (part t text : List ℕ) (low : Label) (range : Ends) → IsLabelText part low → text ≡ part ++ 45 ∷ t → IsRangeText text range → LabelOn false t
+high_back_of : (part t text : List ℕ) (low : Label) (range : LabelRange) → IsLabelText part low → text ≡ part ++ 45 ∷ t → IsRangeText text range → LabelOn false t
 high_back_of part t text low range is_low e (inl lone) =
     let u = label_unique true part text (45 ∷ t) [] low range.low is_low lone.low (dash_ends t) tt (sym e ∙ sym (append-nil text)) in
     let bad : 45 ∷ t ≡ [] = u.2 in
@@ -151,19 +155,19 @@ goes_high part s low is_low =
       back = λ t e r. high_back_of part t ((part ++ 45 ∷ []) ++ t) low r.0 is_low (append_assoc part (45 ∷ []) t) r.1;
     }
 
-fault_high : (text : List ℕ) (low : Label) (start : ℕ) (fault : TextFault) → (l : LowAt text low start) → FaultIn (LabelOn false) text start fault → FaultIn IsRange text 0 fault
+fault_high : (text : List ℕ) (low : Label) (start : ℕ) (fault : WireFault) → (l : LowAt text low start) → FaultIn (LabelOn false) text start fault → FaultIn IsRange text 0 fault
 fault_high text low start fault l f =
     fault_goes IsRange (l.part ++ 45 ∷ []) (LabelOn false) text 0 start fault l.reads (goes_high l.part (drop start text) low l.is_low) f
 
-fails_high : (text : List ℕ) (low : Label) (start : ℕ) (fault : TextFault) (kind : TextKind) → fault.kind ≡ kind → LowAt text low start → FailsPart false text start fault kind → FailsRange text fault.octet kind
-fails_high text low start fault Grammar e l f = (octet_fault_of IsRangeText IsRange text fault range_texts (fault_high text low start fault l f.0) e, roomy_high text low start l f.1)
-fails_high text low start fault End e l f = (end_fault_of IsRangeText IsRange text fault range_texts (fault_high text low start fault l f.0) e, roomy_high text low start l f.1)
-fails_high text low start fault TooManyRuns e l f =
+fails_high : (text : List ℕ) (low : Label) (start octet : ℕ) (kind : TextKind) → LowAt text low start → FailsAt (LabelOn false) (CrowdsLabel false (drop start text)) text start octet kind → FailsRange text octet kind
+fails_high text low start octet Grammar l f = (octet_fault_of IsRangeText IsRange text octet range_texts (fault_high text low start (octet_fault octet) l f.0), roomy_high text low start l f.1)
+fails_high text low start octet End l f = (end_fault_of IsRangeText IsRange text octet range_texts (fault_high text low start (end_fault octet) l f.0), roomy_high text low start l f.1)
+fails_high text low start octet TooManyRuns l f =
     inr (record { low_text = l.part; high_text = drop start text; low = low; at = f.0; is = l.is; is_low = l.is_low; roomy = l.roomy; crowds = f.2; place = omega (arith, f.1, l.place) })
-fails_high text low start fault NotOrdered e l f = absurd f
+fails_high text low start octet NotOrdered l f = absurd f
 
-pub stops_high : (text : List ℕ) (low : Label) (start : ℕ) (stop : TextFault) → LowAt text low start → StopsPart false text start stop → StopsRange text stop
-stops_high text low start fault l s = fails_high text low start fault fault.kind refl l s
+pub stops_high : (text : List ℕ) (low : Label) (start : ℕ) (fault : TextFault) → LowAt text low start → StopsPart false text start fault → StopsRange text fault
+stops_high text low start fault l s = fails_high text low start fault.octet fault.kind l s
 
 -- ---- both labels are read
 
@@ -172,7 +176,7 @@ whole_high text start end high r =
     let none : drop end text ≡ [] = no_dash (drop end text) r.ends in
     subst (λ t. IsLabelText t high) (sym (r.reads.is ∙ ap (λ t. r.part ++ t) none ∙ append-nil r.part)) r.is
 
-pub pair_read : (text : List ℕ) (low high : Label) (start end : ℕ) → (l : LowAt text low start) → ReadsPart false text start high end → (range : Ends) → range.low ≡ low → range.high ≡ high → IsPair text range
+pub pair_read : (text : List ℕ) (low high : Label) (start end : ℕ) → (l : LowAt text low start) → ReadsPart false text start high end → (range : LabelRange) → range.low ≡ low → range.high ≡ high → IsPair text range
 pair_read text low high start end l r range is_low is_high =
     record {
       low_text = l.part;
@@ -208,7 +212,7 @@ roomy_lone text low end r e octet (inr c) =
 
 -- ---- laws
 
-pub one_range_of : (text : List ℕ) (a b : Ends) → IsRangeText text a → IsRangeText text b → (a.low ≡ b.low) × (a.high ≡ b.high)
+pub one_range_of : (text : List ℕ) (a b : LabelRange) → IsRangeText text a → IsRangeText text b → (a.low ≡ b.low) × (a.high ≡ b.high)
 one_range_of text a b (inl p) (inl q) =
     let low = one_label text a.low b.low p.low q.low in
     (low, p.high ∙ low ∙ sym q.high)
@@ -226,7 +230,7 @@ one_range_of text a b (inr p) (inr q) =
     let same : q.high_text ≡ p.high_text = cc in
     (u.0, one_label p.high_text a.high b.high p.high (subst (λ t. IsLabelText t b.high) same q.high))
 
-pub one_range : (text : List ℕ) (a b : Ends) → IsRangeText text a → IsRangeText text b → a ≡ b
+pub one_range : (text : List ℕ) (a b : LabelRange) → IsRangeText text a → IsRangeText text b → a ≡ b
 one_range text a b p q =
     let e = one_range_of text a b p q in
     λ i. record { low = e.0 i; high = e.1 i }
@@ -237,21 +241,17 @@ same_label_is a b =
     let d = Decides-and (nat_eq a.level b.level) (bytes_eq a.cats b.cats) (Decides-eqb a.level b.level) (bytes_eq-Decides a.cats b.cats) in
     (λ e. let p = d.0 e in λ i. record { level = p.0 i; cats = p.1 i }, λ e. d.1 (ap (λ x. x.level) e, ap (λ x. x.cats) e))
 
-range_back_of : (range : Ends) (b : Bool) → same_label range.high range.low ≡ b → IsLabelText (label_text range.low) range.low → IsLabelText (label_text range.high) range.high → IsRangeText (cond b (label_text range.low) (label_text range.low ++ 45 ∷ label_text range.high)) range
+range_back_of : (range : LabelRange) (b : Bool) → same_label range.high range.low ≡ b → IsLabelText (label_text range.low) range.low → IsLabelText (label_text range.high) range.high → IsRangeText (cond b (label_text range.low) (label_text range.low ++ 45 ∷ label_text range.high)) range
 range_back_of range true e low high = inl (record { low = low; high = (same_label_is range.high range.low).0 e })
 range_back_of range false e low high = inr (record { low_text = label_text range.low; high_text = label_text range.high; is = refl; low = low; high = high })
 
-pub range_reads_back : (range : Ends) → range.low.level < 256 → range.high.level < 256 → IsCats range.low.cats → IsCats range.high.cats → IsRangeText (range_text range) range
+pub range_reads_back : (range : LabelRange) → range.low.level < 256 → range.high.level < 256 → IsCats range.low.cats → IsCats range.high.cats → IsRangeText (range_text range) range
 range_reads_back range low high low_cats high_cats =
     range_back_of range (same_label range.high range.low) refl (reads_back range.low low low_cats) (reads_back range.high high high_cats)
 
--- the written form, by whether the ends are the same
-pub text_lone : (range : Ends) → range.high ≡ range.low → range_text range ≡ label_text range.low
-text_lone range e = ap (λ b. cond b (label_text range.low) (label_text range.low ++ 45 ∷ label_text range.high)) ((same_label_is range.high range.low).1 e)
-
-text_pair_of : (range : Ends) (b : Bool) → same_label range.high range.low ≡ b → (range.high ≡ range.low → ⊥) → cond b (label_text range.low) (label_text range.low ++ 45 ∷ label_text range.high) ≡ label_text range.low ++ 45 ∷ label_text range.high
+text_pair_of : (range : LabelRange) (b : Bool) → same_label range.high range.low ≡ b → (range.high ≡ range.low → ⊥) → cond b (label_text range.low) (label_text range.low ++ 45 ∷ label_text range.high) ≡ label_text range.low ++ 45 ∷ label_text range.high
 text_pair_of range true e other = absurd (other ((same_label_is range.high range.low).0 e))
 text_pair_of range false e other = refl
 
-pub text_pair : (range : Ends) → (range.high ≡ range.low → ⊥) → range_text range ≡ label_text range.low ++ 45 ∷ label_text range.high
+pub text_pair : (range : LabelRange) → (range.high ≡ range.low → ⊥) → range_text range ≡ label_text range.low ++ 45 ∷ label_text range.high
 text_pair range other = text_pair_of range (same_label range.high range.low) refl other

@@ -1,21 +1,16 @@
 -- The written form of a label has its categories.
-use Rattle.std.proofs.Common.{◌≡◌, ℕ, ◌+◌, ◌-◌, ◌<◌, ◌≤◌, Bool, true, false, ◌||◌, ◌&&◌, cond, nat_le, nat_lt, List, [], ◌∷◌, refl, sym, ap, subst, ◌∙◌, arith, inl, inr}
-use Rattle.std.specs.List.{All, flat_map, range_with_len}
-use Rattle.std.proofs.lemmas.Bool.{cases_eq, eq-eqb, ne_eqb}
+use Rattle.std.proofs.Common.{◌≡◌, ℕ, ◌+◌, ◌<◌, ◌≤◌, Bool, true, false, ◌||◌, cond, List, [], ◌∷◌, refl, sym, ap, subst, ◌∙◌, arith, inl, inr}
+use Rattle.std.specs.List.{All, flat_map, list_any}
+use Rattle.std.proofs.lemmas.Bool.{cases_eq, eq-eqb, ne_eqb, or_left, or_right}
 use Rattle.std.proofs.lemmas.Bool.Decides.{nat_tests}
 use Rattle.std.proofs.Math.Bool.{or-false}
 use Rattle.std.proofs.lemmas.List.Folds.{list_any-append}
 use Rattle.std.proofs.lemmas.List.Elements.{All-nil, All-cons, All-append}
 use Rattle.mls_label.specs.declared.label.Label.{Label}
 use Rattle.mls_label.specs.Cats.{has, IsCats, is_within}
-use Rattle.mls_label.specs.Runs.{runs_of, numbers_of}
-use Rattle.mls_label.proofs.Cats.{has-append, has-range_with_len, has_bounds, cats_where_is}
-use Rattle.mls_label.proofs.Runs.{AreInOrder, cats_of_runs, runs_in_order}
+use Rattle.mls_label.specs.Runs.{runs_of, AreSpaced}
+use Rattle.mls_label.proofs.Law.{sets_are_what_they_have, sets_have_categories, sets_have_their_runs, runs_have_what_each_has}
 use Rattle.mls_range.specs.LabelText.{IsTerm, IsLabelText, label_text, term_has, terms_of_run}
-
-or_true : (b : Bool) → (b || true) ≡ true
-or_true true = refl
-or_true false = refl
 
 -- the terms of a run have its categories
 run_has : (r : ℕ × ℕ) (c : ℕ) → r.0 ≤ r.1 → term_has (terms_of_run r) c ≡ is_within r.0 r.1 c
@@ -30,13 +25,14 @@ run_has r c order =
           ap (λ ts. term_has ts c) is ∙ or-false (is_within r.0 r.1 c)
     ]
 
-range_has : (r : ℕ × ℕ) (c : ℕ) → r.0 ≤ r.1 → has (range_with_len r.0 (r.1 + 1 - r.0)) c ≡ is_within r.0 r.1 c
-range_has r c order = has-range_with_len r.0 (r.1 + 1 - r.0) c ∙ (let q : (nat_le r.0 c && nat_lt c (r.0 + (r.1 + 1 - r.0))) ≡ (nat_le r.0 c && nat_le c r.1) = grind (arith, nat_tests) in q)
+-- some run has the category
+abbrev in_runs : List (ℕ × ℕ) → ℕ → Bool
+in_runs runs c = list_any (λ (r : ℕ × ℕ). is_within r.0 r.1 c) runs
 
-runs_have : (runs : List (ℕ × ℕ)) (c : ℕ) → AreInOrder runs → has (numbers_of runs) c ≡ term_has (flat_map terms_of_run runs) c
-runs_have [] c o = refl
-runs_have (r ∷ runs) c o =
-    has-append (range_with_len r.0 (r.1 + 1 - r.0)) (numbers_of runs) c ∙ (λ i. range_has r c o.0 i || runs_have runs c o.1 i) ∙ ap (λ b. b || term_has (flat_map terms_of_run runs) c) (sym (run_has r c o.0)) ∙ sym (list_any-append (λ t. is_within t.0 t.1 c) (terms_of_run r) (flat_map terms_of_run runs))
+runs_have : (low : ℕ) (runs : List (ℕ × ℕ)) (c : ℕ) → AreSpaced low runs → in_runs runs c ≡ term_has (flat_map terms_of_run runs) c
+runs_have low [] c s = refl
+runs_have low (r ∷ runs) c s =
+    (λ i. sym (run_has r c s.1) i || runs_have (r.1 + 2) runs c s.2 i) ∙ sym (list_any-append (λ t. is_within t.0 t.1 c) (terms_of_run r) (flat_map terms_of_run runs))
 
 run_terms : (r : ℕ × ℕ) → r.0 ≤ r.1 → r.1 < 65535 → All IsTerm (terms_of_run r)
 run_terms r order small =
@@ -50,26 +46,24 @@ run_terms r order small =
           subst (All IsTerm) (sym is) (All-cons IsTerm r [] (order, small) (All-nil IsTerm))
     ]
 
-runs_terms : (runs : List (ℕ × ℕ)) → AreInOrder runs → ((c : ℕ) → has (numbers_of runs) c ≡ true → c < 65535) → All IsTerm (flat_map terms_of_run runs)
-runs_terms [] o below = All-nil IsTerm
-runs_terms (r ∷ runs) o below =
-    let order : r.0 ≤ r.1 = o.0 in
+runs_terms : (low : ℕ) (runs : List (ℕ × ℕ)) → AreSpaced low runs → ((c : ℕ) → in_runs runs c ≡ true → c < 65535) → All IsTerm (flat_map terms_of_run runs)
+runs_terms low [] s below = All-nil IsTerm
+runs_terms low (r ∷ runs) s below =
+    let order : r.0 ≤ r.1 = s.1 in
     let inside : is_within r.0 r.1 r.1 ≡ true = grind (arith, nat_tests) in
-    let here : has (numbers_of (r ∷ runs)) r.1 ≡ true =
-    has-append (range_with_len r.0 (r.1 + 1 - r.0)) (numbers_of runs) r.1 ∙ ap (λ b. b || has (numbers_of runs) r.1) (range_has r r.1 o.0 ∙ inside) in
-    let rest : (c : ℕ) → has (numbers_of runs) c ≡ true → c < 65535 = λ c h.
-    below c (has-append (range_with_len r.0 (r.1 + 1 - r.0)) (numbers_of runs) c ∙ ap (λ b. has (range_with_len r.0 (r.1 + 1 - r.0)) c || b) h ∙ or_true (has (range_with_len r.0 (r.1 + 1 - r.0)) c)) in
-    All-append IsTerm (terms_of_run r) (flat_map terms_of_run runs) (run_terms r o.0 (below r.1 here)) (runs_terms runs o.1 rest)
+    let last = below r.1 (or_left (is_within r.0 r.1 r.1) (in_runs runs r.1) inside) in
+    let rest : (c : ℕ) → in_runs runs c ≡ true → c < 65535 = λ c h. below c (or_right (is_within r.0 r.1 c) (in_runs runs c) h) in
+    All-append IsTerm (terms_of_run r) (flat_map terms_of_run runs) (run_terms r s.1 last) (runs_terms (r.1 + 2) runs s.2 rest)
 
 pub reads_back : (label : Label) → label.level < 256 → IsCats label.cats → IsLabelText (label_text label) label
 reads_back label level cats =
     let runs = runs_of label.cats in
-    let terms = flat_map terms_of_run runs in
-    let is = cats_of_runs label.cats in
+    let are = sets_have_their_runs label.cats cats in
+    let has_runs : (c : ℕ) → has label.cats c ≡ in_runs runs c = λ c. ap (λ x. has x c) (sym are.numbers) ∙ runs_have_what_each_has runs c in
     record {
-      terms = terms;
-      are = runs_terms runs (runs_in_order label.cats) (λ c h. (has_bounds 0 65535 label.cats c cats (ap (λ x. has x c) (sym is) ∙ h)).1);
+      terms = flat_map terms_of_run runs;
+      are = runs_terms 0 runs are.spaced (λ c h. sets_have_categories label.cats c cats (has_runs c ∙ h));
       is = refl;
       level = level;
-      cats = cats_where_is label.cats (term_has terms) cats (λ c lt. ap (λ x. has x c) (sym is) ∙ runs_have runs c (runs_in_order label.cats));
+      cats = sets_are_what_they_have label.cats (term_has (flat_map terms_of_run runs)) cats (λ c lt. has_runs c ∙ runs_have 0 runs c are.spaced);
     }

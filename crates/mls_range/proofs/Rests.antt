@@ -3,11 +3,11 @@ use Rattle.std.proofs.Common.{◌≡◌, ℕ, ◌^◌, ◌<◌, ◌≤◌, Bool,
 use Rattle.std.specs.Fmt.{decimal}
 use Rattle.std.proofs.lemmas.List.{append-nil}
 use Rattle.std.proofs.lemmas.Fmt.{decimal_injective}
-use Rattle.mls_range.specs.declared.fault.TextFault.{TextFault}
-use Rattle.mls_range.specs.declared.fault.TextKind.{TextKind}
-use Rattle.mls_range.specs.declared.fault.TextKind.TheVariants.{Grammar, End, TooManyRuns, NotOrdered}
-use Rattle.mls_range.specs.Number.{BeginsNumber, IsDigit, AllDigits}
-use Rattle.mls_range.specs.Rest.{Reads, FaultIn, FailsNumber, IsNumber, MissesEnd, MissesOctet, StopsIn}
+use Rattle.octet_grammar.specs.declared.fault.WireFault.{WireFault}
+use Rattle.octet_grammar.specs.declared.fault.WireKind.{WireKind}
+use Rattle.octet_grammar.specs.declared.fault.WireKind.TheVariants.{Octet, End}
+use Rattle.mls_range.specs.inside.Number.{BeginsNumber, IsDigit, AllDigits}
+use Rattle.mls_range.specs.inside.Rest.{Spells, FaultIn, FailsNumber, IsNumber, MissesEnd, MissesOctet, StopsIn}
 use Rattle.mls_range.specs.Crowd.{IsCounted}
 use Rattle.mls_range.proofs.Digits.{digits_of_decimal, digits_back, digits_front}
 use Rattle.mls_range.proofs.Places.{reads_none, reads_on}
@@ -35,8 +35,8 @@ pub goes_octet : (x : ℕ) (s : List ℕ) (R Q : List ℕ → Type 0) → ((t : 
 goes_octet x s R Q to from = record { into = λ t q. from t q; back = λ t e r. to t r }
 
 -- the fault of what comes is the fault of the whole
-stops_goes : (L : List ℕ → Type 0) (p s : List ℕ) (R : List ℕ → Type 0) → Goes L p s R → (part rest : List ℕ) (kind : TextKind) → s ≡ part ++ rest → StopsIn R part rest kind → StopsIn L (p ++ part) rest kind
-stops_goes L p s R g part rest Grammar is stops = (
+stops_goes : (L : List ℕ → Type 0) (p s : List ℕ) (R : List ℕ → Type 0) → Goes L p s R → (part rest : List ℕ) (kind : WireKind) → s ≡ part ++ rest → StopsIn R part rest kind → StopsIn L (p ++ part) rest kind
+stops_goes L p s R g part rest Octet is stops = (
   stops.0,
   stops.1,
   stops.2,
@@ -51,10 +51,8 @@ stops_goes L p s R g part rest End is stops = (
       let here : take 1 part ≡ take 1 s = ap (take 1) (sym (append-nil part) ∙ ap (λ x. part ++ x) (sym stops.0) ∙ sym is) in
       stops.1 (g.back part here l),
 )
-stops_goes L p s R g part rest TooManyRuns is stops = stops
-stops_goes L p s R g part rest NotOrdered is stops = stops
 
-pub fault_goes : (L : List ℕ → Type 0) (p : List ℕ) (R : List ℕ → Type 0) (text : List ℕ) (start at : ℕ) (fault : TextFault) → Reads text start at p → Goes L p (drop at text) R → FaultIn R text at fault → FaultIn L text start fault
+pub fault_goes : (L : List ℕ → Type 0) (p : List ℕ) (R : List ℕ → Type 0) (text : List ℕ) (start at : ℕ) (fault : WireFault) → Spells text start at p → Goes L p (drop at text) R → FaultIn R text at fault → FaultIn L text start fault
 fault_goes L p R text start at fault reads g f =
     record {
       part = p ++ f.part;
@@ -65,29 +63,25 @@ fault_goes L p R text start at fault reads g f =
     }
 
 -- a fault at this very place
-pub fault_now : (R : List ℕ → Type 0) (text : List ℕ) (at : ℕ) (fault : TextFault) (some : List ℕ) → at ≤ length text → fault.octet ≡ at → R some → StopsIn R [] (drop at text) fault.kind → FaultIn R text at fault
+pub fault_now : (R : List ℕ → Type 0) (text : List ℕ) (at : ℕ) (fault : WireFault) (some : List ℕ) → at ≤ length text → fault.octet ≡ at → R some → StopsIn R [] (drop at text) fault.kind → FaultIn R text at fault
 fault_now R text at fault some within place member stops =
     record {
       part = [];
-      reads = subst (λ k. Reads text at k []) (sym place) (reads_none text at within);
+      reads = subst (λ k. Spells text at k []) (sym place) (reads_none text at within);
       more = some;
       front = member;
       stops = subst (λ k. StopsIn R [] (drop k text) fault.kind) (sym place) stops;
     }
 
 -- another octet stands there than the one that has to
-pub stops_octet : (R : List ℕ → Type 0) (wanted : ℕ) (rest : List ℕ) (kind : TextKind) → MissesOctet wanted rest kind → ((x : ℕ) (t : List ℕ) → R (x ∷ t) → x ≡ wanted) → (R [] → ⊥) → StopsIn R [] rest kind
-stops_octet R wanted rest Grammar m only some = (m.0, m.1, m.2, λ end r. m.3 (only m.0 end r))
+pub stops_octet : (R : List ℕ → Type 0) (wanted : ℕ) (rest : List ℕ) (kind : WireKind) → MissesOctet wanted rest kind → ((x : ℕ) (t : List ℕ) → R (x ∷ t) → x ≡ wanted) → (R [] → ⊥) → StopsIn R [] rest kind
+stops_octet R wanted rest Octet m only some = (m.0, m.1, m.2, λ end r. m.3 (only m.0 end r))
 stops_octet R wanted rest End m only some = (m, some)
-stops_octet R wanted rest TooManyRuns m only some = m
-stops_octet R wanted rest NotOrdered m only some = m
 
 -- an octet that can't stand behind a counted term
-pub stops_end : (R : List ℕ → Type 0) (dash : Bool) (rest : List ℕ) (kind : TextKind) → MissesEnd dash rest kind → ((x : ℕ) (w t : List ℕ) → rest ≡ x ∷ w → R (x ∷ t) → IsCounted dash (x ∷ [])) → StopsIn R [] rest kind
-stops_end R dash rest Grammar m only = (m.0, m.1, m.2, λ end r. m.3 (only m.0 m.1 end m.2 r))
+pub stops_end : (R : List ℕ → Type 0) (dash : Bool) (rest : List ℕ) (kind : WireKind) → MissesEnd dash rest kind → ((x : ℕ) (w t : List ℕ) → rest ≡ x ∷ w → R (x ∷ t) → IsCounted dash (x ∷ [])) → StopsIn R [] rest kind
+stops_end R dash rest Octet m only = (m.0, m.1, m.2, λ end r. m.3 (only m.0 m.1 end m.2 r))
 stops_end R dash rest End m only = absurd m
-stops_end R dash rest TooManyRuns m only = m
-stops_end R dash rest NotOrdered m only = m
 
 -- ---- a number, and what comes behind it
 
@@ -172,8 +166,8 @@ not_then low high Q part rest small apart digits none longer r =
       ]
     ]
 
-stops_then : (low high : ℕ) (Q : ℕ → List ℕ → Type 0) (part rest : List ℕ) (kind : TextKind) → high < 65536 → IsApart Q → AllDigits part → (IsNumber low high part → ⊥) → StopsIn (IsNumber low high) part rest kind → StopsIn (NumberThen low high Q) part rest kind
-stops_then low high Q part rest Grammar small apart digits none stops = (
+stops_then : (low high : ℕ) (Q : ℕ → List ℕ → Type 0) (part rest : List ℕ) (kind : WireKind) → high < 65536 → IsApart Q → AllDigits part → (IsNumber low high part → ⊥) → StopsIn (IsNumber low high) part rest kind → StopsIn (NumberThen low high Q) part rest kind
+stops_then low high Q part rest Octet small apart digits none stops = (
   stops.0,
   stops.1,
   stops.2,
@@ -187,10 +181,8 @@ stops_then low high Q part rest End small apart digits none stops = (
   λ r.
       not_then low high Q part [] small apart digits none (λ x w e is number. absurd (omega (arith, ap length is))) (subst (NumberThen low high Q) (sym (append-nil part)) r),
 )
-stops_then low high Q part rest TooManyRuns small apart digits none stops = stops
-stops_then low high Q part rest NotOrdered small apart digits none stops = stops
 
-pub number_then : (low high : ℕ) (Q : ℕ → List ℕ → Type 0) (text : List ℕ) (at : ℕ) (fault : TextFault) → high < 65536 → IsApart Q → ((n : ℕ) → low ≤ n → n ≤ high → (t : List ℕ) × Q n t) → FailsNumber text at low high fault → FaultIn (NumberThen low high Q) text at fault
+pub number_then : (low high : ℕ) (Q : ℕ → List ℕ → Type 0) (text : List ℕ) (at : ℕ) (fault : WireFault) → high < 65536 → IsApart Q → ((n : ℕ) → low ≤ n → n ≤ high → (t : List ℕ) × Q n t) → FailsNumber text at low high fault → FaultIn (NumberThen low high Q) text at fault
 number_then low high Q text at fault small apart some f =
     let front = f.fails.front in
     let t = some front.number front.above front.below in

@@ -6,13 +6,13 @@ use Rattle.std.proofs.lemmas.Bool.{cases_lt}
 use Rattle.std.proofs.lemmas.List.{append-nil}
 use Rattle.std.proofs.lemmas.List.Elements.{All-nil, All-cons, All-head, All-tail}
 use Rattle.std.proofs.lemmas.Fmt.{decimal_injective}
-use Rattle.mls_range.specs.declared.fault.TextFault.{TextFault}
-use Rattle.mls_range.specs.declared.fault.TextKind.{TextKind}
-use Rattle.mls_range.specs.declared.fault.TextKind.TheVariants.{Grammar, End, TooManyRuns, NotOrdered}
+use Rattle.octet_grammar.specs.declared.fault.WireFault.{WireFault}
+use Rattle.octet_grammar.specs.declared.fault.WireKind.{WireKind}
+use Rattle.octet_grammar.specs.declared.fault.WireKind.TheVariants.{Octet, End}
 use Rattle.mls_range.specs.LabelText.{IsTerm, term_text}
 use Rattle.mls_range.specs.Crowd.{IsCounted, with_comma}
-use Rattle.mls_range.specs.Number.{IsDigit, AllDigits}
-use Rattle.mls_range.specs.Rest.{FaultIn, StopsIn, IsLabelEnd, separated, last_text, MoreTerms, Terms, TermOn}
+use Rattle.mls_range.specs.inside.Number.{IsDigit, AllDigits}
+use Rattle.mls_range.specs.inside.Rest.{FaultIn, StopsIn, IsLabelEnd, separated, last_text, MoreTerms, Terms, TermOn}
 use Rattle.mls_range.proofs.Digits.{digits_of_decimal, digits_back}
 use Rattle.mls_range.proofs.Rests.{Goes, goes_self, goes_then, cuts}
 use Rattle.mls_range.proofs.TermRests.{term_text_is, last_none, last_some}
@@ -221,23 +221,19 @@ pub one_term : (dash : Bool) (t : ℕ × ℕ) → IsTerm t → Terms dash (term_
 one_term dash t is_term = record { term = t; more = []; is_term = is_term; is = sym (append-nil (term_text t)); behind = more_none dash }
 
 -- a text of the grammar is no fault
-pub stops_not : (L : List ℕ → Type 0) (part rest : List ℕ) (kind : TextKind) → L (part ++ rest) → StopsIn L part rest kind → ⊥
-stops_not L part rest Grammar l stops = stops.3 stops.1 (subst (λ x. L (part ++ x)) stops.2 l)
+pub stops_not : (L : List ℕ → Type 0) (part rest : List ℕ) (kind : WireKind) → L (part ++ rest) → StopsIn L part rest kind → ⊥
+stops_not L part rest Octet l stops = stops.3 stops.1 (subst (λ x. L (part ++ x)) stops.2 l)
 stops_not L part rest End l stops = stops.1 (subst L (append-nil part) (subst (λ x. L (part ++ x)) stops.0 l))
-stops_not L part rest TooManyRuns l stops = stops
-stops_not L part rest NotOrdered l stops = stops
 
-pub stops_less : (L R : List ℕ → Type 0) (part rest : List ℕ) (kind : TextKind) → ((t : List ℕ) → R t → L t) → StopsIn L part rest kind → StopsIn R part rest kind
-stops_less L R part rest Grammar less stops = (stops.0, stops.1, stops.2, λ end r. stops.3 end (less (part ++ stops.0 ∷ end) r))
+pub stops_less : (L R : List ℕ → Type 0) (part rest : List ℕ) (kind : WireKind) → ((t : List ℕ) → R t → L t) → StopsIn L part rest kind → StopsIn R part rest kind
+stops_less L R part rest Octet less stops = (stops.0, stops.1, stops.2, λ end r. stops.3 end (less (part ++ stops.0 ∷ end) r))
 stops_less L R part rest End less stops = (stops.0, λ r. stops.1 (less part r))
-stops_less L R part rest TooManyRuns less stops = stops
-stops_less L R part rest NotOrdered less stops = stops
 
 counted_on : (dash : Bool) (x : ℕ) (t r : List ℕ) → IsCounted dash (x ∷ t) → IsCounted dash (x ∷ r)
 counted_on dash x t r c = c
 
 -- where the fault of a term stands the term isn't whole
-term_front : (dash : Bool) (part more rest : List ℕ) (kind : TextKind) → TermOn dash (part ++ more) → StopsIn (TermOn dash) part rest kind → (end : List ℕ) × Terms dash (part ++ end)
+term_front : (dash : Bool) (part more rest : List ℕ) (kind : WireKind) → TermOn dash (part ++ more) → StopsIn (TermOn dash) part rest kind → (end : List ℕ) × Terms dash (part ++ end)
 term_front dash part more rest kind w stops =
     elim (cuts part more (term_text w.term) w.more w.is) [
       | inl same ↦ ([], subst (Terms dash) (sym same.0 ∙ sym (append-nil part)) (one_term dash w.term w.is_term))
@@ -256,7 +252,7 @@ term_front dash part more rest kind w stops =
     ]
 
 -- the fault of a term is the fault of the terms
-pub fault_terms : (dash : Bool) (text : List ℕ) (at : ℕ) (fault : TextFault) → FaultIn (TermOn dash) text at fault → FaultIn (Terms dash) text at fault
+pub fault_terms : (dash : Bool) (text : List ℕ) (at : ℕ) (fault : WireFault) → FaultIn (TermOn dash) text at fault → FaultIn (Terms dash) text at fault
 fault_terms dash text at fault f =
     let front = term_front dash f.part f.more (drop fault.octet text) fault.kind f.front f.stops in
     record {
@@ -268,6 +264,6 @@ fault_terms dash text at fault f =
     }
 
 -- where it stands there is no counted term
-pub fault_no_counted : (dash : Bool) (text : List ℕ) (at : ℕ) (fault : TextFault) → FaultIn (TermOn dash) text at fault → TermOn dash (drop at text) → ⊥
+pub fault_no_counted : (dash : Bool) (text : List ℕ) (at : ℕ) (fault : WireFault) → FaultIn (TermOn dash) text at fault → TermOn dash (drop at text) → ⊥
 fault_no_counted dash text at fault f t =
     stops_not (TermOn dash) f.part (drop fault.octet text) fault.kind (subst (TermOn dash) f.reads.is t) f.stops

@@ -3,11 +3,11 @@ use Rattle.std.proofs.Common.{◌≡◌, ℕ, ◌+◌, ◌<◌, ◌≤◌, Bool,
 use Rattle.std.specs.Fmt.{decimal}
 use Rattle.std.proofs.lemmas.Bool.{cases_lt, cases_eq, eq-eqb, ne_eqb}
 use Rattle.std.proofs.lemmas.List.{append-nil}
-use Rattle.mls_range.specs.declared.fault.TextFault.{TextFault}
+use Rattle.octet_grammar.specs.declared.fault.WireFault.{WireFault}
 use Rattle.mls_range.specs.LabelText.{term_text}
 use Rattle.mls_range.specs.Crowd.{IsCounted}
-use Rattle.mls_range.specs.Number.{IsDigit}
-use Rattle.mls_range.specs.Rest.{Reads, ReadsNumber, FaultIn, MissesOctet, MissesEnd, TermOn, BehindFirst, last_text}
+use Rattle.mls_range.specs.inside.Number.{IsDigit}
+use Rattle.mls_range.specs.inside.Rest.{Spells, ReadsNumber, FaultIn, MissesOctet, MissesEnd, TermOn, BehindFirst, last_text}
 use Rattle.mls_range.proofs.Places.{first_is}
 use Rattle.mls_range.proofs.Rests.{Goes, goes_octet, goes_number, NumberThen, IsApart, fault_goes, fault_now, stops_octet, stops_end}
 
@@ -158,25 +158,25 @@ dot_some dash m lt = record { last = 65534; more = []; order = lt; small = omega
 
 -- ---- faults within a term
 
-pub fault_dot : (dash : Bool) (m : ℕ) (text : List ℕ) (start at : ℕ) (fault : TextFault) → Reads text start at (46 ∷ []) → FaultIn (BehindDot dash m) text at fault → FaultIn (BehindFirst dash m) text start fault
+pub fault_dot : (dash : Bool) (m : ℕ) (text : List ℕ) (start at : ℕ) (fault : WireFault) → Spells text start at (46 ∷ []) → FaultIn (BehindDot dash m) text at fault → FaultIn (BehindFirst dash m) text start fault
 fault_dot dash m text start at fault reads f =
     fault_goes (BehindFirst dash m) (46 ∷ []) (BehindDot dash m) text start at fault reads (goes_dot dash m (drop at text)) f
 
-pub fault_second : (dash : Bool) (m : ℕ) (text : List ℕ) (start at : ℕ) (fault : TextFault) → Reads text start at (99 ∷ []) → FaultIn (NumberThen (m + 1) 65534 (λ n. IsCounted dash)) text at fault → FaultIn (BehindDot dash m) text start fault
+pub fault_second : (dash : Bool) (m : ℕ) (text : List ℕ) (start at : ℕ) (fault : WireFault) → Spells text start at (99 ∷ []) → FaultIn (NumberThen (m + 1) 65534 (λ n. IsCounted dash)) text at fault → FaultIn (BehindDot dash m) text start fault
 fault_second dash m text start at fault reads f =
     fault_goes (BehindDot dash m) (99 ∷ []) (NumberThen (m + 1) 65534 (λ n. IsCounted dash)) text start at fault reads (goes_second dash m (drop at text)) f
 
-pub fault_letter : (dash : Bool) (text : List ℕ) (start at : ℕ) (fault : TextFault) → Reads text start at (99 ∷ []) → FaultIn (NumberThen 0 65534 (BehindFirst dash)) text at fault → FaultIn (TermOn dash) text start fault
+pub fault_letter : (dash : Bool) (text : List ℕ) (start at : ℕ) (fault : WireFault) → Spells text start at (99 ∷ []) → FaultIn (NumberThen 0 65534 (BehindFirst dash)) text at fault → FaultIn (TermOn dash) text start fault
 fault_letter dash text start at fault reads f =
     fault_goes (TermOn dash) (99 ∷ []) (NumberThen 0 65534 (BehindFirst dash)) text start at fault reads (goes_letter dash (drop at text)) f
 
 -- behind a number
-pub fault_number : (low high n : ℕ) (Q : ℕ → List ℕ → Type 0) (text : List ℕ) (start at : ℕ) (fault : TextFault) → high < 65536 → IsApart Q → ReadsNumber text start low high n at → FaultIn (Q n) text at fault → FaultIn (NumberThen low high Q) text start fault
+pub fault_number : (low high n : ℕ) (Q : ℕ → List ℕ → Type 0) (text : List ℕ) (start at : ℕ) (fault : WireFault) → high < 65536 → IsApart Q → ReadsNumber text start low high n at → FaultIn (Q n) text at fault → FaultIn (NumberThen low high Q) text start fault
 fault_number low high n Q text start at fault small apart r f =
     fault_goes (NumberThen low high Q) (decimal n) (Q n) text start at fault r.reads (goes_number low high n Q (drop at text) small r.above r.below apart r.ends) f
 
 -- the octet at this place can't come behind a term's first number
-pub fault_undotted : (dash : Bool) (m : ℕ) (text : List ℕ) (at : ℕ) (fault : TextFault) → at ≤ length text → m < 65535 → fault.octet ≡ at → MissesEnd dash (drop at text) fault.kind → (m ≡ 65534) ⊎ (get_or text at 0 ≡ 46 → ⊥) → FaultIn (BehindFirst dash m) text at fault
+pub fault_undotted : (dash : Bool) (m : ℕ) (text : List ℕ) (at : ℕ) (fault : WireFault) → at ≤ length text → m < 65535 → fault.octet ≡ at → MissesEnd dash (drop at text) fault.kind → (m ≡ 65534) ⊎ (get_or text at 0 ≡ 46 → ⊥) → FaultIn (BehindFirst dash m) text at fault
 fault_undotted dash m text at fault within small place misses undotted =
     fault_now (BehindFirst dash m) text at fault [] within place (behind_none dash m small) (stops_end (BehindFirst dash m) dash (drop at text) fault.kind misses (λ x w t is b.
     elim (behind_octet dash m x t b) [
@@ -187,17 +187,17 @@ fault_undotted dash m text at fault within small place misses undotted =
       ])
     ]))
 
-pub fault_behind : (dash : Bool) (text : List ℕ) (at : ℕ) (fault : TextFault) → at ≤ length text → fault.octet ≡ at → MissesEnd dash (drop at text) fault.kind → FaultIn (IsCounted dash) text at fault
+pub fault_behind : (dash : Bool) (text : List ℕ) (at : ℕ) (fault : WireFault) → at ≤ length text → fault.octet ≡ at → MissesEnd dash (drop at text) fault.kind → FaultIn (IsCounted dash) text at fault
 fault_behind dash text at fault within place misses =
     fault_now (IsCounted dash) text at fault [] within place (tt) (stops_end (IsCounted dash) dash (drop at text) fault.kind misses (λ x w t is more. more))
 
-pub fault_no_letter : (dash : Bool) (m : ℕ) (text : List ℕ) (at : ℕ) (fault : TextFault) → at ≤ length text → m < 65534 → fault.octet ≡ at → MissesOctet 99 (drop at text) fault.kind → FaultIn (BehindDot dash m) text at fault
+pub fault_no_letter : (dash : Bool) (m : ℕ) (text : List ℕ) (at : ℕ) (fault : WireFault) → at ≤ length text → m < 65534 → fault.octet ≡ at → MissesOctet 99 (drop at text) fault.kind → FaultIn (BehindDot dash m) text at fault
 fault_no_letter dash m text at fault within small place misses =
     fault_now (BehindDot dash m) text at fault (99 ∷ (decimal 65534 ++ [])) within place (dot_some dash m small) (stops_octet (BehindDot dash m) 99 (drop at text) fault.kind misses (dot_first dash m) (dot_none dash m))
 
 pub terms_one : (dash : Bool) → TermOn dash (term_text (0, 0) ++ [])
 terms_one dash = record { term = (0, 0); more = []; is_term = (omega arith, omega arith); is = refl; counts = tt }
 
-pub fault_no_term : (dash : Bool) (text : List ℕ) (at : ℕ) (fault : TextFault) → at ≤ length text → fault.octet ≡ at → MissesOctet 99 (drop at text) fault.kind → FaultIn (TermOn dash) text at fault
+pub fault_no_term : (dash : Bool) (text : List ℕ) (at : ℕ) (fault : WireFault) → at ≤ length text → fault.octet ≡ at → MissesOctet 99 (drop at text) fault.kind → FaultIn (TermOn dash) text at fault
 fault_no_term dash text at fault within place misses =
     fault_now (TermOn dash) text at fault (term_text (0, 0) ++ []) within place (terms_one dash) (stops_octet (TermOn dash) 99 (drop at text) fault.kind misses (terms_first dash) (λ w. terms_some dash [] w refl))

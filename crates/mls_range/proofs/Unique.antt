@@ -6,7 +6,7 @@ use Rattle.std.proofs.lemmas.List.Elements.{All-head, All-tail}
 use Rattle.mls_label.specs.declared.label.Label.{Label}
 use Rattle.mls_range.specs.LabelText.{IsTerm, term_text, terms_text, cats_of_terms, IsLabelText}
 use Rattle.mls_range.specs.Crowd.{IsCounted}
-use Rattle.mls_range.specs.Rest.{IsLabelEnd, separated}
+use Rattle.mls_range.specs.inside.Rest.{IsLabelEnd, separated}
 use Rattle.mls_range.proofs.TermLists.{NoDigit, number_unique, term_unique, ends_counted}
 use Rattle.mls_range.proofs.Written.{terms_text_is}
 

@@ -6,6 +6,7 @@ use Rattle.std.proofs.lemmas.List.{append-nil, take_all, take-append-le}
 use Rattle.mls_label.specs.declared.label.Label.{Label}
 use Rattle.octet_grammar.specs.Front.{IsFront}
 use Rattle.octet_grammar.specs.Fault.{IsFault}
+use Rattle.octet_grammar.specs.declared.fault.WireKind.TheVariants as wire
 use Rattle.mls_range.specs.declared.fault.TextFault.{TextFault}
 use Rattle.mls_range.specs.declared.fault.TextKind.{TextKind}
 use Rattle.mls_range.specs.declared.fault.TextKind.TheVariants.{Grammar, End, TooManyRuns, NotOrdered}
@@ -13,7 +14,8 @@ use Rattle.mls_range.specs.LabelText.{IsLabelText, cats_of_terms}
 use Rattle.mls_range.specs.Crowd.{CrowdsLabel}
 use Rattle.mls_range.specs.Place.{octet_fault, end_fault}
 use Rattle.mls_range.specs.TextFault.{FailsLabel, StopsLabel}
-use Rattle.mls_range.specs.Rest.{FaultIn, StopsIn, IsLabelEnd, separated, LabelOn, FailsPart, StopsPart, ReadsPart}
+use Rattle.mls_range.specs.inside.Rest.{FaultIn, StopsIn, IsLabelEnd, separated, LabelOn}
+use Rattle.mls_range.specs.inside.Stops.{FailsAt, ReadsPart, StopsPart}
 use Rattle.mls_range.proofs.Places.{reads_length}
 use Rattle.mls_range.proofs.Written.{terms_text_is}
 
@@ -33,7 +35,7 @@ front_is G L text part rest more o texts is long l =
     let e : take o text ≡ part = ap (λ k. take k text) long ∙ ap (take (length part)) is ∙ take_part part rest in
     record { more = more; value = m.0; member = subst (λ p. G (p ++ more) m.0) (sym e) m.1 }
 
-fault_octet : {V : Type 0} (G : List ℕ → V → Type 0) (L : List ℕ → Type 0) (text part rest more : List ℕ) (o : ℕ) → IsTexts G L → text ≡ part ++ rest → o ≡ length part → L (part ++ more) → StopsIn L part rest Grammar → IsFault G text (octet_fault o)
+fault_octet : {V : Type 0} (G : List ℕ → V → Type 0) (L : List ℕ → Type 0) (text part rest more : List ℕ) (o : ℕ) → IsTexts G L → text ≡ part ++ rest → o ≡ length part → L (part ++ more) → StopsIn L part rest wire.Octet → IsFault G text (octet_fault o)
 fault_octet G L text part rest more o texts is long l stops =
     let octet = stops.0 in
     let split : text ≡ (part ++ octet ∷ []) ++ stops.1 = is ∙ ap (λ r. part ++ r) stops.2 ∙ sym (append_assoc part (octet ∷ []) stops.1) in
@@ -49,7 +51,7 @@ fault_octet G L text part rest more o texts is long l stops =
       );
     }
 
-fault_end : {V : Type 0} (G : List ℕ → V → Type 0) (L : List ℕ → Type 0) (text part rest more : List ℕ) (o : ℕ) → IsTexts G L → text ≡ part ++ rest → o ≡ length part → L (part ++ more) → StopsIn L part rest End → IsFault G text (end_fault o)
+fault_end : {V : Type 0} (G : List ℕ → V → Type 0) (L : List ℕ → Type 0) (text part rest more : List ℕ) (o : ℕ) → IsTexts G L → text ≡ part ++ rest → o ≡ length part → L (part ++ more) → StopsIn L part rest wire.End → IsFault G text (end_fault o)
 fault_end G L text part rest more o texts is long l stops =
     let whole : text ≡ part = is ∙ ap (λ r. part ++ r) stops.0 ∙ append-nil part in
     record {
@@ -57,13 +59,13 @@ fault_end G L text part rest more o texts is long l stops =
       stops = (long ∙ ap length (sym whole), λ v g. stops.1 (texts.back part v (subst (λ x. G x v) whole g)));
     }
 
-pub octet_fault_of : {V : Type 0} (G : List ℕ → V → Type 0) (L : List ℕ → Type 0) (text : List ℕ) (fault : TextFault) → IsTexts G L → (f : FaultIn L text 0 fault) → fault.kind ≡ Grammar → IsFault G text (octet_fault fault.octet)
-octet_fault_of G L text fault texts f e =
-    fault_octet G L text f.part (drop fault.octet text) f.more fault.octet texts f.reads.is (omega (arith, reads_length text 0 fault.octet f.part f.reads)) f.front (subst (StopsIn L f.part (drop fault.octet text)) e f.stops)
+pub octet_fault_of : {V : Type 0} (G : List ℕ → V → Type 0) (L : List ℕ → Type 0) (text : List ℕ) (octet : ℕ) → IsTexts G L → FaultIn L text 0 (octet_fault octet) → IsFault G text (octet_fault octet)
+octet_fault_of G L text octet texts f =
+    fault_octet G L text f.part (drop octet text) f.more octet texts f.reads.is (omega (arith, reads_length text 0 octet f.part f.reads)) f.front f.stops
 
-pub end_fault_of : {V : Type 0} (G : List ℕ → V → Type 0) (L : List ℕ → Type 0) (text : List ℕ) (fault : TextFault) → IsTexts G L → (f : FaultIn L text 0 fault) → fault.kind ≡ End → IsFault G text (end_fault fault.octet)
-end_fault_of G L text fault texts f e =
-    fault_end G L text f.part (drop fault.octet text) f.more fault.octet texts f.reads.is (omega (arith, reads_length text 0 fault.octet f.part f.reads)) f.front (subst (StopsIn L f.part (drop fault.octet text)) e f.stops)
+pub end_fault_of : {V : Type 0} (G : List ℕ → V → Type 0) (L : List ℕ → Type 0) (text : List ℕ) (octet : ℕ) → IsTexts G L → FaultIn L text 0 (end_fault octet) → IsFault G text (end_fault octet)
+end_fault_of G L text octet texts f =
+    fault_end G L text f.part (drop octet text) f.more octet texts f.reads.is (omega (arith, reads_length text 0 octet f.part f.reads)) f.front f.stops
 
 -- ---- labels
 
@@ -109,14 +111,14 @@ label_texts = record {
   back = λ t x l. subst (LabelOn false) (append-nil t) (on_label false t [] x l tt);
 }
 
-fails_label : (text : List ℕ) (fault : TextFault) (kind : TextKind) → fault.kind ≡ kind → FailsPart false text 0 fault kind → FailsLabel text fault.octet kind
-fails_label text fault Grammar e f = (octet_fault_of IsLabelText (LabelOn false) text fault label_texts f.0 e, f.1)
-fails_label text fault End e f = (end_fault_of IsLabelText (LabelOn false) text fault label_texts f.0 e, f.1)
-fails_label text fault TooManyRuns e f = subst (CrowdsLabel false text) (let q : f.0 ≡ fault.octet = omega (arith, f.1) in q) f.2
-fails_label text fault NotOrdered e f = f
+fails_label : (text : List ℕ) (octet : ℕ) (kind : TextKind) → FailsAt (LabelOn false) (CrowdsLabel false text) text 0 octet kind → FailsLabel text octet kind
+fails_label text octet Grammar f = (octet_fault_of IsLabelText (LabelOn false) text octet label_texts f.0, f.1)
+fails_label text octet End f = (end_fault_of IsLabelText (LabelOn false) text octet label_texts f.0, f.1)
+fails_label text octet TooManyRuns f = subst (CrowdsLabel false text) (let q : f.0 ≡ octet = omega (arith, f.1) in q) f.2
+fails_label text octet NotOrdered f = f
 
-pub stops_label : (text : List ℕ) (stop : TextFault) → StopsPart false text 0 stop → StopsLabel text stop
-stops_label text fault s = fails_label text fault fault.kind refl s
+pub stops_label : (text : List ℕ) (fault : TextFault) → StopsPart false text 0 fault → StopsLabel text fault
+stops_label text fault s = fails_label text fault.octet fault.kind s
 
 -- a label that ends where the text does is all of it
 pub whole_label : (text : List ℕ) (label : Label) (end : ℕ) → ReadsPart false text 0 label end → IsLabelText text label

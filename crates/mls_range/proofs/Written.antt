@@ -6,7 +6,7 @@ use Rattle.std.proofs.lemmas.List.Concat.{flat_map-append}
 use Rattle.std.proofs.lemmas.Option.{slice_get_within, get_or_from_slice_get}
 use Rattle.std.proofs.lemmas.Bool.{cases_eq, eq-eqb, ne_eqb}
 use Rattle.mls_range.specs.LabelText.{term_text, terms_text, terms_of_run}
-use Rattle.mls_range.specs.Rest.{separated, Extends}
+use Rattle.mls_range.specs.inside.Rest.{separated, Extends}
 
 joined_is : (t : ℕ × ℕ) (ts : List (ℕ × ℕ)) → join_with_byte 44 (map term_text (t ∷ ts)) ≡ term_text t ++ separated 44 ts
 joined_is t [] = sym (append-nil (term_text t))

@@ -2,8 +2,9 @@
 use Rattle.std.specs.Prelude.{◌≡◌, ℕ, ◌+◌, ◌<◌, ◌≤◌, Bool, List, [], ◌∷◌, ◌++◌, length, take, IsTrue, ◌⊎◌}
 use Rattle.std.specs.Fmt.{decimal}
 use Rattle.std.specs.List.{All, flat_map}
+use Rattle.mls_label.specs.declared.cat_set.TheConstants.{MOST_RUNS}
 use Rattle.mls_label.specs.Runs.{runs_of}
-use Rattle.mls_range.specs.LabelText.{IsTerm, term_text, cats_of_terms}
+use Rattle.mls_range.specs.LabelText.{letter_s, colon, comma, hyphen, IsTerm, term_text, cats_of_terms}
 
 -- how many maximal runs the categories of the terms have
 abbrev pub run_count : List (ℕ × ℕ) → ℕ
@@ -12,35 +13,27 @@ run_count terms = length (runs_of (cats_of_terms terms))
 -- A term counts where the text ends behind it or a comma follows, and in front of a range's dash where dash says so.
 abbrev pub IsCounted : Bool → List ℕ → Type 0
 IsCounted dash [] = Unit {0}
-IsCounted dash (octet ∷ rest) = (octet ≡ 44) ⊎ (IsTrue dash × (octet ≡ 45))
+IsCounted dash (octet ∷ rest) = (octet ≡ comma) ⊎ (IsTrue dash × (octet ≡ hyphen))
 
 -- a term that another follows
 abbrev pub with_comma : ℕ × ℕ → List ℕ
-with_comma term = term_text term ++ 44 ∷ []
+with_comma term = term_text term ++ comma ∷ []
 
--- In a text of terms, the first counted term after which the set would have too many runs begins at this octet.
-pub record CrowdsTerms (dash : Bool) (text : List ℕ) (octet : ℕ) : Type 0 where
+-- A text that begins as a label does: its first counted term after which the set would have too many runs begins at this octet.
+pub record CrowdsLabel (dash : Bool) (text : List ℕ) (octet : ℕ) : Type 0 where
+  pub level : ℕ
   pub before : List (ℕ × ℕ)
   pub term : ℕ × ℕ
   pub rest : List ℕ
+  pub small : level < 256
   pub are : All IsTerm before
   pub is_term : IsTerm term
-  pub is : text ≡ flat_map with_comma before ++ (term_text term ++ rest)
+  pub is : text ≡ letter_s ∷ decimal level ++ colon ∷ (flat_map with_comma before ++ (term_text term ++ rest))
   pub counts : IsCounted dash rest
-  pub few : (n : ℕ) → run_count (take n before) ≤ 1952
-  pub many : 1952 < run_count (before ++ term ∷ [])
-  pub place : octet ≡ length (flat_map with_comma before)
+  pub few : (n : ℕ) → run_count (take n before) ≤ MOST_RUNS
+  pub many : MOST_RUNS < run_count (before ++ term ∷ [])
+  pub place : octet ≡ 2 + length (decimal level) + length (flat_map with_comma before)
 
--- the same in a text that begins as a label does
-pub record CrowdsLabel (dash : Bool) (text : List ℕ) (octet : ℕ) : Type 0 where
-  pub level : ℕ
-  pub terms : List ℕ
-  pub at : ℕ
-  pub is : text ≡ 115 ∷ decimal level ++ 58 ∷ terms
-  pub small : level < 256
-  pub crowds : CrowdsTerms dash terms at
-  pub place : octet ≡ 2 + length (decimal level) + at
-
--- nowhere in it
+-- there is none
 abbrev pub IsRoomy : Bool → List ℕ → Type 0
 IsRoomy dash text = (octet : ℕ) → CrowdsLabel dash text octet → ⊥

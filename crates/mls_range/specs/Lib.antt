@@ -4,5 +4,4 @@ pub mod Place
 pub mod TextFault
 pub mod Range
 pub mod RangeText
-pub mod Number
-pub mod Rest
+pub mod inside

@@ -1,3 +1,5 @@
+use octet_grammar::{WireFault, WireKind};
+
 /// What is wrong with a text.
 #[derive(Clone, Copy, Debug, PartialEq, Eq)]
 pub enum TextKind {
@@ -17,4 +19,23 @@ pub struct TextFault {
     /// The place, counted in octets from 0; for `End` it is the text's length.
     pub octet: usize,
     pub kind: TextKind,
+}
+
+/// The fault of a grammar at the same octet.
+impl From<WireFault> for TextFault {
+    ghost use Rattle.std.specs.Prelude.{◌≡◌};
+    ghost use Rattle.mls_range.specs.inside.Told.{text_fault};
+
+    ghost from_gives = { λ fault made. made ≡ text_fault fault };
+
+    fn from(fault: WireFault) -> TextFault {
+        let kind = match fault.kind {
+            WireKind::Octet => TextKind::Grammar,
+            WireKind::End => TextKind::End,
+        };
+        TextFault {
+            octet: fault.octet,
+            kind,
+        }
+    }
 }

@@ -2,7 +2,8 @@
 
 ghost use Rattle.std.specs.Prelude.{◌≡◌, [], ◌∷◌, ◌++◌, ◌≤◌, length, IfOk, IfErr, OnOk, OnErr};
 ghost use Rattle.mls_range.specs.LabelText.{IsLabelText, label_text, terms_of_run};
-ghost use Rattle.mls_range.specs.Rest.{Extends, ReadsCats, ReadsPart, separated, StopsCats, StopsPart};
+ghost use Rattle.mls_range.specs.inside.Rest.{Extends, separated};
+ghost use Rattle.mls_range.specs.inside.Stops.{ReadsCats, ReadsPart, StopsCats, StopsPart};
 ghost use Rattle.mls_range.specs.TextFault.{IsRoomyLabel, StopsLabel};
 
 use crate::fault::TextFault;
@@ -13,7 +14,7 @@ use decimal_text::write_decimal;
 use mls_label::{CatSet, Label, OutOfMemory};
 
 /// The greatest level.
-const MOST_LEVEL: u32 = 255;
+const HIGHEST_LEVEL: u32 = 255;
 
 /// Reads a whole text as a label (SELinux MLS): `s<N>`, or `s<N>:` and terms `c<N>` or `c<M>.c<N>` separated by commas,
 /// in any order. Levels end at 255 and categories at 65534; numbers have no leading zero.
@@ -22,38 +23,50 @@ pub fn read_label(text: &[u8]) -> Result<Label, TextFault>
     ensures roomy { OnOk result (IsRoomyLabel text.now) }
     ensures err { IfErr result (StopsLabel text.now) }
 {
-    let (label, _end) = read_part(text, 0, false)?;
+    let mut label = Label::lowest();
+    read_label_into(text, &mut label)?;
     Ok(label)
 }
 
-/// Reads a label that begins at `start`, up to the text's end or, with `dash`, up to a dash. Gives it with its end.
-pub(crate) fn read_part(text: &[u8], start: usize, dash: bool) -> Result<(Label, usize), TextFault>
+/// The same with the label in place of the one that is lent, which is any label after a fault.
+pub fn read_label_into(text: &[u8], label: &mut Label) -> Result<(), TextFault>
+    ensures ok { OnOk result (IsLabelText text.now label.new) }
+    ensures roomy { OnOk result (IsRoomyLabel text.now) }
+    ensures err { IfErr result (StopsLabel text.now) }
+{
+    let _end = read_part(text, 0, false, label)?;
+    Ok(())
+}
+
+/// Reads a label that begins at `start`, up to the text's end or, with `dash`, up to a dash. Gives its end.
+pub(crate) fn read_part(
+    text: &[u8],
+    start: usize,
+    dash: bool,
+    label: &mut Label,
+) -> Result<usize, TextFault>
     requires { start ≤ length text.now }
-    ensures ok { IfOk result (λ read. ReadsPart dash text.now start read.0 read.1) }
+    ensures ok { IfOk result (λ end. ReadsPart dash text.now start label.new end) }
     ensures err { IfErr result (StopsPart dash text.now start) }
 {
     let number = read_octet(text, start, b's')?;
-    let (level, behind) = read_number(text, number, 0, MOST_LEVEL)?;
-    let (cats, end) = read_cats(text, behind, dash)?;
-    let label = Label {
-        level: level as u8,
-        cats,
-    };
-    Ok((label, end))
+    let (level, behind) = read_number(text, number, 0, HIGHEST_LEVEL)?;
+    label.level = level as u8;
+    read_cats(text, behind, dash, &mut label.cats)
 }
 
-/// Reads what stands behind a level: a colon and terms, or nothing.
-fn read_cats(text: &[u8], start: usize, dash: bool) -> Result<(CatSet, usize), TextFault>
+/// Reads what stands behind a level: a colon and terms, or nothing. Gives its end.
+fn read_cats(text: &[u8], start: usize, dash: bool, cats: &mut CatSet) -> Result<usize, TextFault>
     requires { start ≤ length text.now }
-    ensures ok { IfOk result (λ read. ReadsCats dash text.now start read.0 read.1) }
+    ensures ok { IfOk result (λ end. ReadsCats dash text.now start cats.new end) }
     ensures err { IfErr result (StopsCats dash text.now start) }
 {
+    cats.clear();
     if is_label_end(text, start, dash) {
-        return Ok((CatSet::empty(), start));
+        return Ok(start);
     }
     let terms = read_octet(text, start, b':')?;
-    let (cats, end) = read_terms(text, terms, dash)?;
-    Ok((cats, end))
+    read_terms(text, terms, dash, cats)
 }
 
 /// Appends the label's one written form: its terms ascend by maximal runs, where a run of two categories is two terms

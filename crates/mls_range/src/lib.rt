@@ -10,8 +10,8 @@ mod range;
 mod terms;
 
 pub use fault::{TextFault, TextKind};
-pub use label::{read_label, write_label};
-pub use range::{Range, read_range, write_range};
+pub use label::{read_label, read_label_into, write_label};
+pub use range::{Range, read_range, read_range_into, write_range};
 
 #[cfg(test)]
 mod tests;

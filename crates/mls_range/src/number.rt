@@ -1,11 +1,10 @@
 //! Decimal numbers with bounds, read from the left up to the first octet that can't belong to them.
 
-ghost use Rattle.std.specs.Prelude.{◌≡◌, ◌+◌, ◌*◌, ◌<◌, ◌≤◌, length, MatchBool, IfOk, IfErr};
-ghost use Rattle.mls_range.specs.Number.{GoesOn, Reaches};
-ghost use Rattle.mls_range.specs.Rest.{FailsNumber, ReadsNumber};
+ghost use Rattle.std.specs.Prelude.{◌≡◌, ◌+◌, ◌*◌, ◌<◌, ◌≤◌, length, drop, MatchBool, IfOk, IfErr};
+ghost use Rattle.mls_range.specs.inside.Number.{GoesOn, Reaches};
+ghost use Rattle.mls_range.specs.inside.Rest.{FailsNumber, ReadsNumber, StopsHere};
 
-use crate::fault::TextFault;
-use crate::octet::fault_at;
+use octet_grammar::{WireFault, octet_at, unfit};
 
 /// Whether some digits behind `start` make a number from `low` to `high`.
 fn reaches(start: u32, low: u32, high: u32) -> bool
@@ -45,13 +44,25 @@ fn goes_on(count: usize, number: u32, octet: u8, low: u32, high: u32) -> bool
         && reaches(10 * number + u32::from(octet - b'0'), low, high)
 }
 
+/// The fault of a text that doesn't go on as it should at a place: the octet there doesn't fit, or the text ends.
+fn fault_at(text: &[u8], at: usize) -> WireFault
+    requires { at ≤ length text.now }
+    ensures place { result.octet ≡ at }
+    ensures kind { StopsHere (drop at text.now) result.kind }
+{
+    match octet_at(text, at) {
+        Ok(_octet) => unfit(at),
+        Err(end) => end,
+    }
+}
+
 /// Reads the longest number from `low` to `high` that begins at `start`, and gives it with its end.
 pub(crate) fn read_number(
     text: &[u8],
     start: usize,
     low: u32,
     high: u32,
-) -> Result<(u32, usize), TextFault>
+) -> Result<(u32, usize), WireFault>
     requires within { start ≤ length text.now }
     requires order { low ≤ high }
     requires bound { high < 65536 }

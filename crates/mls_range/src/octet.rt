@@ -1,36 +1,22 @@
 //! One octet at a place of a text.
 
 ghost use Rattle.std.specs.Prelude.{◌≡◌, [], ◌∷◌, ◌≤◌, length, drop, IfOk, IfErr, MatchBool};
-ghost use Rattle.mls_range.specs.Rest.{IsLabelEnd, MissesOctet, Reads, StopsHere};
+ghost use Rattle.mls_range.specs.inside.Rest.{IsLabelEnd, MissesOctet, Spells};
 
-use crate::fault::{TextFault, TextKind};
-
-/// The fault of a text that doesn't go on as it should at a place.
-pub(crate) fn fault_at(text: &[u8], octet: usize) -> TextFault
-    requires { octet ≤ length text.now }
-    ensures place { result.octet ≡ octet }
-    ensures kind { StopsHere (drop octet text.now) result.kind }
-{
-    let kind = if octet == text.len() {
-        TextKind::End
-    } else {
-        TextKind::Grammar
-    };
-    TextFault { octet, kind }
-}
+use octet_grammar::{WireFault, octet_at, unfit};
 
 /// Reads an octet that has to stand there, and gives the place behind it.
-pub(crate) fn read_octet(text: &[u8], at: usize, wanted: u8) -> Result<usize, TextFault>
+pub(crate) fn read_octet(text: &[u8], at: usize, wanted: u8) -> Result<usize, WireFault>
     requires { at ≤ length text.now }
-    ensures ok { IfOk result (λ end. Reads text.now at end (wanted ∷ [])) }
+    ensures ok { IfOk result (λ end. Spells text.now at end (wanted ∷ [])) }
     ensures place { IfErr result (λ fault. fault.octet ≡ at) }
     ensures err { IfErr result (λ fault. MissesOctet wanted (drop at text.now) fault.kind) }
 {
-    if at < text.len() && text[at] == wanted {
-        Ok(at + 1)
-    } else {
-        Err(fault_at(text, at))
+    let octet = octet_at(text, at)?;
+    if octet != wanted {
+        return Err(unfit(at));
     }
+    Ok(at + 1)
 }
 
 /// Whether a label may end at a place: at the end of the text or, with `dash`, at a dash.

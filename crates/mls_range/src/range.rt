@@ -1,10 +1,10 @@
 //! Ranges of labels, read from their texts and written in their one form.
 
-ghost use Rattle.std.specs.Prelude.{◌≡◌, ◌↔◌, ◌++◌, IsTrue, IfOk, IfErr, OnOk, OnErr};
+ghost use Rattle.std.specs.Prelude.{◌≡◌, ◌↔◌, [], ◌++◌, IsTrue, IfOk, IfErr, OnOk, OnErr};
 ghost use Rattle.mls_label.specs.Label.{Dominates};
-ghost use Rattle.mls_range.specs.Range.{Ends, RangeHolds};
+ghost use Rattle.mls_range.specs.Range.{LabelRange, RangeHolds};
 ghost use Rattle.mls_range.specs.RangeText.{IsRangeText, IsRoomyRange, range_text, StopsRange};
-ghost use Rattle.mls_range.specs.Rest.{Extends};
+ghost use Rattle.mls_range.specs.inside.Rest.{Extends};
 
 use crate::fault::{TextFault, TextKind};
 use crate::label::{append_label, read_part};
@@ -20,9 +20,9 @@ pub struct Range {
 
 impl Model for Range {
     ghost use Rattle.mls_label.specs.Label.{Dominates};
-    ghost use Rattle.mls_range.specs.Range.{Ends};
+    ghost use Rattle.mls_range.specs.Range.{LabelRange};
 
-    ghost Value = { Ends };
+    ghost Value = { LabelRange };
 
     ghost view = { λ r. record { low = r.low; high = r.high } };
 
@@ -53,14 +53,31 @@ impl Range {
         &self.high
     }
 
+    /// The range that holds the lowest label alone: level 0 without a category.
+    pub fn lowest() -> Range
+        ensures { result ≡ record { low = record { level = 0; cats = [] }; high = record { level = 0; cats = [] } } }
+    {
+        Range {
+            low: Label::lowest(),
+            high: Label::lowest(),
+        }
+    }
+
     /// A copy.
     pub fn copy(&self) -> Range
         ensures { result ≡ self.now }
     {
-        Range {
-            low: self.low.copy(),
-            high: self.high.copy(),
-        }
+        let mut copy = Range::lowest();
+        copy.assign(self);
+        copy
+    }
+
+    /// Becomes the other range. It costs what the other has, where a move costs all the room.
+    pub fn assign(&mut self, from: &Range)
+        ensures { self.new ≡ from.now }
+    {
+        self.low.assign(&from.low);
+        self.high.assign(&from.high);
     }
 }
 
@@ -72,27 +89,48 @@ pub fn read_range(text: &[u8]) -> Result<Range, TextFault>
     ensures roomy { OnOk result (IsRoomyRange text.now) }
     ensures err { IfErr result (StopsRange text.now) }
 {
-    let (low, end) = read_part(text, 0, true)?;
+    let mut range = Range::lowest();
+    read_range_into(text, &mut range)?;
+    Ok(range)
+}
+
+/// The same with the range in place of the one that is lent, which is any range after a fault.
+pub fn read_range_into(text: &[u8], range: &mut Range) -> Result<(), TextFault>
+    ensures ok { OnOk result (IsRangeText text.now range.new) }
+    ensures ordered { OnOk result (Dominates range.new.high range.new.low) }
+    ensures roomy { OnOk result (IsRoomyRange text.now) }
+    ensures err { IfErr result (StopsRange text.now) }
+{
+    let read = read_ends(text, &mut range.low, &mut range.high);
+    if read.is_err() {
+        // Whatever was read, the lowest label is below it.
+        range.low.level = 0;
+        range.low.cats.clear();
+    }
+    read
+}
+
+/// Reads both ends of a range.
+fn read_ends(text: &[u8], low: &mut Label, high: &mut Label) -> Result<(), TextFault>
+    ensures ok { OnOk result (IsRangeText text.now (record { low = low.new; high = high.new })) }
+    ensures ordered { OnOk result (Dominates high.new low.new) }
+    ensures roomy { OnOk result (IsRoomyRange text.now) }
+    ensures err { IfErr result (StopsRange text.now) }
+{
+    let end = read_part(text, 0, true, low)?;
     if end == text.len() {
-        return Ok(lone_range(low));
+        high.assign(low);
+        return Ok(());
     }
     let start = end + 1;
-    let (high, _end) = read_part(text, start, false)?;
-    if !high.dominates(&low) {
+    let _end = read_part(text, start, false, high)?;
+    if !high.dominates(low) {
         return Err(TextFault {
             octet: start,
             kind: TextKind::NotOrdered,
         });
     }
-    Ok(Range { low, high })
-}
-
-/// The range of which both ends are the label.
-fn lone_range(label: Label) -> Range
-    ensures { result ≡ record { low = label; high = label } }
-{
-    let high = label.copy();
-    Range { low: label, high }
+    Ok(())
 }
 
 /// Appends the range's one written form: one label where both ends are the same, else the low one, a dash and the high

@@ -51,8 +51,11 @@ fn reads_labels_and_writes_their_one_form(rt: HostRuntime) -> Result<(), Fail> {
         ("s0:c10.c12,c14,c13,c0", "s0:c0,c10.c14"),
         ("s9:c0.c2,c4.c5,c7", "s9:c0.c2,c4,c5,c7"),
     ];
+    let mut lent = read_label(b"s200:c0.c30000").expect(&rt, "lent");
     for (text, written) in cases {
         let label = read_label(text.as_bytes()).expect(&rt, text);
+        assert_eq!(rt; read_label_into(text.as_bytes(), &mut lent), Ok(()));
+        assert!(rt; lent.same(&label), "{text}");
         let mut out = Vec::new(rt.alloc());
         out.push(b'>')?;
         write_label(&label, &mut out).expect(&rt, text);
@@ -166,8 +169,14 @@ fn reads_and_refuses_ranges(rt: HostRuntime) -> Result<(), Fail> {
         assert_eq!(rt; &out[..half], written.as_bytes());
         assert_eq!(rt; &out[half..], written.as_bytes());
     }
+    let mut lent = read_range(b"s1:c7-s2:c7,c9").expect(&rt, "lent");
     for (text, octet, kind) in REFUSED_RANGES {
         assert_eq!(rt; range_stop(text.as_bytes()), fault(octet, kind), "{text}");
+        assert_eq!(rt;
+            read_range_into(text.as_bytes(), &mut lent).err(),
+            fault(octet, kind)
+        );
+        assert!(rt; lent.high().dominates(lent.low()), "{text}");
     }
     Ok(())
 }

@@ -21,8 +21,8 @@ loop-first-preserved c =
     let goes_on : first < after =
     past_first bitmap first after (8 * length bitmap) c.next_bit-after.ensures.start c.loop-first-test.true (seen.set c.loop-first-test.true) c.next_bit-after.ensures.found in
     record {
-      so_far = below_more bitmap c.loop-first.cats c.add.new.cats first after next.result goes_on next.ensures.start seen.so_far c.add.ensures.cats c.next_bit-after.ensures.before next.ensures.before;
-      few = omega (arith, c.add.ensures.one_more, seen.few, next.ensures.start);
+      so_far = below_more bitmap c.loop-first.cats c.insert_run.new.self first after next.result goes_on next.ensures.start seen.so_far c.insert_run.ensures.cats c.next_bit-after.ensures.before next.ensures.before;
+      few = omega (arith, c.insert_run.ensures.one_more, seen.few, next.ensures.start);
       within = next.ensures.end;
       set = next.ensures.found;
     }

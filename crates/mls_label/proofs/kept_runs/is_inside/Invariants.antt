@@ -1,5 +1,5 @@
 use Rattle.std.proofs.Common.{◌+◌, ◌↔◌, length}
-use Rattle.mls_label.specs.Kept.{AreApart}
+use Rattle.mls_label.specs.inside.Kept.{AreApart}
 use Rattle.mls_label.proofs.Inside.{IsInside}
 use Rattle.mls_label.proofs.kept_runs.is_inside.Given as goal
 

@@ -4,7 +4,7 @@ use Rattle.std.proofs.lemmas.Result.{on_ok_weaker, on_err_weaker}
 use Rattle.mls_label.specs.declared.cat_set.Run.{Run}
 use Rattle.mls_label.specs.Cats.{has, is_within, cats_where}
 use Rattle.mls_label.specs.Runs.{runs_of}
-use Rattle.mls_label.specs.Kept.{cats_of, AreApart, IsPlace, hull}
+use Rattle.mls_label.specs.inside.Kept.{cats_of, AreApart, IsPlace, hull}
 use Rattle.mls_label.proofs.Runs.{length-runs_of}
 use Rattle.mls_label.proofs.Splice.{joined, joined_apart, joined_cats, joined_more}
 use Rattle.mls_label.proofs.kept_runs.join.Goals as goal

@@ -1,5 +1,5 @@
-use Rattle.mls_label.proofs.Runs.{runs_are}
+use Rattle.mls_label.proofs.Law.{sets_have_their_runs}
 use Rattle.mls_label.proofs.laws.sets_have_their_runs.Goals as goal
 
 pub returns : goal.returns
-returns c = runs_are
+returns c = sets_have_their_runs

@@ -4,7 +4,7 @@ use Rattle.std.specs.List.{flat_map}
 use Rattle.std.proofs.lemmas.List.{take_all}
 use Rattle.mls_label.specs.Runs.{runs_of}
 use Rattle.mls_range.specs.LabelText.{terms_of_run}
-use Rattle.mls_range.specs.Rest.{separated}
+use Rattle.mls_range.specs.inside.Rest.{separated}
 use Rattle.mls_range.proofs.Written.{front_terms, next_separator, front_more, terms_text_is}
 use Rattle.mls_range.proofs.label.append_label.Goals as goal
 

@@ -1,7 +1,7 @@
 use Rattle.std.proofs.Common.{◌≡◌, ◌∷◌, ◌++◌}
 use Rattle.std.specs.Fmt.{decimal}
 use Rattle.mls_label.specs.Runs.{runs_of}
-use Rattle.mls_range.specs.Rest.{separated}
+use Rattle.mls_range.specs.inside.Rest.{separated}
 use Rattle.mls_range.proofs.Written.{front_terms, next_separator}
 use Rattle.mls_range.proofs.label.append_label.Given as goal
 

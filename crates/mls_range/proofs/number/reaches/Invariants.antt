@@ -1,5 +1,5 @@
 use Rattle.std.proofs.Common.{◌+◌, ◌-◌, ◌<◌, ◌≤◌}
-use Rattle.mls_range.specs.Number.{Reaches}
+use Rattle.mls_range.specs.inside.Number.{Reaches}
 use Rattle.mls_range.proofs.number.reaches.Given as goal
 
 abbrev pub invariant-loop-first : goal.invariant-loop-first

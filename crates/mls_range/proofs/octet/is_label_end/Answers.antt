@@ -1,6 +1,6 @@
 use Rattle.std.proofs.Common.{◌≡◌, ℕ, Bool, true, false, List, [], ◌∷◌, length, drop, MatchBool, sym, ap, arith}
 use Rattle.std.proofs.lemmas.Bool.{false≢true}
-use Rattle.mls_range.specs.Rest.{IsLabelEnd}
+use Rattle.mls_range.specs.inside.Rest.{IsLabelEnd}
 use Rattle.mls_range.proofs.Places.{drop_at}
 use Rattle.mls_range.proofs.octet.is_label_end.Goals as goal
 

@@ -5,17 +5,17 @@ use Rattle.mls_range.specs.Crowd.{IsCounted}
 use Rattle.mls_range.proofs.Rests.{number_then}
 use Rattle.mls_range.proofs.TermRests.{counted_apart, fault_dot, fault_second, fault_number, fault_undotted, fault_behind, fault_no_letter}
 use Rattle.mls_range.proofs.terms.read_last.Goals as goal
-use Rattle.mls_range.proofs.terms.read_last.Goals.{then-first-eq-MOST-via-then-first-eq-MOST, then-first-eq-MOST-via-else-first-eq-MOST+then-start-text, then-first-eq-MOST-via-else-first-eq-MOST+else-start-text+then-text-start-ne46}
+use Rattle.mls_range.proofs.terms.read_last.Goals.{then-first-eq-HIGHEST_CATEGORY-via-then-first-eq-HIGHEST_CATEGORY, then-first-eq-HIGHEST_CATEGORY-via-else-first-eq-HIGHEST_CATEGORY+then-start-text, then-first-eq-HIGHEST_CATEGORY-via-else-first-eq-HIGHEST_CATEGORY+else-start-text+then-text-start-ne46}
 
 pub returns-in_err-end_term-clause-err : goal.returns-in_err-end_term-clause-err
 returns-in_err-end_term-clause-err c =
     let a = c.args in
     let text = a.text.now in
     let fault = c.in_err-end_term.field-0.0 in
-    let undotted : (a.first ≡ 65534) ⊎ (get_or text a.start 0 ≡ 46 → ⊥) = elim c.then-first-eq-MOST.branch [
-      | then-first-eq-MOST-via-then-first-eq-MOST w ↦ inl w.if-first-eq-MOST.true
-      | then-first-eq-MOST-via-else-first-eq-MOST+then-start-text w ↦ inr (λ e. omega (arith, e, get_or_past text a.start 0 (omega (arith, w.if-start-text.true))))
-      | then-first-eq-MOST-via-else-first-eq-MOST+else-start-text+then-text-start-ne46 w ↦ inr w.if-text-start-ne46.true
+    let undotted : (a.first ≡ 65534) ⊎ (get_or text a.start 0 ≡ 46 → ⊥) = elim c.then-first-eq-HIGHEST_CATEGORY.branch [
+      | then-first-eq-HIGHEST_CATEGORY-via-then-first-eq-HIGHEST_CATEGORY w ↦ inl w.if-first-eq-HIGHEST_CATEGORY.true
+      | then-first-eq-HIGHEST_CATEGORY-via-else-first-eq-HIGHEST_CATEGORY+then-start-text w ↦ inr (λ e. omega (arith, e, get_or_past text a.start 0 (omega (arith, w.if-start-text.true))))
+      | then-first-eq-HIGHEST_CATEGORY-via-else-first-eq-HIGHEST_CATEGORY+else-start-text+then-text-start-ne46 w ↦ inr w.if-text-start-ne46.true
     ] in
     let p = err_from_is_err_and c.from_residual.result c.from_residual.ensures.1 in
     rw (p.1, p.2) (fault_undotted a.dash a.first text a.start fault c.requires.within c.requires.category c.in_err-end_term.ensures.place c.in_err-end_term.ensures.err undotted)

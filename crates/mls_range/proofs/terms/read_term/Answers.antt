@@ -1,6 +1,6 @@
 use Rattle.std.proofs.Common.{[], arith}
 use Rattle.std.proofs.lemmas.Result.{err_from_is_err_and}
-use Rattle.mls_range.specs.Rest.{BehindFirst}
+use Rattle.mls_range.specs.inside.Rest.{BehindFirst}
 use Rattle.mls_range.proofs.Rests.{number_then}
 use Rattle.mls_range.proofs.TermRests.{behind_none, behind_apart, fault_letter, fault_number, fault_no_term}
 use Rattle.mls_range.proofs.terms.read_term.Goals as goal

@@ -1,21 +1,20 @@
 use Rattle.std.proofs.Common.{◌≡◌, length, get_or, subst, sym, arith, inl, inr, ◌⊎◌}
 use Rattle.std.proofs.lemmas.Result.{err_from_is_err_and}
-use Rattle.mls_range.proofs.Crowds.{HasTerms, has_none, has_more, fails_term, reads_terms, stops_run}
+use Rattle.mls_range.proofs.Crowds.{HasTerms, has_none, has_more, stops_term, reads_terms, stops_run}
 use Rattle.mls_range.proofs.terms.read_terms.Goals as goal
 use Rattle.mls_range.proofs.terms.read_terms.Goals.{then-term-text-via-then-term-text, then-term-text-via-else-term-text+then-text-term-ne44}
 
 pub loop-term-init : goal.loop-term-init
 loop-term-init c =
     let a = c.args in
-    subst (HasTerms a.text.now a.start a.start) (sym c.empty-cats.ensures) (has_none a.text.now a.start c.requires)
+    subst (HasTerms a.text.now a.start a.start) (sym c.requires.empty) (has_none a.text.now a.start c.requires.within)
 
 pub returns-in_err-term-clause-err : goal.returns-in_err-term-clause-err
 returns-in_err-term-clause-err c =
     let a = c.args in
     let fault = c.in_err-term.field-0.0 in
-    let f = c.in_err-term.ensures.err in
     let p = err_from_is_err_and c.from_residual.result c.from_residual.ensures.1 in
-    rw (p.1, p.2) (fails_term a.dash a.text.now a.start c.loop-term.at c.loop-term.cats fault fault.kind c.loop-term.invariant f f.stops)
+    rw (p.1, p.2) (stops_term a.dash a.text.now a.start c.loop-term.at c.loop-term.cats fault c.loop-term.invariant c.in_err-term.ensures.err)
 
 pub returns-in_err-add_term-clause-err : goal.returns-in_err-add_term-clause-err
 returns-in_err-add_term-clause-err c =

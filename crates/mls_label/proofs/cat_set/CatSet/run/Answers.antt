@@ -2,7 +2,7 @@ use Rattle.std.proofs.Common.{◌≡◌, ◌<◌, ap, sym, subst, ◌∙◌, len
 use Rattle.std.proofs.lemmas.List.{get_or_default}
 use Rattle.mls_label.specs.declared.cat_set.Run.{Run}
 use Rattle.mls_label.specs.Runs.{runs_of}
-use Rattle.mls_label.specs.Kept.{cats_of, AreApart}
+use Rattle.mls_label.specs.inside.Kept.{cats_of, AreApart}
 use Rattle.mls_label.proofs.Inside.{shown_at}
 use Rattle.mls_label.proofs.Runs.{length-runs_of, runs_of-cats_of}
 use Rattle.mls_label.proofs.Splice.{apart_at}

@@ -2,7 +2,7 @@ use Rattle.std.proofs.Common.{◌≡◌, ◌&&◌, eqb, ap, sym, ◌∙◌, Deci
 use Rattle.std.proofs.lemmas.Bool.{and_parts, and_from, eqb-true, eq-eqb}
 use Rattle.std.proofs.lemmas.Slice.Eq.{slice_eq-Decides}
 use Rattle.mls_label.specs.declared.cat_set.Run.{Run}
-use Rattle.mls_label.specs.Kept.{cats_of}
+use Rattle.mls_label.specs.inside.Kept.{cats_of}
 use Rattle.mls_label.proofs.Runs.{kept_same}
 use Rattle.mls_label.proofs.cat_set.CatSet.same.Goals as goal
 

@@ -1,0 +1,4 @@
+pub mod Number
+pub mod Rest
+pub mod Stops
+pub mod Told
