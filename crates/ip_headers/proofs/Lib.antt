@@ -1,11 +1,12 @@
+pub mod Lists
+pub mod Packets
 pub mod Walks
-pub mod Views
-pub mod Readings
 pub mod Layouts
 pub mod Writing
-pub mod Once
+pub mod Scans
+pub mod Sums
 pub mod Back
 pub mod Back4
 pub mod Back6
-pub mod Lawful
-pub mod Within
+pub mod Law
+pub mod Same

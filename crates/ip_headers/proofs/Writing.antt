@@ -1,17 +1,19 @@
--- A packet written again, part by part.
+-- A packet written, part by part.
 use Rattle.std.proofs.Common.{◌≡◌, ℕ, ◌+◌, ◌-◌, ◌/◌, ◌%◌, ◌≤◌, ◌≢◌, Bool, true, false, cond, eqb, ne_eqb, ◌||◌, List, [], ◌∷◌, ◌++◌, length, Option, Some, None, refl, sym, ap, ◌∙◌, append_assoc, arith, length-append}
-use Rattle.std.specs.Prelude.{IfSome, slice_set}
+use Rattle.std.proofs.lemmas.List.{append-nil}
+use Rattle.std.specs.Prelude.{IfSome}
 use Rattle.std.specs.Borrow.{Bor}
-use Rattle.std.specs.Option.{option_map, option_copied}
+use Rattle.std.specs.Option.{option_copied}
 use Rattle.ip_headers.specs.declared.version.Version.{Version}
 use Rattle.ip_headers.specs.declared.version.Version.TheVariants.{V4, V6}
-use Rattle.ip_headers.specs.Sum.{ones_sum}
-use Rattle.ip_headers.specs.Options.{Placed, others_of, has_any}
-use Rattle.ip_headers.specs.Packet.{ParsedPacket}
+use Rattle.ip_headers.specs.declared.fields.Fields4.{Fields4}
+use Rattle.ip_headers.specs.declared.fields.Fields6.{Fields6}
+use Rattle.ip_headers.specs.Options.{Placed, has_any}
 use Rattle.ip_headers.specs.Reading.{first_place}
-use Rattle.ip_headers.specs.View.{options_in, view_of, area_with, writes_any}
+use Rattle.ip_headers.specs.Fields.{packet4, packet6}
+use Rattle.ip_headers.specs.Written.{gap_to, padding, packed, unit_of, filled, label_octets, kept_options, option_area, hop_by_hop_with, hop_by_hop, has_options, next_header, fixed4, fixed6, header4, checksum4, packet_octets, first_option, rebuilt_room, rebuilt_length, IsLabelOption}
+use Rattle.ip_headers.specs.inside.Write.{octets_or_none, area_with, writes_any, hop_size, hop_of, put_checksum4}
 use Rattle.ip_headers.proofs.Walks.{is_some-map}
-use Rattle.ip_headers.specs.Written.{octets_of, room_of, length_of, gap_to, padding, packed, unit_of, filled, label_octets, octets_or_none, kept_options, option_area, hop_by_hop_with, hop_by_hop, front6, has_options, next_header, fixed4, header4, checksum4, packet_octets, relabelled, rebuilt_room, rebuilt_length, IsLabelOption}
 use Rattle.ip_headers.proofs.Layouts.{length-padding}
 
 pub label_small : (version : Version) (option : Option (Bor (List ℕ))) → IfSome option (λ o. IsLabelOption version o.now) → length (octets_or_none (option_copied option)) ≤ 254
@@ -19,9 +21,9 @@ label_small version None h = omega arith
 label_small V4 (Some o) h = omega (arith, h.short)
 label_small V6 (Some o) h = h.short
 
-pub label_octets-is : (place : ℕ) (option : Option (List ℕ)) → label_octets (option_map (λ o. let p : Placed = record { place = place; octets = o } in p) option) ≡ octets_or_none option
-label_octets-is place None = refl
-label_octets-is place (Some o) = refl
+label_octets-is : (version : Version) (option : Option (List ℕ)) → label_octets (first_option version option) ≡ octets_or_none option
+label_octets-is version None = refl
+label_octets-is version (Some o) = refl
 
 -- what stands before the options, then the label, the kept options and the padding, in as many writes
 pub area_from : (version : Version) (front label labelled kept out : List ℕ) (others : List Placed) → length front ≡ first_place version
@@ -35,175 +37,138 @@ area_from version front label labelled kept out others long labelled_is kept_is 
     let k2 : length kept ≡ first + length (label ++ packed_label) = ap length kept2 ∙ length-append front (label ++ packed_label) ∙ ap (λ (n : ℕ). n + length (label ++ packed_label)) long in
     out_is ∙ (λ i. kept2 i ++ padding version (gap_to (unit_of version) 0 (k2 i))) ∙ append_assoc front (label ++ packed_label) (padding version (gap_to (unit_of version) 0 (first + length (label ++ packed_label))))
 
+-- the options with the padding after them
+pub length-area : (version : Version) (option : Option (List ℕ)) (others : List Placed) (label kept size : ℕ) → label ≡ length (octets_or_none option)
+    → kept ≡ label + length (packed version (first_place version + label) others)
+    → size ≡ kept + gap_to (unit_of version) 0 (first_place version + kept)
+    → (kept ≡ length (octets_or_none option ++ packed version (first_place version + length (octets_or_none option)) others)) × (size ≡ length (area_with version option others))
+length-area version option others label kept size label_is kept_is size_is =
+    let first = first_place version in
+    let options = octets_or_none option ++ packed version (first + length (octets_or_none option)) others in
+    let kept_long : kept ≡ length options =
+    kept_is ∙ ap (λ (n : ℕ). n + length (packed version (first + n) others)) label_is ∙ sym (length-append (octets_or_none option) (packed version (first + length (octets_or_none option)) others)) in (
+      kept_long,
+      size_is ∙ ap (λ (n : ℕ). n + gap_to (unit_of version) 0 (first + n)) kept_long
+          ∙ ap (λ (n : ℕ). length options + n) (sym (length-padding version (gap_to (unit_of version) 0 (first + length options))))
+          ∙ sym (length-append options (padding version (gap_to (unit_of version) 0 (first + length options)))),
+    )
+
 -- ---- version 4
 
-module _ (head payload : List ℕ) (option : Option (List ℕ)) (hops : ℕ) where
-  area4-is : option_area (relabelled (view_of V4 head payload) option hops) ≡ filled V4 20 (octets_or_none option ++ packed V4 (20 + length (octets_or_none option)) (others_of V4 (options_in V4 head)))
+module _ (f : Fields4) (option : Option (List ℕ)) (others : List Placed) (payload : List ℕ) where
+  kept4 : kept_options (packet4 f option others payload) ≡ octets_or_none option ++ packed V4 (20 + length (octets_or_none option)) others
   unfolding kept_options
-  area4-is = ap (λ (l : List ℕ). filled V4 20 (l ++ packed V4 (20 + length l) (others_of V4 (options_in V4 head)))) (label_octets-is 20 option)
+  kept4 = ap (λ (l : List ℕ). l ++ packed V4 (20 + length l) others) (label_octets-is V4 option)
 
-  -- the numbers that decide whether the packet may be written
-  pub room4-is : (label kept : ℕ) → label ≡ length (octets_or_none option) → kept ≡ label + length (packed V4 (20 + label) (others_of V4 (options_in V4 head)))
-      → rebuilt_room (relabelled (view_of V4 head payload) option hops) ≡ kept
-  unfolding rebuilt_room kept_options
-  room4-is label kept label_is kept_is =
-      let others = others_of V4 (options_in V4 head) in
-      ap (λ (l : List ℕ). length (l ++ packed V4 (20 + length l) others)) (label_octets-is 20 option) ∙ length-append (octets_or_none option) (packed V4 (20 + length (octets_or_none option)) others)
-      ∙ ap (λ (n : ℕ). n + length (packed V4 (20 + n) others)) (sym label_is) ∙ sym kept_is
+  area4 : option_area (packet4 f option others payload) ≡ area_with V4 option others
+  area4 = ap (filled V4 20) kept4
 
-  pub area4-size : (label kept size : ℕ) → label ≡ length (octets_or_none option) → kept ≡ label + length (packed V4 (20 + label) (others_of V4 (options_in V4 head)))
-      → size ≡ kept + gap_to 4 0 (20 + kept) → size ≡ length (option_area (relabelled (view_of V4 head payload) option hops))
+  pub room4 : (kept : ℕ) → kept ≡ length (octets_or_none option ++ packed V4 (20 + length (octets_or_none option)) others) → kept ≡ rebuilt_room (packet4 f option others payload)
   unfolding rebuilt_room
-  area4-size label kept size label_is kept_is size_is =
-      let room = room4-is label kept label_is kept_is in
-      let options = kept_options (relabelled (view_of V4 head payload) option hops) in
-      size_is ∙ sym (length-append options (padding V4 (gap_to 4 0 (20 + length options))) ∙ ap (λ (n : ℕ). length options + n) (length-padding V4 (gap_to 4 0 (20 + length options))) ∙ ap (λ (n : ℕ). n + gap_to 4 0 (20 + n)) room)
+  room4 kept e = e ∙ ap length (sym kept4)
 
-  pub length4-is : (size : ℕ) → size ≡ length (option_area (relabelled (view_of V4 head payload) option hops)) → rebuilt_length (relabelled (view_of V4 head payload) option hops) ≡ 20 + size + length payload
+  pub area_size4 : (size : ℕ) → size ≡ length (area_with V4 option others) → size ≡ length (option_area (packet4 f option others payload))
+  area_size4 size e = e ∙ ap length (sym area4)
+
+  pub length4 : (size : ℕ) → size ≡ length (area_with V4 option others) → rebuilt_length (packet4 f option others payload) ≡ 20 + size + length payload
   unfolding rebuilt_length
-  length4-is size size_is = ap (λ (n : ℕ). 20 + n + length payload) (sym size_is)
+  length4 size e = ap (λ (n : ℕ). 20 + n + length payload) (sym (area_size4 size e))
 
-  pub header_from4 : (size : ℕ) (front labelled kept out : List ℕ) → length front ≡ 20 → front ≡ fixed4 (relabelled (view_of V4 head payload) None hops) size 0
-      → labelled ≡ front ++ octets_or_none option → kept ≡ labelled ++ packed V4 (length labelled) (others_of V4 (options_in V4 head))
-      → size ≡ length (option_area (relabelled (view_of V4 head payload) option hops))
-      → out ≡ kept ++ padding V4 (gap_to 4 0 (length kept)) → out ≡ header4 (relabelled (view_of V4 head payload) option hops) 0
+  pub header_from4 : (size : ℕ) (front labelled kept out : List ℕ) → length front ≡ 20 → front ≡ fixed4 (packet4 f None [] payload) size 0
+      → labelled ≡ front ++ octets_or_none option → kept ≡ labelled ++ packed V4 (length labelled) others
+      → size ≡ length (option_area (packet4 f option others payload))
+      → out ≡ kept ++ padding V4 (gap_to 4 0 (length kept)) → out ≡ header4 (packet4 f option others payload) 0
   header_from4 size front labelled kept out long front_is labelled_is kept_is size_is out_is =
-      let area = area_from V4 front (octets_or_none option) labelled kept out (others_of V4 (options_in V4 head)) long labelled_is kept_is out_is in
-      let fixed_is : front ≡ fixed4 (relabelled (view_of V4 head payload) option hops) (length (option_area (relabelled (view_of V4 head payload) option hops))) 0 =
-      front_is ∙ ap (λ (n : ℕ). fixed4 (relabelled (view_of V4 head payload) None hops) n 0) size_is in
-      area ∙ (λ i. fixed_is i ++ sym area4-is i)
+      let area = area_from V4 front (octets_or_none option) labelled kept out others long labelled_is kept_is out_is in
+      let fixed_is : front ≡ fixed4 (packet4 f option others payload) (length (option_area (packet4 f option others payload))) 0 = front_is ∙ ap (λ (n : ℕ). fixed4 (packet4 f None [] payload) n 0) size_is in
+      area ∙ (λ i. fixed_is i ++ sym area4 i)
 
--- a header with its checksum, and the payload
-pub with_checksum4 : (p : ParsedPacket) (header checked out : List ℕ) → p.version ≡ V4 → header ≡ header4 p 0
-    → checked ≡ slice_set (slice_set header 10 ((65535 - ones_sum header) / 256)) 11 ((65535 - ones_sum header) % 256) → out ≡ checked ++ p.payload → out ≡ packet_octets p
-unfolding packet_octets
-with_checksum4 p header checked out v header_is checked_is out_is =
-    let set_is : checked ≡ header4 p (checksum4 p) = checked_is ∙ ap (λ (h : List ℕ). slice_set (slice_set h 10 ((65535 - ones_sum h) / 256)) 11 ((65535 - ones_sum h) % 256)) header_is in
-    out_is ∙ ap (λ (h : List ℕ). h ++ p.payload) set_is ∙ ap (λ (w : Version). Rattle.ip_headers.specs.Written.octets_of w p) (sym v)
-
--- ---- the numbers at a packet that is known by its view
-
-pub room_at4 : (now : ParsedPacket) (head payload : List ℕ) (option : Option (List ℕ)) (hops label kept : ℕ) → view_of V4 head payload ≡ now → label ≡ length (octets_or_none option)
-    → kept ≡ label + length (packed V4 (20 + label) (others_of V4 (options_in V4 head))) → rebuilt_room (relabelled now option hops) ≡ kept
-room_at4 now head payload option hops label kept view_is label_is kept_is =
-    ap (λ (v : ParsedPacket). rebuilt_room (relabelled v option hops)) (sym view_is) ∙ room4-is head payload option hops label kept label_is kept_is
-
-pub length_at4 : (now : ParsedPacket) (head payload : List ℕ) (option : Option (List ℕ)) (hops label kept size : ℕ) → view_of V4 head payload ≡ now → label ≡ length (octets_or_none option)
-    → kept ≡ label + length (packed V4 (20 + label) (others_of V4 (options_in V4 head))) → size ≡ kept + gap_to 4 0 (20 + kept) → rebuilt_length (relabelled now option hops) ≡ 20 + size + length payload
-length_at4 now head payload option hops label kept size view_is label_is kept_is size_is =
-    ap (λ (v : ParsedPacket). rebuilt_length (relabelled v option hops)) (sym view_is) ∙ length4-is head payload option hops size (area4-size head payload option hops label kept size label_is kept_is size_is)
+  -- a header with its checksum, and the payload
+  pub with_checksum4 : (header checked out : List ℕ) → header ≡ header4 (packet4 f option others payload) 0 → checked ≡ put_checksum4 header → out ≡ checked ++ payload → out ≡ packet_octets (packet4 f option others payload)
+  unfolding packet_octets
+  with_checksum4 header checked out header_is checked_is out_is =
+      let set_is : checked ≡ header4 (packet4 f option others payload) (checksum4 (packet4 f option others payload)) = checked_is ∙ ap put_checksum4 header_is in
+      out_is ∙ ap (λ (h : List ℕ). h ++ payload) set_is
 
 -- ---- version 6
 
 -- what a gap is for
-pub gap_8 : (free : ℕ) → (free + gap_to 8 0 free) % 8 ≡ 0
+gap_8 : (free : ℕ) → (free + gap_to 8 0 free) % 8 ≡ 0
 gap_8 free = omega arith
 
-pub length-area : (version : Version) (head : List ℕ) (option : Option (List ℕ)) (label kept size : ℕ) → label ≡ length (octets_or_none option)
-    → kept ≡ label + length (packed version (first_place version + label) (others_of version (options_in version head)))
-    → size ≡ kept + gap_to (unit_of version) 0 (first_place version + kept) → size ≡ length (area_with version head option)
-length-area version head option label kept size label_is kept_is size_is =
-    let others = others_of version (options_in version head) in
-    let first = first_place version in
-    let options = octets_or_none option ++ packed version (first + length (octets_or_none option)) others in
-    let kept_long : kept ≡ length options =
-    kept_is ∙ ap (λ (n : ℕ). n + length (packed version (first + n) others)) label_is ∙ sym (length-append (octets_or_none option) (packed version (first + length (octets_or_none option)) others)) in
-    size_is ∙ ap (λ (n : ℕ). n + gap_to (unit_of version) 0 (first + n)) kept_long
-    ∙ ap (λ (n : ℕ). length options + n) (sym (length-padding version (gap_to (unit_of version) 0 (first + length options))))
-    ∙ sym (length-append options (padding version (gap_to (unit_of version) 0 (first + length options))))
-
 -- a list of options ends where a header may end
-pub area6_unit : (head : List ℕ) (option : Option (List ℕ)) → (2 + length (area_with V6 head option)) % 8 ≡ 0
-area6_unit head option =
-    let options = octets_or_none option ++ packed V6 (42 + length (octets_or_none option)) (others_of V6 (options_in V6 head)) in
-    let long : length (area_with V6 head option) ≡ length options + gap_to 8 0 (42 + length options) =
+area6_unit : (option : Option (List ℕ)) (others : List Placed) → (2 + length (area_with V6 option others)) % 8 ≡ 0
+area6_unit option others =
+    let options = octets_or_none option ++ packed V6 (42 + length (octets_or_none option)) others in
+    let long : length (area_with V6 option others) ≡ length options + gap_to 8 0 (42 + length options) =
     length-append options (padding V6 (gap_to 8 0 (42 + length options))) ∙ ap (λ (n : ℕ). length options + n) (length-padding V6 (gap_to 8 0 (42 + length options))) in
     omega (arith, long, gap_8 (42 + length options))
 
 -- no option, no header
-pub size6_none : (any : Bool) (area : List ℕ) (protocol size : ℕ) → size ≡ cond any (2 + length area) 0 → size ≡ 0 → hop_by_hop_with any protocol area ≡ []
-size6_none true area protocol size size_is none = absurd (omega (arith, size_is, none))
-size6_none false area protocol size size_is none = refl
+size_none : (any : Bool) (area : List ℕ) (protocol size : ℕ) → size ≡ cond any (2 + length area) 0 → size ≡ 0 → hop_by_hop_with any protocol area ≡ []
+size_none true area protocol size size_is none = absurd (omega (arith, size_is, none))
+size_none false area protocol size size_is none = refl
 
-pub size6_some : (any : Bool) (area : List ℕ) (size : ℕ) → (2 + length area) % 8 ≡ 0 → size ≡ cond any (2 + length area) 0 → size ≢ 0 → (any ≡ true) × (size ≡ 2 + length area) × (8 ≤ size)
-size6_some true area size unit size_is some = (refl, size_is, omega (arith, size_is))
-size6_some false area size unit size_is some = absurd (some size_is)
-
--- the header in as many writes
-pub hop_by_hop_from : (head : List ℕ) (option : Option (List ℕ)) (protocol size : ℕ) (old one front labelled kept out : List ℕ) → length old ≡ 40
-    → size ≡ cond (writes_any V6 head option) (2 + length (area_with V6 head option)) 0 → size ≢ 0
-    → one ≡ old ++ protocol ∷ [] → front ≡ one ++ (size / 8 - 1) ∷ []
-    → labelled ≡ front ++ octets_or_none option → kept ≡ labelled ++ packed V6 (length labelled) (others_of V6 (options_in V6 head))
-    → out ≡ kept ++ padding V6 (gap_to 8 0 (length kept))
-    → out ≡ old ++ hop_by_hop_with (writes_any V6 head option) protocol (area_with V6 head option)
-hop_by_hop_from head option protocol size old one front labelled kept out long size_is some one_is front_is labelled_is kept_is out_is =
-    let area = area_with V6 head option in
-    let whole = size6_some (writes_any V6 head option) area size (area6_unit head option) size_is some in
-    let x = size / 8 - 1 in
-    let front2 : front ≡ old ++ protocol ∷ x ∷ [] = front_is ∙ ap (λ (l : List ℕ). l ++ x ∷ []) one_is ∙ append_assoc old (protocol ∷ []) (x ∷ []) in
-    let front_long : length front ≡ 42 = ap length front2 ∙ length-append old (protocol ∷ x ∷ []) ∙ omega (arith, long) in
-    let all = area_from V6 front (octets_or_none option) labelled kept out (others_of V6 (options_in V6 head)) front_long labelled_is kept_is out_is in
-    all ∙ ap (λ (l : List ℕ). l ++ area) front2 ∙ append_assoc old (protocol ∷ x ∷ []) area
-    ∙ ap (λ (n : ℕ). old ++ protocol ∷ (n / 8 - 1) ∷ area) whole.1
-    ∙ ap (λ (b : Bool). old ++ hop_by_hop_with b protocol area) (sym whole.0)
-
-pub size_if : (any : Bool) (n m : ℕ) → any ≡ true → n ≡ m → n ≡ cond any m 0
-size_if any n m e same = rw e same
-
-pub size_unless : (any : Bool) (m : ℕ) → any ≡ false → 0 ≡ cond any m 0
-size_unless any m e = rw e refl
-
-module _ (head payload : List ℕ) (option : Option (List ℕ)) (hops : ℕ) where
-  area6-is : option_area (relabelled (view_of V6 head payload) option hops) ≡ area_with V6 head option
-  unfolding kept_options
-  area6-is = ap (λ (l : List ℕ). filled V6 42 (l ++ packed V6 (42 + length l) (others_of V6 (options_in V6 head)))) (label_octets-is 42 option)
-
-  any6-is : has_options (relabelled (view_of V6 head payload) option hops) ≡ writes_any V6 head option
-  any6-is = ap (λ (b : Bool). b || has_any (others_of V6 (options_in V6 head))) (is_some-map (λ o. let p : Placed = record { place = 42; octets = o } in p) option)
-
-  hop6-is : hop_by_hop (relabelled (view_of V6 head payload) option hops) ≡ hop_by_hop_with (writes_any V6 head option) (view_of V6 head payload).protocol (area_with V6 head option)
-  unfolding hop_by_hop
-  hop6-is i = hop_by_hop_with (any6-is i) (view_of V6 head payload).protocol (area6-is i)
+size_some : (any : Bool) (area : List ℕ) (size : ℕ) → (2 + length area) % 8 ≡ 0 → size ≡ cond any (2 + length area) 0 → size ≢ 0 → (any ≡ true) × (size ≡ 2 + length area) × (8 ≤ size)
+size_some true area size unit size_is some = (refl, size_is, omega (arith, size_is))
+size_some false area size unit size_is some = absurd (some size_is)
 
 length-hop_by_hop_with : (any : Bool) (protocol : ℕ) (area : List ℕ) → length (hop_by_hop_with any protocol area) ≡ cond any (2 + length area) 0
 length-hop_by_hop_with true protocol area = omega arith
 length-hop_by_hop_with false protocol area = refl
 
-module _ (now : ParsedPacket) (head : List ℕ) (option : Option (List ℕ)) (hops : ℕ) (view_is : now ≡ view_of V6 head now.payload) where
-  any_at6 : has_options (relabelled now option hops) ≡ writes_any V6 head option
-  any_at6 = ap (λ (v : ParsedPacket). has_options (relabelled v option hops)) view_is ∙ any6-is head now.payload option hops
-
-  hop_at6 : hop_by_hop (relabelled now option hops) ≡ hop_by_hop_with (writes_any V6 head option) now.protocol (area_with V6 head option)
-  hop_at6 =
-      ap (λ (v : ParsedPacket). hop_by_hop (relabelled v option hops)) view_is ∙ hop6-is head now.payload option hops
-      ∙ ap (λ (v : ParsedPacket). hop_by_hop_with (writes_any V6 head option) v.protocol (area_with V6 head option)) (sym view_is)
-
-  size_at6 : (size : ℕ) → size ≡ cond (writes_any V6 head option) (2 + length (area_with V6 head option)) 0 → length (hop_by_hop (relabelled now option hops)) ≡ size
-  size_at6 size size_is = ap length hop_at6 ∙ length-hop_by_hop_with (writes_any V6 head option) now.protocol (area_with V6 head option) ∙ sym size_is
-
-  pub room_at6 : (size : ℕ) → size ≡ cond (writes_any V6 head option) (2 + length (area_with V6 head option)) 0 → rebuilt_room (relabelled now option hops) ≡ size
-  unfolding rebuilt_room
-  room_at6 size size_is = ap (λ (v : ParsedPacket). room_of v.version (relabelled now option hops)) view_is ∙ size_at6 size size_is
-
-  pub length_at6 : (size : ℕ) → size ≡ cond (writes_any V6 head option) (2 + length (area_with V6 head option)) 0 → rebuilt_length (relabelled now option hops) ≡ size + length now.payload
-  unfolding rebuilt_length
-  length_at6 size size_is = ap (λ (v : ParsedPacket). length_of v.version (relabelled now option hops)) view_is ∙ ap (λ (n : ℕ). n + length now.payload) (size_at6 size size_is)
-
-  pub octets_at6 : (size next : ℕ) (fixed hop out : List ℕ) → size ≡ cond (writes_any V6 head option) (2 + length (area_with V6 head option)) 0 → next ≡ cond (writes_any V6 head option) 0 now.protocol
-      → fixed ≡ front6 (record now { hops = hops }) size next ++ now.source ++ now.destination
-      → hop ≡ fixed ++ hop_by_hop_with (writes_any V6 head option) now.protocol (area_with V6 head option) → out ≡ hop ++ now.payload → out ≡ packet_octets (relabelled now option hops)
-  unfolding packet_octets
-  octets_at6 size next fixed hop out size_is next_is fixed_is hop_is out_is =
-      let p : ParsedPacket = relabelled now option hops in
-      let next_at : next ≡ next_header p = next_is ∙ ap (λ (b : Bool). cond b 0 now.protocol) (sym any_at6) in
-      let fixed_at : fixed ≡ front6 p (length (hop_by_hop p)) (next_header p) ++ now.source ++ now.destination =
-      fixed_is ∙ (λ i. front6 p (sym (size_at6 size size_is) i) (next_at i) ++ now.source ++ now.destination) in
-      out_is ∙ (λ i. (hop_is ∙ (λ j. fixed_at j ++ sym hop_at6 j)) i ++ now.payload) ∙ ap (λ (v : ParsedPacket). octets_of v.version p) (sym view_is)
-
 -- the next header, by the size of the Hop-by-Hop header
-pub next_if : (any : Bool) (area : List ℕ) (size protocol next : ℕ) → size ≡ cond any (2 + length area) 0 → next ≡ cond (eqb size 0) protocol 0 → next ≡ cond any 0 protocol
-next_if true area size protocol next size_is next_is = next_is ∙ rw (ne_eqb size 0 (omega (arith, size_is))) refl
-next_if false area size protocol next size_is next_is = next_is ∙ rw size_is refl
+next_if : (any : Bool) (area : List ℕ) (size protocol : ℕ) → size ≡ cond any (2 + length area) 0 → cond (eqb size 0) protocol 0 ≡ cond any 0 protocol
+next_if true area size protocol size_is = rw (ne_eqb size 0 (omega (arith, size_is))) refl
+next_if false area size protocol size_is = rw size_is refl
 
-pub known_view6 : (now : ParsedPacket) (head payload : List ℕ) → view_of V6 head payload ≡ now → now ≡ view_of V6 head now.payload
-known_view6 now head payload view_is = sym view_is ∙ ap (view_of V6 head) (ap (λ (v : ParsedPacket). v.payload) view_is)
+module _ (option : Option (List ℕ)) (others : List Placed) where
+  pub no_hop : (protocol size : ℕ) (old : List ℕ) → size ≡ hop_size option others → size ≡ 0 → old ≡ old ++ hop_of protocol option others
+  no_hop protocol size old size_is none = rw (size_none (writes_any option others) (area_with V6 option others) protocol size size_is none) (sym (append-nil old))
+
+  pub some_hop : (size : ℕ) → size ≡ hop_size option others → size ≢ 0 → 8 ≤ size
+  some_hop size size_is some = (size_some (writes_any option others) (area_with V6 option others) size (area6_unit option others) size_is some).2
+
+  -- the header in as many writes
+  pub hop_from : (protocol size : ℕ) (old one front labelled kept out : List ℕ) → length old ≡ 40 → size ≡ hop_size option others → size ≢ 0
+      → one ≡ old ++ protocol ∷ [] → front ≡ one ++ (size / 8 - 1) ∷ []
+      → labelled ≡ front ++ octets_or_none option → kept ≡ labelled ++ packed V6 (length labelled) others
+      → out ≡ kept ++ padding V6 (gap_to 8 0 (length kept)) → out ≡ old ++ hop_of protocol option others
+  hop_from protocol size old one front labelled kept out long size_is some one_is front_is labelled_is kept_is out_is =
+      let area = area_with V6 option others in
+      let whole = size_some (writes_any option others) area size (area6_unit option others) size_is some in
+      let x = size / 8 - 1 in
+      let front2 : front ≡ old ++ protocol ∷ x ∷ [] = front_is ∙ ap (λ (l : List ℕ). l ++ x ∷ []) one_is ∙ append_assoc old (protocol ∷ []) (x ∷ []) in
+      let front_long : length front ≡ 42 = ap length front2 ∙ length-append old (protocol ∷ x ∷ []) ∙ omega (arith, long) in
+      let all = area_from V6 front (octets_or_none option) labelled kept out others front_long labelled_is kept_is out_is in
+      all ∙ ap (λ (l : List ℕ). l ++ area) front2 ∙ append_assoc old (protocol ∷ x ∷ []) area
+      ∙ ap (λ (n : ℕ). old ++ protocol ∷ (n / 8 - 1) ∷ area) whole.1
+      ∙ ap (λ (b : Bool). old ++ hop_by_hop_with b protocol area) (sym whole.0)
+
+  module _ (f : Fields6) (payload : List ℕ) where
+    any6 : has_options (packet6 f option others payload) ≡ writes_any option others
+    any6 = ap (λ (b : Bool). b || has_any others) (is_some-map (λ o. let p : Placed = record { place = 42; octets = o } in p) option)
+
+    hop6 : hop_by_hop (packet6 f option others payload) ≡ hop_of f.protocol option others
+    unfolding hop_by_hop kept_options
+    hop6 i = hop_by_hop_with (any6 i) f.protocol (filled V6 42 (label_octets-is V6 option i ++ packed V6 (42 + length (label_octets-is V6 option i)) others))
+
+    size6 : (size : ℕ) → size ≡ hop_size option others → size ≡ length (hop_by_hop (packet6 f option others payload))
+    size6 size e = e ∙ sym (ap length hop6 ∙ length-hop_by_hop_with (writes_any option others) f.protocol (area_with V6 option others))
+
+    pub room6 : (size : ℕ) → size ≡ hop_size option others → size ≡ rebuilt_room (packet6 f option others payload)
+    unfolding rebuilt_room
+    room6 size e = size6 size e
+
+    pub length6 : (size : ℕ) → size ≡ hop_size option others → rebuilt_length (packet6 f option others payload) ≡ size + length payload
+    unfolding rebuilt_length
+    length6 size e = ap (λ (n : ℕ). n + length payload) (sym (size6 size e))
+
+    pub octets6 : (size : ℕ) (fixed hop out : List ℕ) → size ≡ hop_size option others → fixed ≡ fixed6 (packet6 f None [] payload) size (cond (eqb size 0) f.protocol 0)
+        → hop ≡ fixed ++ hop_of f.protocol option others → out ≡ hop ++ payload → out ≡ packet_octets (packet6 f option others payload)
+    unfolding packet_octets
+    octets6 size fixed hop out size_is fixed_is hop_is out_is =
+        let p = packet6 f option others payload in
+        let next : cond (eqb size 0) f.protocol 0 ≡ next_header p = next_if (writes_any option others) (area_with V6 option others) size f.protocol size_is ∙ ap (λ (b : Bool). cond b 0 f.protocol) (sym any6) in
+        let fixed_at : fixed ≡ fixed6 p (length (hop_by_hop p)) (next_header p) = fixed_is ∙ (λ i. fixed6 p (size6 size size_is i) (next i)) in
+        out_is ∙ (λ i. (hop_is ∙ (λ j. fixed_at j ++ sym hop6 j)) i ++ payload)

@@ -4,14 +4,14 @@ use Rattle.std.specs.Prelude.{ℕ, ◌+◌, ◌-◌, ◌*◌, ◌/◌, ◌%◌, 
 use Rattle.ip_headers.specs.declared.version.Version.TheVariants.{V6}
 use Rattle.ip_headers.specs.declared.fault.HeadFault.{HeadFault}
 use Rattle.ip_headers.specs.declared.fault.HeadKind.TheVariants.{Short, Version, HeaderLength, TotalLength}
-use Rattle.ip_headers.specs.Sum.{word_at}
+use Rattle.octet_grammar.specs.Numbers.{u16_at}
 use Rattle.ip_headers.specs.Options.{Placed}
-use Rattle.ip_headers.specs.Packet.{ParsedPacket}
-use Rattle.ip_headers.specs.Header4.{version_of, fault}
+use Rattle.ip_headers.specs.Packet.{Headers}
+use Rattle.ip_headers.specs.Header4.{version_number, fault_at}
 
 -- how many octets follow octet 40
 abbrev pub payload_length : List ℕ → ℕ
-payload_length octets = word_at octets 4
+payload_length octets = u16_at octets 4
 
 -- next header 0: a Hop-by-Hop header follows
 abbrev pub has_hop_by_hop : List ℕ → Bool
@@ -25,11 +25,11 @@ hop_by_hop_length octets = if has_hop_by_hop octets then (slice_index octets 41 
 -- the first test that fails before the options are read
 unfoldable pub fixed_fault6 : List ℕ → Option HeadFault
 fixed_fault6 octets =
-    if nat_lt (length octets) 40 then fault (length octets) Short else
-    (if not (version_of octets == 6) then fault 0 Version else
-    (if nat_lt (length octets - 40) (payload_length octets) then fault 4 TotalLength else
-    (if has_hop_by_hop octets && nat_lt (payload_length octets) 8 then fault 4 TotalLength else
-    (if nat_lt (payload_length octets) (hop_by_hop_length octets) then fault 41 HeaderLength else
+    if nat_lt (length octets) 40 then fault_at (length octets) Short else
+    (if not (version_number octets == 6) then fault_at 0 Version else
+    (if nat_lt (length octets - 40) (payload_length octets) then fault_at 4 TotalLength else
+    (if has_hop_by_hop octets && nat_lt (payload_length octets) 8 then fault_at 4 TotalLength else
+    (if nat_lt (payload_length octets) (hop_by_hop_length octets) then fault_at 41 HeaderLength else
     None))))
 
 -- the header and the Hop-by-Hop header
@@ -41,13 +41,13 @@ abbrev pub payload6 : List ℕ → List ℕ
 payload6 octets = slice_range octets (40 + hop_by_hop_length octets) (40 + payload_length octets)
 
 -- what the headers' octets say, with these options and this payload
-abbrev pub parsed6 : List ℕ → Option Placed → List Placed → List ℕ → ParsedPacket
+abbrev pub parsed6 : List ℕ → Option Placed → List Placed → List ℕ → Headers
 parsed6 head label others payload = record {
   version = V6;
   class = 16 * (slice_index head 0 % 16) + slice_index head 1 / 16;
   identification = 0;
   flags_offset = 0;
-  flow_label = 65536 * (slice_index head 1 % 16) + word_at head 2;
+  flow_label = 65536 * (slice_index head 1 % 16) + u16_at head 2;
   hops = slice_index head 7;
   protocol = if has_hop_by_hop head then slice_index head 40 else slice_index head 6;
   source = slice_range head 8 24;

@@ -5,8 +5,6 @@ pub mod Header4
 pub mod Header6
 pub mod Reading
 pub mod Written
-pub mod Walk
-pub mod View
-pub mod View4
-pub mod View6
+pub mod Fields
 pub mod Laws
+pub mod inside

@@ -1,14 +1,15 @@
 -- Lists of options: of an IPv4 header (RFC 791, section 3.1) and of an IPv6 Hop-by-Hop header (RFC 8200,
 -- sections 4.2 and 4.3). The two versions differ in which types are one octet long, in what the length
 -- octet counts, and in whether type 0 ends the list.
-use Rattle.std.specs.Prelude.{◌≡◌, ℕ, ◌+◌, ◌%◌, ◌<◌, ◌≤◌, ◌⊎◌, Bool, true, false, not, ◌||◌, List, [], ◌∷◌, ◌++◌, length, All, map, filter, slice_index, ◌==◌, if◌then◌else◌}
-use Rattle.std.specs.List.{concat}
+use Rattle.std.specs.Prelude.{◌≡◌, ℕ, zero, suc, ◌+◌, ◌%◌, Bool, true, false, not, ◌&&◌, ◌||◌, List, [], ◌∷◌, Option, Some, None, length, take, drop, map, filter, slice_index, nat_le, ◌==◌, if◌then◌else◌}
 use Rattle.ip_headers.specs.declared.version.Version.{Version}
 use Rattle.ip_headers.specs.declared.version.Version.TheVariants.{V4, V6}
+use Rattle.ip_headers.specs.declared.fault.HeadFault.{HeadFault}
+use Rattle.ip_headers.specs.declared.fault.HeadKind.TheVariants.{OptionList}
 
 -- the first octet of an option
-abbrev pub type_of : List ℕ → ℕ
-type_of option = slice_index option 0
+abbrev pub type_octet : List ℕ → ℕ
+type_octet option = slice_index option 0
 
 -- whether an option of this type is its type octet alone: No Operation in version 4, Pad1 in version 6
 abbrev pub is_single : Version → ℕ → Bool
@@ -25,33 +26,51 @@ abbrev pub uncounted : Version → ℕ
 uncounted V4 = 0
 uncounted V6 = 2
 
--- how long the option is that these octets begin with, as its type and its length octet say
+-- how long the option is that stands here, as its type and its length octet say
 abbrev pub announced : Version → List ℕ → ℕ
-announced version octets = if is_single version (type_of octets) then 1 else slice_index octets 1 + uncounted version
+announced version octets = if is_single version (type_octet octets) then 1 else slice_index octets 1 + uncounted version
 
--- an option, all of it: one octet, or a type and a length octet with what they announce
+-- whether a list ends here: at the header's end, or at the type that ends a list
+abbrev pub ends_list : Version → List ℕ → Bool
+ends_list version [] = true
+ends_list version (type ∷ octets) = is_end version type
+
+-- Whether the option that stands here is whole: it announces no less than its type and its length octet, and no
+-- more than there is. (A length octet past the header's end counts as 0, which fails in both versions.)
+abbrev pub is_whole : Version → List ℕ → Bool
+is_whole version octets = is_single version (type_octet octets) || nat_le 2 (announced version octets) && nat_le (announced version octets) (length octets)
+
+-- an option, all of it, with nothing behind it
 pub record IsOption (version : Version) (option : List ℕ) : Type 0 where
-  pub some : 0 < length option
-  pub goes_on : is_end version (type_of option) ≡ false
-  pub paired : is_single version (type_of option) ≡ false → 2 ≤ length option
+  pub goes_on : ends_list version option ≡ false
+  pub whole : is_whole version option ≡ true
   pub exact : announced version option ≡ length option
 
--- the octets are these options one after another, and then the rest
-pub record AreOptions (version : Version) (octets : List ℕ) (options : List (List ℕ)) (rest : List ℕ) : Type 0 where
-  pub whole : octets ≡ concat options ++ rest
-  pub each : All (IsOption version) options
+-- an option and its place: that of its type octet
+pub record Placed : Type 0 where
+  pub place : ℕ
+  pub octets : List ℕ
 
--- the list ends here: at the header's end, or at the type that ends a list
-abbrev pub Ends : Version → List ℕ → Type 0
-Ends version rest = (rest ≡ []) ⊎ (is_end version (type_of rest) ≡ true)
+-- The options of a list in order, up to its end or to the first that isn't whole, and the fault of that one. It
+-- stands at the octet after its type: the length octet, or the header's end where that is past it.
+pub record Listed : Type 0 where
+  pub options : List Placed
+  pub broken : Option HeadFault
 
--- What stands here should have a length octet. It is past the header, or it says less than two octets, or
--- more than there are.
-pub record IsBroken (version : Version) (rest : List ℕ) : Type 0 where
-  pub some : 0 < length rest
-  pub goes_on : is_end version (type_of rest) ≡ false
-  pub paired : is_single version (type_of rest) ≡ false
-  pub wrong : (length rest ≡ 1) ⊎ (announced version rest < 2) ⊎ (length rest < announced version rest)
+abbrev pub with_first : Placed → Listed → Listed
+with_first option others = record { options = option ∷ others.options; broken = others.broken }
+
+-- at most so many options, the first of them at this place
+unfoldable pub options_within : ℕ → Version → ℕ → List ℕ → Listed
+options_within zero version place octets = record { options = []; broken = None }
+options_within (suc n) version place octets =
+    if ends_list version octets then record { options = []; broken = None } else
+    (if not (is_whole version octets) then record { options = []; broken = Some (record { octet = place + 1; kind = OptionList }) } else
+    with_first (record { place = place; octets = take (announced version octets) octets }) (options_within n version (place + announced version octets) (drop (announced version octets) octets)))
+
+-- all of them: there are no more options than octets
+abbrev pub options_from : Version → ℕ → List ℕ → Listed
+options_from version place octets = options_within (length octets) version place octets
 
 -- CIPSO in version 4 (FIPS 188), CALIPSO in version 6 (RFC 5570)
 abbrev pub label_type : Version → ℕ
@@ -70,34 +89,20 @@ is_jumbo_type V6 type = type == 194
 abbrev pub is_other_type : Version → ℕ → Bool
 is_other_type version type = not (type == 0 || type == 1 || is_label_type version type)
 
--- an option and its place: that of its type octet
-pub record Placed : Type 0 where
-  pub place : ℕ
-  pub octets : List ℕ
-
--- the options with their places, the first of them at this one
-abbrev pub placed_from : ℕ → List (List ℕ) → List Placed
-placed_from place [] = []
-placed_from place (option ∷ options) = record { place = place; octets = option } ∷ placed_from (place + length option) options
-
 abbrev pub is_label : Version → Placed → Bool
-is_label version option = is_label_type version (type_of option.octets)
+is_label version option = is_label_type version (type_octet option.octets)
 
 abbrev pub is_jumbo : Version → Placed → Bool
-is_jumbo version option = is_jumbo_type version (type_of option.octets)
+is_jumbo version option = is_jumbo_type version (type_octet option.octets)
 
 abbrev pub is_other : Version → Placed → Bool
-is_other version option = is_other_type version (type_of option.octets)
+is_other version option = is_other_type version (type_octet option.octets)
 
--- An option keeps its place modulo this number when a header is written again: 8 in version 6, where an
--- option may ask for it (RFC 8200, section 4.2). In version 4 each place serves.
-abbrev pub alignment : Version → ℕ
-alignment V4 = 1
-alignment V6 = 8
-
--- an option whose place is known modulo the alignment
+-- What is kept of the place of an option that is neither padding nor a label: in version 6 its place modulo 8, which
+-- it may ask for (RFC 8200, section 4.2).
 abbrev pub aligned : Version → Placed → Placed
-aligned version option = record { place = option.place % alignment version; octets = option.octets }
+aligned V4 option = option
+aligned V6 option = record { place = option.place % 8; octets = option.octets }
 
 -- the label options
 abbrev pub labels_of : Version → List Placed → List Placed

@@ -2,7 +2,7 @@
 
 ghost use Rattle.std.specs.Prelude.{◌≡◌, ◌++◌, length, OnOk};
 ghost use Rattle.std.specs.Option.{option_copied};
-ghost use Rattle.ip_headers.specs.Written.{octets_or_none};
+ghost use Rattle.ip_headers.specs.inside.Write.{octets_or_none};
 
 use std::alloc::AllocError;
 

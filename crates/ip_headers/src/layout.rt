@@ -3,15 +3,15 @@
 
 ghost use Rattle.std.specs.Prelude.{◌≡◌, ℕ, ◌+◌, ◌*◌, ◌^◌, ◌<◌, ◌≤◌, List, [], ◌∷◌, ◌++◌, length, OnOk};
 ghost use Rattle.ip_headers.specs.declared.version.Version.TheVariants.{V6};
-ghost use Rattle.ip_headers.specs.Options.{alignment, others_of};
+ghost use Rattle.ip_headers.specs.Options.{others_of};
 ghost use Rattle.ip_headers.specs.Reading.{first_place};
-ghost use Rattle.ip_headers.specs.Written.{gap_to, padding, packed, unit_of};
-ghost use Rattle.ip_headers.specs.View.{options_in, HasOptions};
+ghost use Rattle.ip_headers.specs.Written.{alignment, gap_to, padding, packed, unit_of};
+ghost use Rattle.ip_headers.specs.inside.Write.{IsWholeList, others_in};
 
 use crate::kind;
 use crate::options::Step;
 use crate::version::Version;
-use crate::walk::{first_place, option_octets, step};
+use crate::walk::{first_place, step};
 use std::alloc::AllocError;
 
 /// What an option's place is kept modulo.
@@ -100,15 +100,15 @@ fn push_option(
 }
 
 /// Where the options that are kept end, if the first free octet is this one.
-pub fn kept_end(version: Version, head: &[u8], free: usize) -> usize
-    requires options { HasOptions version head.now }
-    requires small { length head.now < 2 ^ 17 }
+pub fn kept_end(version: Version, area: &[u8], free: usize) -> usize
+    requires whole { IsWholeList version area.now }
+    requires small { length area.now < 65536 }
     requires within { free < 2 ^ 16 }
-    ensures value { result ≡ free + length (packed version free (others_of version (options_in version head.now))) }
-    ensures bound { result ≤ free + 8 * length head.now }
+    ensures value { result ≡ free + length (packed version free (others_in version area.now)) }
+    ensures bound { result ≤ free + 8 * length area.now }
 {
     let mut at = first_place(version);
-    let mut rest = option_octets(version, head);
+    let mut rest = area;
     let mut end = free;
     while let Step::Option(size) = step(version, rest) {
         let (option, after) = rest.split_at(size);
@@ -120,13 +120,13 @@ pub fn kept_end(version: Version, head: &[u8], free: usize) -> usize
 }
 
 /// Writes the options that are kept at the end of a packet.
-pub fn push_kept(version: Version, head: &[u8], out: &mut Vec<u8>) -> Result<(), AllocError>
-    requires options { HasOptions version head.now }
-    requires small { length head.now < 2 ^ 17 }
-    ensures { OnOk result (out.new.items ≡ out.old.items ++ packed version (length out.old.items) (others_of version (options_in version head.now))) }
+pub fn push_kept(version: Version, area: &[u8], out: &mut Vec<u8>) -> Result<(), AllocError>
+    requires whole { IsWholeList version area.now }
+    requires small { length area.now < 65536 }
+    ensures { OnOk result (out.new.items ≡ out.old.items ++ packed version (length out.old.items) (others_in version area.now)) }
 {
     let mut at = first_place(version);
-    let mut rest = option_octets(version, head);
+    let mut rest = area;
     while let Step::Option(size) = step(version, rest) {
         let (option, after) = rest.split_at(size);
         push_option(version, at, option, out)?;
@@ -137,15 +137,15 @@ pub fn push_kept(version: Version, head: &[u8], out: &mut Vec<u8>) -> Result<(),
 }
 
 /// How long the options are, with a label option of this length and no padding after them.
-pub fn kept_size(version: Version, head: &[u8], label: usize) -> usize
-    requires options { HasOptions version head.now }
-    requires small { length head.now < 2 ^ 17 }
+pub fn kept_size(version: Version, area: &[u8], label: usize) -> usize
+    requires whole { IsWholeList version area.now }
+    requires small { length area.now < 65536 }
     requires within { label < 2 ^ 15 }
-    ensures value { result ≡ label + length (packed version (first_place version + label) (others_of version (options_in version head.now))) }
-    ensures bound { result ≤ label + 8 * length head.now }
+    ensures value { result ≡ label + length (packed version (first_place version + label) (others_in version area.now)) }
+    ensures bound { result ≤ label + 8 * length area.now }
 {
     let first = first_place(version);
-    kept_end(version, head, first + label) - first
+    kept_end(version, area, first + label) - first
 }
 
 /// How long they are with the padding after them.

@@ -5,6 +5,7 @@
 
 mod cause;
 mod fault;
+mod fields;
 mod kind;
 mod label;
 pub mod laws;
@@ -12,19 +13,24 @@ mod layout;
 mod options;
 mod packet4;
 mod packet6;
+mod parts;
 mod rebuild;
 mod sum;
 mod version;
 mod walk;
-mod write4;
-mod write6;
+mod writing4;
+mod writing6;
 
 pub use cause::Cause;
 pub use fault::{HeadFault, HeadKind};
+pub use fields::{Fields4, Fields6};
 pub use packet4::{Packet4, front4, read4, rebuild4};
 pub use packet6::{Packet6, front6, read6, rebuild6};
 pub use rebuild::Rebuild;
+pub use sum::{ones_add, ones_sum};
 pub use version::Version;
+pub use writing4::write4;
+pub use writing6::write6;
 
 #[cfg(test)]
 mod tests;

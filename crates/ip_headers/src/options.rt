@@ -1,12 +1,3 @@
-// A walk over a list of options, in one pass and without memory.
-
-ghost use Rattle.std.specs.Prelude.{◌≡◌, ℕ, ◌+◌, ◌<◌, ◌≤◌, List, [], ◌∷◌, ◌++◌, length, IfOk, IfErr};
-ghost use Rattle.std.specs.List.{concat};
-ghost use Rattle.ip_headers.specs.Options.{Placed, AreOptions, Ends, IsBroken, placed_from};
-
-use crate::kind;
-use crate::version::Version;
-
 /// What stands at an octet of a list of options.
 #[derive(Clone, Copy, Debug, Drop)]
 pub enum Step {

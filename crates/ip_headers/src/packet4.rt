@@ -9,44 +9,44 @@
 //     destination
 //     options, to IHL x 4 octets, and then the payload
 
-ghost use Rattle.std.specs.Prelude.{◌≡◌, ◌↔◌, ◌<◌, ◌≤◌, [], length, IsTrue, IfSome, IfOk, IfErr, OnOk, OnErr, None, Some};
+ghost use Rattle.std.specs.Prelude.{◌≡◌, ℕ, List, Option, ◌↔◌, ◌<◌, ◌≤◌, [], length, IsTrue, IfSome, IfOk, IfErr, OnOk, OnErr, None, Some, Err};
 ghost use Rattle.std.specs.Option.{option_copied, option_map};
 ghost use Rattle.ip_headers.specs.declared.version.Version.TheVariants.{V4};
 ghost use Rattle.ip_headers.specs.Header4.{fixed_fault4};
-ghost use Rattle.ip_headers.specs.Reading.{IsPacket, IsHeadFault, IsFront, IsFrontFault};
-ghost use Rattle.ip_headers.specs.View.{IsParts};
-ghost use Rattle.ip_headers.specs.Written.{IsLabelOption, packet_octets, relabelled, rebuilt_room, rebuilt_length};
+ghost use Rattle.ip_headers.specs.Reading.{packet_of, front_of};
+ghost use Rattle.ip_headers.specs.Fields.{packet4};
+ghost use Rattle.ip_headers.specs.inside.View.{IsSplit};
+ghost use Rattle.ip_headers.specs.inside.Write.{IsWholeList, others_in};
+ghost use Rattle.ip_headers.specs.Written.{IsLabelOption, packet_octets, rewritten, rebuilt_room, rebuilt_length};
 
 use crate::fault::{HeadFault, HeadKind, fault};
-use crate::label::label_size;
-use crate::layout::{filled_size, kept_size};
-use crate::options::Found;
+use crate::fields::Fields4;
+use crate::parts::{Parts, front, read};
 use crate::rebuild::Rebuild;
-use crate::sum::{ones_sum, word_at};
+use crate::sum::ones_sum;
 use crate::version::Version;
-use crate::walk::walk;
-use crate::write4::write4;
+use crate::writing4::write4_with;
+use octet_grammar::u16_at;
 use std::marker::Model;
 
-/// A packet of IPv4, borrowed from its octets. Contracts see what it says: a `ParsedPacket`.
+/// A packet of IPv4, borrowed from its octets. Contracts see what it says: a `ParsedPacket`, whose label option is octets.
 #[derive(Debug, Drop)]
 pub struct Packet4<'a> {
-    head: &'a [u8],
-    payload: &'a [u8],
-    label: Option<(usize, &'a [u8])>,
-    has_others: bool,
+    parts: Parts<'a>,
 }
 
 impl<'a> Model for Packet4<'a> {
+    ghost use Rattle.ip_headers.specs.Options.{Placed};
     ghost use Rattle.ip_headers.specs.Packet.{ParsedPacket};
 
-    ghost Value = { ParsedPacket };
+    ghost Value = { ParsedPacket Placed };
 
-    ghost use Rattle.ip_headers.specs.View4.{view4, Holds4};
+    ghost use Rattle.ip_headers.specs.declared.version.Version.TheVariants.{V4};
+    ghost use Rattle.ip_headers.specs.inside.View.{view_of, Holds};
 
-    ghost view = { view4 };
+    ghost view = { λ p. view_of V4 p.parts };
 
-    ghost invariant = { Holds4 };
+    ghost invariant = { λ p. Holds V4 p.parts };
 }
 
 impl<'a> Packet4<'a> {
@@ -54,35 +54,35 @@ impl<'a> Packet4<'a> {
     pub fn tos(&self) -> u8
         ensures { result ≡ self.now.class }
     {
-        self.head[1]
+        self.parts.head[1]
     }
 
     /// The identification.
     pub fn id(&self) -> u16
         ensures { result ≡ self.now.identification }
     {
-        word_at(self.head, 4)
+        u16_at(self.parts.head, 4)
     }
 
     /// The flags, and the fragment offset in the low thirteen bits.
     pub fn flags_offset(&self) -> u16
         ensures { result ≡ self.now.flags_offset }
     {
-        word_at(self.head, 6)
+        u16_at(self.parts.head, 6)
     }
 
     /// The number of hops that are left: time to live.
     pub fn hops(&self) -> u8
         ensures { result ≡ self.now.hops }
     {
-        self.head[8]
+        self.parts.head[8]
     }
 
     /// The protocol of the payload.
     pub fn protocol(&self) -> u8
         ensures { result ≡ self.now.protocol }
     {
-        self.head[9]
+        self.parts.head[9]
     }
 
     /// The address of the sender.
@@ -90,7 +90,7 @@ impl<'a> Packet4<'a> {
         ensures { result ≡ self.now.source }
     {
         let mut address = [0; 4];
-        address.copy_from_slice(&self.head[12..16]);
+        address.copy_from_slice(&self.parts.head[12..16]);
         address
     }
 
@@ -99,36 +99,62 @@ impl<'a> Packet4<'a> {
         ensures { result ≡ self.now.destination }
     {
         let mut address = [0; 4];
-        address.copy_from_slice(&self.head[16..20]);
+        address.copy_from_slice(&self.parts.head[16..20]);
         address
     }
 
     /// The payload, up to the total length.
     pub fn payload(&self) -> &'a [u8]
-        ensures { result.now ≡ self.now.payload }
+        ensures value { result.now ≡ self.now.payload }
+        ensures short { length result.now ≤ 65535 }
     {
-        self.payload
+        self.parts.payload
     }
 
     /// The first label option with its octet in the packet.
     pub fn label_option(&self) -> Option<(usize, &'a [u8])>
         ensures { option_map (λ x. record { place = x.0; octets = x.1.now }) result ≡ self.now.label }
     {
-        self.label
+        self.parts.label
     }
 
     /// Whether there is an option that is neither padding nor a label option.
     pub fn has_others(&self) -> bool
         ensures { IsTrue result ↔ (0 < length self.now.others) }
     {
-        self.has_others
+        self.parts.has_others
+    }
+
+    /// The fields that are written as they are, with these hops.
+    fn fields(&self, hops: u8) -> Fields4
+        ensures { (option : Option (List ℕ)) → packet4 result option self.now.others self.now.payload ≡ rewritten self.now option hops }
+    {
+        let _ = &self.parts;
+        Fields4 {
+            tos: self.tos(),
+            id: self.id(),
+            flags_offset: self.flags_offset(),
+            hops,
+            protocol: self.protocol(),
+            source: self.source(),
+            destination: self.destination(),
+        }
+    }
+
+    /// The octets of the list of options.
+    fn options(&self) -> &'a [u8]
+        ensures whole { IsWholeList V4 result.now }
+        ensures others { others_in V4 result.now ≡ self.now.others }
+        ensures short { length result.now < 65536 }
+    {
+        &self.parts.head[20..]
     }
 }
 
 /// The header and the payload, where the fields are right that stand before the options.
 #[tactic(auto, unfolding(crate::specs::Header4::fixed_fault4))]
-fn parts(bytes: &[u8]) -> Result<(&[u8], &[u8]), HeadFault>
-    ensures ok { IfOk result (λ x. IsParts V4 bytes.now x.0.now x.1.now) }
+pub(crate) fn split4(bytes: &[u8]) -> Result<(&[u8], &[u8]), HeadFault>
+    ensures ok { IfOk result (λ x. IsSplit V4 bytes.now x.0.now x.1.now) }
     ensures err { IfErr result (λ fault. fixed_fault4 bytes.now ≡ Some fault) }
 {
     let size = bytes.len();
@@ -142,7 +168,7 @@ fn parts(bytes: &[u8]) -> Result<(&[u8], &[u8]), HeadFault>
     if header < 20 {
         return Err(fault(0, HeadKind::HeaderLength));
     }
-    let total = usize::from(word_at(bytes, 2));
+    let total = usize::from(u16_at(bytes, 2));
     if total < header || size < total {
         return Err(fault(2, HeadKind::TotalLength));
     }
@@ -157,47 +183,18 @@ fn parts(bytes: &[u8]) -> Result<(&[u8], &[u8]), HeadFault>
 /// An error is the first test that fails, with its octet: Short, Version, HeaderLength, TotalLength,
 /// Checksum, OptionList for the whole list of options, and then SecondLabel (RFC 791, section 3.1).
 pub fn read4(bytes: &[u8]) -> Result<Packet4<'_>, HeadFault>
-    ensures ok { IfOk result (λ packet. IsPacket V4 bytes.now packet) }
-    ensures err { IfErr result (λ fault. IsHeadFault V4 bytes.now fault) }
+    ensures { result ≡ packet_of V4 bytes.now }
 {
-    let (head, payload) = parts(bytes)?;
-    let found = walk(Version::V4, head)?;
-    if let Some(octet) = found.second {
-        return Err(fault(octet, HeadKind::SecondLabel));
-    }
-    let Found {
-        label,
-        second: _,
-        jumbo: _,
-        has_others,
-    } = found;
-    Ok(Packet4 {
-        head,
-        payload,
-        label,
-        has_others,
-    })
+    let parts = read(Version::V4, bytes)?;
+    Ok(Packet4 { parts })
 }
 
 /// Reads as `read4` does, but allows a second label option.
 pub fn front4(bytes: &[u8]) -> Result<Packet4<'_>, HeadFault>
-    ensures ok { IfOk result (λ packet. IsFront V4 bytes.now packet) }
-    ensures err { IfErr result (λ fault. IsFrontFault V4 bytes.now fault) }
+    ensures { result ≡ front_of V4 bytes.now }
 {
-    let (head, payload) = parts(bytes)?;
-    let found = walk(Version::V4, head)?;
-    let Found {
-        label,
-        second: _,
-        jumbo: _,
-        has_others,
-    } = found;
-    Ok(Packet4 {
-        head,
-        payload,
-        label,
-        has_others,
-    })
+    let parts = front(Version::V4, bytes)?;
+    Ok(Packet4 { parts })
 }
 
 /// Writes the packet with this label option, or none, and these hops: `out` becomes exactly that packet.
@@ -212,24 +209,17 @@ pub fn rebuild4(
     out: &mut Vec<u8>,
 ) -> Result<(), Rebuild>
     requires { IfSome option (λ o. IsLabelOption V4 o.now) }
-    ensures ok { OnOk result (out.new.items ≡ packet_octets (relabelled view.now (option_copied option.entry) hops)) }
-    ensures no_room { (result ≡ Err Rebuild.NoRoom) ↔ (40 < rebuilt_room (relabelled view.now (option_copied option.entry) hops)) }
-    ensures too_long { (result ≡ Err Rebuild.TooLong) ↔ ((rebuilt_room (relabelled view.now (option_copied option.entry) hops) ≤ 40)
-        × (65535 < rebuilt_length (relabelled view.now (option_copied option.entry) hops))) }
+    ensures ok { OnOk result (out.new.items ≡ packet_octets (rewritten view.now (option_copied option.entry) hops)) }
+    ensures no_room { (result ≡ Err Rebuild.NoRoom) ↔ (40 < rebuilt_room (rewritten view.now (option_copied option.entry) hops)) }
+    ensures too_long { (result ≡ Err Rebuild.TooLong) ↔ ((rebuilt_room (rewritten view.now (option_copied option.entry) hops) ≤ 40)
+        × (65535 < rebuilt_length (rewritten view.now (option_copied option.entry) hops))) }
     ensures err { OnErr result (out.new.items ≡ []) }
 {
-    out.clear();
-    let kept = kept_size(Version::V4, view.head, label_size(option));
-    if kept > 40 {
-        return Err(Rebuild::NoRoom);
-    }
-    let size = filled_size(Version::V4, kept);
-    if 20 + size + view.payload.len() > 65535 {
-        return Err(Rebuild::TooLong);
-    }
-    if write4(view.head, view.payload, option, size, hops, out).is_err() {
-        out.clear();
-        return Err(Rebuild::OutOfMemory);
-    }
-    Ok(())
+    write4_with(
+        &view.fields(hops),
+        option,
+        view.options(),
+        view.payload(),
+        out,
+    )
 }

@@ -9,42 +9,45 @@
 // Next header 0 says that a Hop-by-Hop Options header follows (section 4.3): the next header after it, its
 // length in units of 8 octets without the first, and the options.
 
-ghost use Rattle.std.specs.Prelude.{◌≡◌, ◌↔◌, ◌^◌, ◌<◌, ◌≤◌, [], length, IsTrue, IfSome, IfOk, IfErr, OnOk, OnErr, None, Some};
+ghost use Rattle.std.specs.Prelude.{◌≡◌, ℕ, List, Option, ◌↔◌, ◌^◌, ◌<◌, ◌≤◌, [], length, IsTrue, IfSome, IfOk, IfErr, OnOk, OnErr, None, Some, Err};
 ghost use Rattle.std.specs.Option.{option_copied, option_map};
 ghost use Rattle.ip_headers.specs.declared.version.Version.TheVariants.{V6};
+ghost use Rattle.ip_headers.specs.Options.{has_any};
 ghost use Rattle.ip_headers.specs.Header6.{has_hop_by_hop, hop_by_hop_length, fixed_fault6};
-ghost use Rattle.ip_headers.specs.Reading.{IsPacket, IsHeadFault, IsFront, IsFrontFault};
-ghost use Rattle.ip_headers.specs.View.{IsParts};
-ghost use Rattle.ip_headers.specs.Written.{IsLabelOption, packet_octets, relabelled, rebuilt_room, rebuilt_length};
+ghost use Rattle.ip_headers.specs.Reading.{packet_of, front_of};
+ghost use Rattle.ip_headers.specs.Fields.{packet6};
+ghost use Rattle.ip_headers.specs.inside.View.{IsSplit};
+ghost use Rattle.ip_headers.specs.inside.Write.{IsWholeList, others_in};
+ghost use Rattle.ip_headers.specs.Written.{IsLabelOption, packet_octets, rewritten, rebuilt_room, rebuilt_length};
 
 use crate::fault::{HeadFault, HeadKind, fault};
-use crate::options::Found;
+use crate::fields::Fields6;
+use crate::parts::{Parts, front, read};
 use crate::rebuild::Rebuild;
-use crate::sum::word_at;
 use crate::version::Version;
-use crate::walk::walk;
-use crate::write6::{write6, written_size};
+use crate::walk::option_octets;
+use crate::writing6::write6_with;
+use octet_grammar::u16_at;
 use std::marker::Model;
 
-/// A packet of IPv6, borrowed from its octets. Contracts see what it says: a `ParsedPacket`.
+/// A packet of IPv6, borrowed from its octets. Contracts see what it says: a `ParsedPacket`, whose label option is octets.
 #[derive(Debug, Drop)]
 pub struct Packet6<'a> {
-    head: &'a [u8],
-    payload: &'a [u8],
-    label: Option<(usize, &'a [u8])>,
-    has_others: bool,
+    parts: Parts<'a>,
 }
 
 impl<'a> Model for Packet6<'a> {
+    ghost use Rattle.ip_headers.specs.Options.{Placed};
     ghost use Rattle.ip_headers.specs.Packet.{ParsedPacket};
 
-    ghost Value = { ParsedPacket };
+    ghost Value = { ParsedPacket Placed };
 
-    ghost use Rattle.ip_headers.specs.View6.{view6, Holds6};
+    ghost use Rattle.ip_headers.specs.declared.version.Version.TheVariants.{V6};
+    ghost use Rattle.ip_headers.specs.inside.View.{view_of, Holds};
 
-    ghost view = { view6 };
+    ghost view = { λ p. view_of V6 p.parts };
 
-    ghost invariant = { Holds6 };
+    ghost invariant = { λ p. Holds V6 p.parts };
 }
 
 impl<'a> Packet6<'a> {
@@ -52,7 +55,7 @@ impl<'a> Packet6<'a> {
     pub fn class(&self) -> u8
         ensures { result ≡ self.now.class }
     {
-        16 * (self.head[0] % 16) + self.head[1] / 16
+        16 * (self.parts.head[0] % 16) + self.parts.head[1] / 16
     }
 
     /// The flow label, of 20 bits.
@@ -60,24 +63,24 @@ impl<'a> Packet6<'a> {
         ensures value { result ≡ self.now.flow_label }
         ensures small { result < 2 ^ 20 }
     {
-        65536 * u32::from(self.head[1] % 16) + u32::from(word_at(self.head, 2))
+        65536 * u32::from(self.parts.head[1] % 16) + u32::from(u16_at(self.parts.head, 2))
     }
 
     /// The number of hops that are left: the hop limit.
     pub fn hops(&self) -> u8
         ensures { result ≡ self.now.hops }
     {
-        self.head[7]
+        self.parts.head[7]
     }
 
     /// The protocol of the payload: the next header after Hop-by-Hop.
     pub fn protocol(&self) -> u8
         ensures { result ≡ self.now.protocol }
     {
-        if self.head[6] == 0 {
-            return self.head[40];
+        if self.parts.head[6] == 0 {
+            return self.parts.head[40];
         }
-        self.head[6]
+        self.parts.head[6]
     }
 
     /// The address of the sender.
@@ -85,7 +88,7 @@ impl<'a> Packet6<'a> {
         ensures { result ≡ self.now.source }
     {
         let mut address = [0; 16];
-        address.copy_from_slice(&self.head[8..24]);
+        address.copy_from_slice(&self.parts.head[8..24]);
         address
     }
 
@@ -94,29 +97,56 @@ impl<'a> Packet6<'a> {
         ensures { result ≡ self.now.destination }
     {
         let mut address = [0; 16];
-        address.copy_from_slice(&self.head[24..40]);
+        address.copy_from_slice(&self.parts.head[24..40]);
         address
     }
 
     /// What follows Hop-by-Hop, up to the payload length.
     pub fn payload(&self) -> &'a [u8]
-        ensures { result.now ≡ self.now.payload }
+        ensures value { result.now ≡ self.now.payload }
+        ensures short { length result.now ≤ 65535 }
     {
-        self.payload
+        self.parts.payload
     }
 
     /// The first label option with its octet in the packet.
     pub fn label_option(&self) -> Option<(usize, &'a [u8])>
         ensures { option_map (λ x. record { place = x.0; octets = x.1.now }) result ≡ self.now.label }
     {
-        self.label
+        self.parts.label
     }
 
     /// Whether there is an option that is neither padding nor a label option.
     pub fn has_others(&self) -> bool
-        ensures { IsTrue result ↔ (0 < length self.now.others) }
+        ensures value { result ≡ has_any self.now.others }
+        ensures any { IsTrue result ↔ (0 < length self.now.others) }
     {
-        self.has_others
+        self.parts.has_others
+    }
+
+    /// The fields that are written as they are, with these hops.
+    fn fields(&self, hops: u8) -> Fields6
+        ensures value { (option : Option (List ℕ)) → packet6 result option self.now.others self.now.payload ≡ rewritten self.now option hops }
+        ensures small { result.flow_label < 2 ^ 20 }
+    {
+        let _ = &self.parts;
+        Fields6 {
+            class: self.class(),
+            flow_label: self.flow_label(),
+            hops,
+            protocol: self.protocol(),
+            source: self.source(),
+            destination: self.destination(),
+        }
+    }
+
+    /// The octets of the list of options.
+    fn options(&self) -> &'a [u8]
+        ensures whole { IsWholeList V6 result.now }
+        ensures others { others_in V6 result.now ≡ self.now.others }
+        ensures short { length result.now < 65536 }
+    {
+        option_octets(Version::V6, self.parts.head)
     }
 }
 
@@ -134,8 +164,8 @@ fn hop_by_hop_size(bytes: &[u8]) -> usize
 
 /// The headers and the payload, where the fields are right that stand before the options.
 #[tactic(auto, unfolding(crate::specs::Header6::fixed_fault6))]
-fn parts(bytes: &[u8]) -> Result<(&[u8], &[u8]), HeadFault>
-    ensures ok { IfOk result (λ x. IsParts V6 bytes.now x.0.now x.1.now) }
+pub(crate) fn split6(bytes: &[u8]) -> Result<(&[u8], &[u8]), HeadFault>
+    ensures ok { IfOk result (λ x. IsSplit V6 bytes.now x.0.now x.1.now) }
     ensures err { IfErr result (λ fault. fixed_fault6 bytes.now ≡ Some fault) }
 {
     let length = bytes.len();
@@ -145,7 +175,7 @@ fn parts(bytes: &[u8]) -> Result<(&[u8], &[u8]), HeadFault>
     if bytes[0] / 16 != 6 {
         return Err(fault(0, HeadKind::Version));
     }
-    let size = usize::from(word_at(bytes, 4));
+    let size = usize::from(u16_at(bytes, 4));
     if length - 40 < size {
         return Err(fault(4, HeadKind::TotalLength));
     }
@@ -164,53 +194,18 @@ fn parts(bytes: &[u8]) -> Result<(&[u8], &[u8]), HeadFault>
 /// An error is the first test that fails, with its octet: Short, Version, TotalLength, HeaderLength,
 /// OptionList for the whole list of options, Jumbo, and then SecondLabel (RFC 8200, sections 3 and 4.3).
 pub fn read6(bytes: &[u8]) -> Result<Packet6<'_>, HeadFault>
-    ensures ok { IfOk result (λ packet. IsPacket V6 bytes.now packet) }
-    ensures err { IfErr result (λ fault. IsHeadFault V6 bytes.now fault) }
+    ensures { result ≡ packet_of V6 bytes.now }
 {
-    let (head, payload) = parts(bytes)?;
-    let found = walk(Version::V6, head)?;
-    if let Some(octet) = found.jumbo {
-        return Err(fault(octet, HeadKind::Jumbo));
-    }
-    if let Some(octet) = found.second {
-        return Err(fault(octet, HeadKind::SecondLabel));
-    }
-    let Found {
-        label,
-        second: _,
-        jumbo: _,
-        has_others,
-    } = found;
-    Ok(Packet6 {
-        head,
-        payload,
-        label,
-        has_others,
-    })
+    let parts = read(Version::V6, bytes)?;
+    Ok(Packet6 { parts })
 }
 
 /// Reads as `read6` does, but allows a second label option.
 pub fn front6(bytes: &[u8]) -> Result<Packet6<'_>, HeadFault>
-    ensures ok { IfOk result (λ packet. IsFront V6 bytes.now packet) }
-    ensures err { IfErr result (λ fault. IsFrontFault V6 bytes.now fault) }
+    ensures { result ≡ front_of V6 bytes.now }
 {
-    let (head, payload) = parts(bytes)?;
-    let found = walk(Version::V6, head)?;
-    if let Some(octet) = found.jumbo {
-        return Err(fault(octet, HeadKind::Jumbo));
-    }
-    let Found {
-        label,
-        second: _,
-        jumbo: _,
-        has_others,
-    } = found;
-    Ok(Packet6 {
-        head,
-        payload,
-        label,
-        has_others,
-    })
+    let parts = front(Version::V6, bytes)?;
+    Ok(Packet6 { parts })
 }
 
 /// Writes the packet with this label option, or none, and these hops: `out` becomes exactly that packet.
@@ -225,23 +220,18 @@ pub fn rebuild6(
     out: &mut Vec<u8>,
 ) -> Result<(), Rebuild>
     requires { IfSome option (λ o. IsLabelOption V6 o.now) }
-    ensures ok { OnOk result (out.new.items ≡ packet_octets (relabelled view.now (option_copied option.entry) hops)) }
-    ensures no_room { (result ≡ Err Rebuild.NoRoom) ↔ (2048 < rebuilt_room (relabelled view.now (option_copied option.entry) hops)) }
-    ensures too_long { (result ≡ Err Rebuild.TooLong) ↔ ((rebuilt_room (relabelled view.now (option_copied option.entry) hops) ≤ 2048)
-        × (65535 < rebuilt_length (relabelled view.now (option_copied option.entry) hops))) }
+    ensures ok { OnOk result (out.new.items ≡ packet_octets (rewritten view.now (option_copied option.entry) hops)) }
+    ensures no_room { (result ≡ Err Rebuild.NoRoom) ↔ (2048 < rebuilt_room (rewritten view.now (option_copied option.entry) hops)) }
+    ensures too_long { (result ≡ Err Rebuild.TooLong) ↔ ((rebuilt_room (rewritten view.now (option_copied option.entry) hops) ≤ 2048)
+        × (65535 < rebuilt_length (rewritten view.now (option_copied option.entry) hops))) }
     ensures err { OnErr result (out.new.items ≡ []) }
 {
-    out.clear();
-    let size = written_size(view.head, option, view.has_others);
-    if size > 2048 {
-        return Err(Rebuild::NoRoom);
-    }
-    if size + view.payload.len() > 65535 {
-        return Err(Rebuild::TooLong);
-    }
-    if write6(view, view.head, option, size, hops, out).is_err() {
-        out.clear();
-        return Err(Rebuild::OutOfMemory);
-    }
-    Ok(())
+    write6_with(
+        &view.fields(hops),
+        option,
+        view.options(),
+        view.has_others(),
+        view.payload(),
+        out,
+    )
 }

@@ -1,48 +1,33 @@
-// Numbers of 16 bits, and the one's complement sum over them (RFC 1071).
+// The one's complement sum over numbers of 16 bits (RFC 1071).
 
-ghost use Rattle.std.specs.Prelude.{◌≡◌, ℕ, ◌+◌, ◌<◌, ◌≤◌, length, sum};
-ghost use Rattle.ip_headers.specs.Sum.{word_at, words_of, ones_complement, ones_sum};
+ghost use Rattle.std.specs.Prelude.{◌≡◌};
+ghost use Rattle.ip_headers.specs.Sum.{ones_add, ones_sum};
 
-/// The number of 16 bits in network order whose first octet is this one.
-pub fn word_at(octets: &[u8], place: usize) -> u16
-    requires { place + 1 < length octets.now }
-    ensures { result ≡ word_at octets.now place }
+/// The one's complement sum of two numbers of 16 bits: a carry out of them comes in again below (RFC 791, section 3.1).
+pub fn ones_add(a: u16, b: u16) -> u16
+    ensures { result ≡ ones_add a b }
 {
-    256 * u16::from(octets[place]) + u16::from(octets[place + 1])
+    let total = u32::from(a) + u32::from(b);
+    if total < 65536 {
+        return total as u16;
+    }
+    (total - 65535) as u16
 }
 
-/// The sum of the words of 16 bits.
-fn total_of(octets: &[u8]) -> u32
-    requires { length octets.now ≤ 65535 }
-    ensures { result ≡ sum (words_of octets.now) }
+/// The one's complement sum of the numbers of 16 bits, in network order, that these octets are. A last octet with no
+/// partner is followed by zero (RFC 1071).
+#[tactic(auto, unfolding(crate::specs::Sum::ones_sum))]
+pub fn ones_sum(octets: &[u8]) -> u16
+    ensures { result ≡ ones_sum octets.now }
 {
     let mut total = 0;
     let mut rest = octets;
     while let [high, low, after @ ..] = rest {
-        total += 256 * u32::from(*high) + u32::from(*low);
+        total = ones_add(total, u16::from_be_bytes([*high, *low]));
         rest = after;
     }
     if let [high] = rest {
-        total += 256 * u32::from(*high);
+        total = ones_add(total, u16::from_be_bytes([*high, 0]));
     }
     total
-}
-
-/// The one's complement sum of words with this sum: a carry out of the 16 bits comes in again below.
-#[tactic(auto, unfolding(crate::specs::Sum::ones_complement))]
-fn ones_complement(total: u32) -> u16
-    ensures { result ≡ ones_complement total }
-{
-    if total == 0 {
-        return 0;
-    }
-    (1 + (total - 1) % 65535) as u16
-}
-
-/// The one's complement sum of the words of a header.
-pub fn ones_sum(octets: &[u8]) -> u16
-    requires { length octets.now ≤ 65535 }
-    ensures { result ≡ ones_sum octets.now }
-{
-    ones_complement(total_of(octets))
 }

@@ -433,3 +433,54 @@ fn a_router_alert_keeps_its_place(rt: HostRuntime) -> Result<(), Fail> {
     assert_eq!(rt; out.as_slice(), bytes.as_slice());
     Ok(())
 }
+
+#[test]
+fn packets_by_their_fields(rt: HostRuntime) -> Result<(), Fail> {
+    let payload = octets(rt.alloc(), "03e800350008e7be")?;
+    let fields = Fields4 {
+        tos: 0,
+        id: 0,
+        flags_offset: 0x4000,
+        hops: 64,
+        protocol: 17,
+        source: [10, 0, 0, 1],
+        destination: [10, 0, 0, 2],
+    };
+    let option = cipso();
+    let want = octets(
+        rt.alloc(),
+        "480000280000400040114ca00a0000010a000002860b0000001001050002500003e800350008e7be",
+    )?;
+    let mut out = Vec::new(rt.alloc());
+    assert_eq!(rt; write4(&fields, Some(&option), &payload, &mut out), Ok(()));
+    assert_eq!(rt; out.as_slice(), want.as_slice());
+    let fields = Fields6 {
+        class: 0x12,
+        flow_label: 0x34567,
+        hops: 63,
+        protocol: 17,
+        source: [0xfd, 0, 0, 0, 0, 0, 0, 0, 0, 0, 0, 0, 0, 0, 0, 1],
+        destination: [0xfd, 0, 0, 0, 0, 0, 0, 0, 0, 0, 0, 0, 0, 0, 0, 2],
+    };
+    let option = calipso();
+    let want = octets(
+        rt.alloc(),
+        "612345670018003ffd000000000000000000000000000001fd00000000000000000000000000000211010708000000100002bfd90102000003e800350008e7be",
+    )?;
+    assert_eq!(rt; write6(&fields, Some(&option), &payload, &mut out), Ok(()));
+    assert_eq!(rt; out.as_slice(), want.as_slice());
+    Ok(())
+}
+
+// The worked sum of RFC 1071, section 3, and a last octet with no partner.
+#[test]
+fn sums_of_words(rt: HostRuntime) -> Result<(), Fail> {
+    assert_eq!(rt;
+        ones_sum(&[0x00, 0x01, 0xf2, 0x03, 0xf4, 0xf5, 0xf6, 0xf7]),
+        0xddf2
+    );
+    assert_eq!(rt; ones_sum(&[0x12]), 0x1200);
+    assert_eq!(rt; ones_sum(&[]), 0);
+    assert_eq!(rt; ones_add(0xffff, 1), 1);
+    Ok(())
+}

@@ -1,19 +1,18 @@
 // A walk over a list of options, in one pass and without memory.
 
-ghost use Rattle.std.specs.Prelude.{◌≡◌, ℕ, ◌+◌, ◌^◌, ◌<◌, ◌≤◌, List, [], ◌∷◌, ◌++◌, length, drop, IfOk, IfErr};
-ghost use Rattle.std.specs.List.{concat};
-ghost use Rattle.ip_headers.specs.Options.{Placed, placed_from};
-ghost use Rattle.ip_headers.specs.Reading.{first_place};
-ghost use Rattle.ip_headers.specs.Walk.{IsStep, Finds, Walked, Breaks};
+ghost use Rattle.std.specs.Prelude.{◌≡◌, ℕ, ◌+◌, ◌^◌, ◌<◌, List, [], ◌∷◌, ◌++◌, None, Some, length, drop, IfOk, IfErr};
+ghost use Rattle.ip_headers.specs.Options.{Placed, options_from};
+ghost use Rattle.ip_headers.specs.Reading.{first_place, options_of};
+ghost use Rattle.ip_headers.specs.inside.Walk.{step_of, Finds};
 
-use crate::fault::{HeadFault, HeadKind};
+use crate::fault::{HeadFault, HeadKind, fault};
 use crate::kind;
 use crate::options::{Found, Step};
 use crate::version::Version;
 
 /// What stands at the front of these octets.
 pub fn step(version: Version, rest: &[u8]) -> Step
-    ensures { IsStep version rest.now result }
+    ensures { result ≡ step_of version rest.now }
 {
     match rest {
         [] => Step::End,
@@ -57,8 +56,8 @@ fn with_option<'a>(found: Found<'a>, version: Version, at: usize, option: &'a [u
 /// Goes over the octets of a list of options, the first of which has this place.
 fn walk_from(version: Version, area: &[u8], first: usize) -> Result<Found<'_>, HeadFault>
     requires { first + length area.now < 2 ^ 63 }
-    ensures ok { IfOk result (λ found. Walked version area.now first found) }
-    ensures err { IfErr result (λ fault. Breaks version area.now first fault) }
+    ensures ok { IfOk result (λ found. ((options_from version first area.now).broken ≡ None) × Finds version (options_from version first area.now).options found) }
+    ensures err { IfErr result (λ fault. (options_from version first area.now).broken ≡ Some fault) }
 {
     let mut found = Found {
         label: None,
@@ -71,12 +70,7 @@ fn walk_from(version: Version, area: &[u8], first: usize) -> Result<Found<'_>, H
     loop {
         match step(version, rest) {
             Step::End => return Ok(found),
-            Step::Broken => {
-                return Err(HeadFault {
-                    octet: at + 1,
-                    kind: HeadKind::OptionList,
-                });
-            }
+            Step::Broken => return Err(fault(at + 1, HeadKind::OptionList)),
             Step::Option(size) => {
                 let (option, after) = rest.split_at(size);
                 found = with_option(found, version, at, option);
@@ -111,8 +105,8 @@ pub fn option_octets(version: Version, head: &[u8]) -> &[u8]
 /// Goes over the list of options of a header.
 pub fn walk(version: Version, head: &[u8]) -> Result<Found<'_>, HeadFault>
     requires { length head.now < 2 ^ 32 }
-    ensures ok { IfOk result (λ found. Walked version (drop (first_place version) head.now) (first_place version) found) }
-    ensures err { IfErr result (λ fault. Breaks version (drop (first_place version) head.now) (first_place version) fault) }
+    ensures ok { IfOk result (λ found. ((options_of version head.now).broken ≡ None) × Finds version (options_of version head.now).options found) }
+    ensures err { IfErr result (λ fault. (options_of version head.now).broken ≡ Some fault) }
 {
     walk_from(version, option_octets(version, head), first_place(version))
 }

@@ -3,7 +3,7 @@ use Rattle.std.specs.Prelude.{ℕ, List, codes}
 use Rattle.ip_headers.specs.declared.cause.Cause.{Cause}
 use Rattle.ip_headers.specs.declared.cause.Cause.TheVariants.{Protocol, Fragment, Options, Segment, NoChecksum}
 use Rattle.packet_label.specs.declared.denial.Denial.{Denial}
-use Rattle.packet_label.specs.declared.denial.Denial.TheVariants.{BadHeader, BadOption, Unlabelled, NoStatic, UnknownDoi, TagNotAllowed, LevelUnmapped, CategoryUnmapped, OutsideRange, NoReceiver, MapRefuses, NotDominated, NoMap, AlreadyLabelled, Inexpressible, NoRoom, TooLong, Expired, WrongVersion, NoPair, NotCrossable, NotIp}
+use Rattle.packet_label.specs.declared.denial.Denial.TheVariants.{BadHeader, BadOption, Unlabelled, NoStatic, UnknownDoi, TagNotAllowed, LevelUnmapped, CategoryUnmapped, OutsideRange, NoReceiver, MapRefuses, NotDominated, NoMap, AlreadyLabelled, Inexpressible, NoRoom, TooLong, Expired, WrongVersion, NoPair, NotCrossable, NotIp, BelowRange}
 
 -- the denials are numbered from 1 in the order of their tests
 abbrev pub number_of : Denial → ℕ
@@ -29,6 +29,7 @@ number_of WrongVersion = 19
 number_of NoPair = 20
 number_of (NotCrossable cause) = 21
 number_of NotIp = 22
+number_of BelowRange = 23
 
 -- the names under which they are reported
 abbrev pub name_of : Denial → List ℕ
@@ -54,6 +55,7 @@ name_of WrongVersion = codes "WrongVersion"
 name_of NoPair = codes "NoPair"
 name_of (NotCrossable cause) = codes "NotCrossable"
 name_of NotIp = codes "NotIp"
+name_of BelowRange = codes "BelowRange"
 
 abbrev pub cause_name : Cause → List ℕ
 cause_name Protocol = codes "Protocol"

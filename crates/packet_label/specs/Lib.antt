@@ -6,4 +6,4 @@ pub mod Option
 pub mod Written
 pub mod Denial
 pub mod Laws
-pub mod Read
+pub mod inside

@@ -16,18 +16,19 @@ use Rattle.packet_label.specs.declared.packet.Wire.{Wire}
 use Rattle.packet_label.specs.declared.packet.Wire.TheVariants.{Cipso, Calipso}
 
 -- the octet of the option's type in the packet
-abbrev pub place_of : Wire → ℕ
-place_of (Cipso at doi tag label) = at
-place_of (Calipso at doi label) = at
+abbrev pub wire_place : Wire → ℕ
+wire_place (Cipso at doi tag label) = at
+wire_place (Calipso at doi label) = at
 
 -- the domain of interpretation
-abbrev pub doi_of : Wire → ℕ
-doi_of (Cipso at doi tag label) = doi
-doi_of (Calipso at doi label) = doi
+abbrev pub wire_doi : Wire → ℕ
+wire_doi (Cipso at doi tag label) = doi
+wire_doi (Calipso at doi label) = doi
 
-abbrev pub label_of : Wire → Label
-label_of (Cipso at doi tag label) = label
-label_of (Calipso at doi label) = label
+-- the label, in the numbers of the domain of interpretation
+abbrev pub label_said : Wire → Label
+label_said (Cipso at doi tag label) = label
+label_said (Calipso at doi label) = label
 
 -- what an option says, with its label
 abbrev pub marked_wire : Mark → Label → Wire
@@ -65,5 +66,5 @@ IsWireFault V4 octets octet = FailsAt IsCipso octets octet
 IsWireFault V6 octets octet = FailsAt IsCalipsoShape octets octet ⊎ FailsChecksum octets octet
 
 -- a label option stands in these octets, with at least the ten octets that each has
-abbrev pub StandsIn : List ℕ → Option Wire → Type 0
-StandsIn octets wire = IfSome wire (λ w. place_of w + 10 ≤ length octets)
+abbrev pub HasTenOctets : List ℕ → Option Wire → Type 0
+HasTenOctets octets wire = IfSome wire (λ w. wire_place w + 10 ≤ length octets)

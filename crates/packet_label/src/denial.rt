@@ -60,6 +60,8 @@ pub enum Denial {
     NotCrossable { cause: Cause },
     /// The frame has no IP packet.
     NotIp,
+    /// The label doesn't dominate the low end of the receiver's range.
+    BelowRange,
 }
 
 /// Why a judgement has no packet to give.
@@ -70,7 +72,7 @@ pub enum Stop {
 }
 
 impl Denial {
-    /// The number under which it is reported, from 1 to 22.
+    /// The number under which it is reported, from 1 to 23.
     pub fn number(&self) -> u8
         ensures { result ≡ number_of self.now }
     {
@@ -97,6 +99,7 @@ impl Denial {
             Denial::NoPair => 20,
             Denial::NotCrossable { .. } => 21,
             Denial::NotIp => 22,
+            Denial::BelowRange => 23,
         }
     }
 
@@ -127,6 +130,7 @@ impl Denial {
             Denial::NoPair => "NoPair",
             Denial::NotCrossable { .. } => "NotCrossable",
             Denial::NotIp => "NotIp",
+            Denial::BelowRange => "BelowRange",
         }
     }
 }

@@ -1,15 +1,17 @@
 //! Laws: what is true of the definitions alone. Each is a function with nothing to do, whose clause is the law.
 
-ghost use Rattle.std.specs.Prelude.{ℕ, ◌<◌, List, Option, length, IfSome};
+ghost use Rattle.std.specs.Prelude.{◌≡◌, ℕ, ◌<◌, ◌≤◌, List, Option, Ok, None, length, IfSome, IfErr};
 ghost use Rattle.octet_grammar.specs.Octets.{IsOctets};
 ghost use Rattle.ip_headers.specs.declared.version.Version.{Version};
+ghost use Rattle.ip_headers.specs.Packet.{ParsedPacket, Headers, relabelled};
 ghost use Rattle.ip_headers.specs.Written.{IsLabelOption};
 ghost use Rattle.packet_label.specs.declared.packet.Wire.{Wire};
 ghost use Rattle.packet_label.specs.declared.fault.CarryFault.{CarryFault};
-ghost use Rattle.packet_label.specs.Packet.{IsPacket, LabelledPacket};
+ghost use Rattle.packet_label.specs.Choice.{front_in, headers_in};
+ghost use Rattle.packet_label.specs.Packet.{IsPacket, labelled};
 ghost use Rattle.packet_label.specs.Fault.{IsPacketFault};
-ghost use Rattle.packet_label.specs.Written.{CanSay, IsParsed, relabelled, wire_text};
-ghost use Rattle.packet_label.specs.Laws.{HasOneAnswer, ReadsBack, StandsWithin};
+ghost use Rattle.packet_label.specs.Written.{CanSay, IsWritable, wire_text};
+ghost use Rattle.packet_label.specs.Laws.{HasOneAnswer, ReadsNext, StandsWithin};
 
 /// Octets are one packet or have one first fault, and not both.
 pub fn octets_are_a_packet_or_have_one_fault()
@@ -18,26 +20,39 @@ pub fn octets_are_a_packet_or_have_one_fault()
 
 /// A first fault stands in the octets or at their end.
 pub fn faults_stand_within()
-    ensures { (octets : List ℕ) (fault : CarryFault) → IsPacketFault octets fault → StandsWithin (length octets) fault }
+    ensures packets { (octets : List ℕ) (fault : CarryFault) → IsPacketFault octets fault → StandsWithin (length octets) fault }
+    ensures fronts { (octets : List ℕ) → IfErr (front_in octets) (λ fault. fault.octet ≤ length octets) }
 {}
 
-/// What an option of a version can say has a written form that suits this version.
+/// What is read without the test for a second label option is a packet without a label where it has no label option.
+pub fn fronts_without_a_label_are_packets()
+    ensures { (octets : List ℕ) (headers : Headers) → front_in octets ≡ Ok headers → headers.label ≡ None → IsPacket octets (labelled headers None) }
+{}
+
+/// What an option of a version can say has a written form that suits this version, and is octets.
 pub fn written_options_suit_their_version()
-    ensures { (version : Version) (wire : Wire) → CanSay version wire → IsLabelOption version (wire_text wire) }
+    ensures { (version : Version) (wire : Wire) → CanSay version wire → IsLabelOption version (wire_text wire) × IsOctets (wire_text wire) }
 {}
 
-/// A packet that was read, with other hops and another label option or none, may be written: its values fit their fields.
+/// A packet that was read, as a whole or without its label, may be written with other hops and another label option or none:
+/// its values fit their fields.
 pub fn read_packets_may_be_written()
-    ensures { (octets : List ℕ) (p : LabelledPacket) (wire : Option Wire) (hops : ℕ)
+    ensures packets { (octets : List ℕ) (p : ParsedPacket Wire) (wire : Option Wire) (hops : ℕ)
         → IsOctets octets
         → IsPacket octets p
         → hops < 256
-        → IfSome wire (CanSay p.headers.version)
-        → IsParsed (relabelled p wire hops) }
+        → IfSome wire (CanSay p.version)
+        → IsWritable (relabelled p wire hops) }
+    ensures fronts { (octets : List ℕ) (headers : Headers) (wire : Option Wire) (hops : ℕ)
+        → IsOctets octets
+        → front_in octets ≡ Ok headers
+        → hops < 256
+        → IfSome wire (CanSay headers.version)
+        → IsWritable (relabelled headers wire hops) }
 {}
 
-/// What is written within its room and length is read again as the packet that it was written from, its label option in the
-/// first place; but for the one case in which version 6 hides its payload.
+/// What is written within its room and length is read as the packet that it then is: that which was written, with its options
+/// where they are written, the label option first; or what is read where version 6 hides its payload.
 pub fn written_packet_reads_back()
-    ensures { (p : LabelledPacket) → ReadsBack p }
+    ensures { (p : ParsedPacket Wire) → ReadsNext p }
 {}

@@ -1,9 +1,11 @@
 //! What was read.
 
 ghost use Rattle.std.specs.Prelude.{◌≡◌};
-ghost use Rattle.packet_label.specs.Wire.{place_of, doi_of, label_of};
+ghost use Rattle.std.specs.Option.{option_map};
+ghost use Rattle.packet_label.specs.Packet.{headers_of, version_of};
+ghost use Rattle.packet_label.specs.Wire.{wire_place, wire_doi, label_said};
 
-use ip_headers::{Packet4, Packet6};
+use ip_headers::{Packet4, Packet6, Version};
 use mls_label::{Label, Tag};
 
 /// A packet of either version, borrowed from its octets.
@@ -54,10 +56,32 @@ pub struct Carried<'a> {
     pub wire: Option<Wire>,
 }
 
+impl<'a> Packet<'a> {
+    /// The version of its variant.
+    pub(crate) fn version(&self) -> Version
+        ensures { result ≡ version_of self.now }
+    {
+        match self {
+            Packet::V4(_) => Version::V4,
+            Packet::V6(_) => Version::V6,
+        }
+    }
+
+    /// The first label option with its octet in the packet.
+    pub(crate) fn label_option(&self) -> Option<(usize, &'a [u8])>
+        ensures { option_map (λ x. record { place = x.0; octets = x.1.now }) result ≡ (headers_of self.now).label }
+    {
+        match self {
+            Packet::V4(view) => view.label_option(),
+            Packet::V6(view) => view.label_option(),
+        }
+    }
+}
+
 impl Wire {
     /// The octet of the option's type in the packet.
     pub fn at(&self) -> usize
-        ensures { result ≡ place_of self.now }
+        ensures { result ≡ wire_place self.now }
     {
         match self {
             Wire::Cipso { at, .. } => *at,
@@ -67,7 +91,7 @@ impl Wire {
 
     /// The domain of interpretation.
     pub fn doi(&self) -> u32
-        ensures { result ≡ doi_of self.now }
+        ensures { result ≡ wire_doi self.now }
     {
         match self {
             Wire::Cipso { doi, .. } => *doi,
@@ -77,7 +101,7 @@ impl Wire {
 
     /// The label, in the numbers of the domain of interpretation.
     pub fn label(&self) -> &Label
-        ensures { result.now ≡ label_of self.now }
+        ensures { result.now ≡ label_said self.now }
     {
         match self {
             Wire::Cipso { label, .. } => label,

@@ -4,7 +4,7 @@ ghost use Rattle.std.specs.Prelude.{◌≡◌, ◌↔◌, ◌<◌, ◌≤◌, []
 ghost use Rattle.std.specs.Option.{option_copied, option_map};
 ghost use Rattle.ip_headers.specs.Written.{packet_octets, rebuilt_length, rebuilt_room, room_limit};
 ghost use Rattle.packet_label.specs.Packet.{version_of};
-ghost use Rattle.packet_label.specs.Option.{Suits, octets_of, rebuilt};
+ghost use Rattle.packet_label.specs.Option.{Suits, written_octets, rebuilt};
 
 use crate::{Packet, WireOption};
 use ip_headers::{Rebuild, rebuild4, rebuild6};
@@ -35,7 +35,7 @@ pub fn relabel(
 
 // The octets of an option that is there.
 fn octets_of(option: Option<&WireOption>) -> Option<&[u8]>
-    ensures { option_copied result ≡ option_map octets_of (option_copied option.entry) }
+    ensures { option_copied result ≡ option_map written_octets (option_copied option.entry) }
 {
     match option {
         Some(WireOption::Cipso(octets)) => Some(octets.as_slice()),

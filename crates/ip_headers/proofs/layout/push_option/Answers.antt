@@ -1,7 +1,6 @@
 use Rattle.std.proofs.Common.{rules, ◌≡◌, ◌%◌, length, sym, append_assoc}
 use Rattle.std.proofs.lemmas.List.{append-nil}
-use Rattle.ip_headers.specs.Options.{alignment}
-use Rattle.ip_headers.specs.Written.{gap_to}
+use Rattle.ip_headers.specs.Written.{alignment, gap_to}
 use Rattle.ip_headers.proofs.Layouts.{kept_none, kept_one, last_write}
 use Rattle.ip_headers.proofs.layout.push_option.Goals as goal
 

@@ -1,5 +1,5 @@
-use Rattle.packet_label.proofs.Within.{fault_within}
+use Rattle.packet_label.proofs.Law.{faults_stand_within}
 use Rattle.packet_label.proofs.laws.faults_stand_within.Goals as goal
 
 pub returns : goal.returns
-returns c = fault_within
+returns c = record { packets = faults_stand_within.packets; fronts = faults_stand_within.fronts }

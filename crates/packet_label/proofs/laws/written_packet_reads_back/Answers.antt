@@ -1,5 +1,5 @@
-use Rattle.packet_label.proofs.Written.{reads_back}
+use Rattle.packet_label.proofs.Law.{written_packet_reads_back}
 use Rattle.packet_label.proofs.laws.written_packet_reads_back.Goals as goal
 
 pub returns : goal.returns
-returns c = reads_back
+returns c = written_packet_reads_back

@@ -1,23 +1,23 @@
-use Rattle.std.proofs.Common.{sym}
-use Rattle.std.proofs.lemmas.Result.{IfOk-weaker}
-use Rattle.packet_label.specs.declared.packet.Marked.{Marked}
-use Rattle.packet_label.specs.Packet.{IsPacket, packet_with}
-use Rattle.packet_label.specs.Wire.{StandsIn, wire_with}
-use Rattle.packet_label.proofs.Faults.{version_fails}
-use Rattle.packet_label.proofs.Wires.{wire_stands}
+use Rattle.std.proofs.Common.{arith, rules, sym, subst, ◌∙◌}
+use Rattle.ip_headers.specs.declared.version.Version.{Version}
+use Rattle.ip_headers.specs.Options.{Placed, IsOption}
+use Rattle.packet_label.specs.Packet.{headers_of, labelled}
+use Rattle.packet_label.specs.Wire.{wire_with}
+use Rattle.packet_label.proofs.Once.{option_inside, packet_ten}
 use Rattle.packet_label.proofs.read.carried_into.Goals as goal
 
-pub returns-in-None-clause-err : goal.returns-in-None-clause-err
-returns-in-None-clause-err c = version_fails c.args.bytes.now (sym c.in-None.ensures)
+pub read_option-requires-clause-whole : goal.read_option-requires-clause-whole
+read_option-requires-clause-whole c =
+    let o : Placed = record { place = c.in-Some.at; octets = c.in-Some.option.now } in
+    let i = option_inside c.args.bytes.now (headers_of c.in-Ok.packet) o c.in-Ok.ensures.ok (sym c.in-Some.ensures) in
+    subst (λ (v : Version). IsOption v c.in-Some.option.now) (c.in-Ok.ensures.version ∙ sym c.version.ensures) i.whole
 
-pub returns-in-Some-V4-clause-within : goal.returns-in-Some-V4-clause-within
-returns-in-Some-V4-clause-within c =
-    let octets = c.args.bytes.now in
-    let label = c.carried4.new.label in
-    IfOk-weaker c.carried4.result (λ (x : Marked). IsPacket octets (packet_with x label)) (λ (x : Marked). StandsIn octets (wire_with x.mark label)) (λ (x : Marked). wire_stands octets (packet_with x label)) c.carried4.ensures.ok
+pub read_option-requires-clause-fits : goal.read_option-requires-clause-fits
+read_option-requires-clause-fits c =
+    let o : Placed = record { place = c.in-Some.at; octets = c.in-Some.option.now } in
+    let i = option_inside c.args.bytes.now (headers_of c.in-Ok.packet) o c.in-Ok.ensures.ok (sym c.in-Some.ensures) in
+    omega (arith, i.within)
 
-pub returns-in-Some-V6-clause-within : goal.returns-in-Some-V6-clause-within
-returns-in-Some-V6-clause-within c =
-    let octets = c.args.bytes.now in
-    let label = c.carried6.new.label in
-    IfOk-weaker c.carried6.result (λ (x : Marked). IsPacket octets (packet_with x label)) (λ (x : Marked). StandsIn octets (wire_with x.mark label)) (λ (x : Marked). wire_stands octets (packet_with x label)) c.carried6.ensures.ok
+pub returns-clause-within : goal.returns-clause-within
+returns-clause-within c =
+    packet_ten c.args.bytes.now (labelled (headers_of c.in-Ok.packet) (wire_with c.match-label_option.mark c.match-label_option.label)) (search rules)
