@@ -1,3 +1,5 @@
+pub mod Frames
+pub mod Law
 pub mod Listed
 pub mod Parts
 pub mod Places

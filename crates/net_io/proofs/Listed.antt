@@ -1,9 +1,13 @@
 -- What one failed call more does to the numbers of faults.
-use Rattle.std.proofs.Common.{◌≡◌, ℕ, ◌+◌, true, cond, List, [], ◌∷◌, ◌++◌, refl, sym, ◌∙◌, ap, subst, arith, inl, bytes_eq, string_bytes, Err}
+use Rattle.std.proofs.Common.{◌≡◌, ℕ, ◌+◌, true, false, ◌&&◌, cond, List, [], ◌∷◌, ◌++◌, refl, sym, ◌∙◌, ap, subst, arith, inl, bytes_eq, string_bytes, Err}
 use Rattle.std.proofs.lemmas.List.Sums.{sum_by-append}
 use Rattle.std.proofs.lemmas.Slice.Eq.{bytes_eq-Decides}
-use Rattle.net_io.specs.Failed.{is_failed, is_same_call, failed_in, Lists}
-use Rattle.net_io.specs.Faults.{CountsByName}
+use Rattle.net_io.specs.Failed.{is_failed, is_same_call, failed_in}
+use Rattle.net_io.specs.inside.Listed.{Lists}
+use Rattle.net_io.specs.Depot.{OnlyReads, OnlyCreates, OnlyAppends}
+use Rattle.net_io.specs.Faults.{CountsByName, SameCounts}
+use Rattle.net_io.specs.Memory.{files_state}
+use Rattle.net_io.specs.declared.folder.NamedFile.{NamedFile}
 use Rattle.net_io.specs.declared.failed.FailedCall.{FailedCall}
 use Rattle.net_io.specs.declared.failed.DepotCall.{DepotCall}
 use Rattle.net_io.specs.declared.failed.DepotCall.TheVariants.{Read, Create, Append}
@@ -26,8 +30,8 @@ is_failed-entry call name entry kind on =
     let same : is_same_call call entry.call ≡ true = subst (λ k. is_same_call call k ≡ true) (sym kind) (is_same_call-same call) in
     rw (same, named) refl
 
--- the numbers of a call's own kind after its fault was listed, or after no memory was left to list it
-pub counts_fault : {T : Type 0} (fault : IoFault) (call : DepotCall) (name : List ℕ) (old new : List FailedCall)
+-- The numbers of a call's own kind after its fault was listed, or after no memory was left to list it.
+counts_fault : {T : Type 0} (fault : IoFault) (call : DepotCall) (name : List ℕ) (old new : List FailedCall)
     → (fault ≡ Failed → Lists call name old new) → (fault ≡ OutOfMemory → new ≡ old)
     → CountsByName {T = T} Failed (Err fault) name (failed_in old call) (failed_in new call)
 counts_fault Failed call name old new listed none =
@@ -46,3 +50,45 @@ counts_fault OutOfMemory call name old new listed none =
       ok = tt;
       cause = λ e. cc;
     }
+
+-- the numbers of another kind
+others_same : (fault : IoFault) (call other : DepotCall) (name : List ℕ) (old new : List FailedCall) → is_same_call other call ≡ false
+    → (fault ≡ Failed → Lists call name old new) → (fault ≡ OutOfMemory → new ≡ old) → SameCounts (failed_in old other) (failed_in new other)
+others_same Failed call other name old new differ listed none at =
+    let lists : Lists call name old new = listed refl in
+    let kind : is_same_call other lists.entry.call ≡ false = ap (is_same_call other) lists.kind ∙ differ in
+    let no : is_failed other at lists.entry ≡ false = ap (λ b. b && bytes_eq (string_bytes lists.entry.name) at) kind in
+    let zero : ◌≡◌ {A = ℕ} (cond (is_failed other at lists.entry) 1 0) 0 = ap (λ b. cond {A = ℕ} b 1 0) no in
+    omega (arith, ap (λ list. failed_in list other at) lists.last ∙ failed_in-more old lists.entry other at, zero)
+others_same OutOfMemory call other name old new differ listed none at = ap (λ list. failed_in list other at) (none refl)
+
+pub fault_reads : {T : Type 0} (fault : IoFault) (name : List ℕ) (files : List NamedFile) (old new : List FailedCall)
+    → (fault ≡ Failed → Lists Read name old new) → (fault ≡ OutOfMemory → new ≡ old)
+    → OnlyReads {T = T} Failed (Err fault) name (files_state files old) (files_state files new)
+fault_reads fault name files old new listed none = record {
+  told = refl;
+  kept = λ told other. refl;
+  reads = counts_fault fault Read name old new listed none;
+  creates = others_same fault Read Create name old new refl listed none;
+  appends = others_same fault Read Append name old new refl listed none;
+}
+
+pub fault_creates : {T : Type 0} (fault : IoFault) (name : List ℕ) (files : List NamedFile) (old new : List FailedCall)
+    → (fault ≡ Failed → Lists Create name old new) → (fault ≡ OutOfMemory → new ≡ old)
+    → OnlyCreates {T = T} Failed (Err fault) name (files_state files old) (files_state files new)
+fault_creates fault name files old new listed none = record {
+  told = refl;
+  reads = others_same fault Create Read name old new refl listed none;
+  creates = counts_fault fault Create name old new listed none;
+  appends = others_same fault Create Append name old new refl listed none;
+}
+
+pub fault_appends : {T : Type 0} (fault : IoFault) (name : List ℕ) (files : List NamedFile) (old new : List FailedCall)
+    → (fault ≡ Failed → Lists Append name old new) → (fault ≡ OutOfMemory → new ≡ old)
+    → OnlyAppends {T = T} Failed (Err fault) name (files_state files old) (files_state files new)
+fault_appends fault name files old new listed none = record {
+  told = refl;
+  reads = others_same fault Append Read name old new refl listed none;
+  creates = others_same fault Append Create name old new refl listed none;
+  appends = counts_fault fault Append name old new listed none;
+}

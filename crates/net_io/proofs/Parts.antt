@@ -1,10 +1,10 @@
 -- Some first elements of a list, and some more behind them.
-use Rattle.std.proofs.Common.{◌≡◌, ◌<◌, ◌≤◌, ℕ, ◌+◌, ◌-◌, min, List, [], ◌++◌, Option, length, take, drop, sym, ◌∙◌, ap, append_assoc, arith, length-drop}
+use Rattle.std.proofs.Common.{◌≡◌, ◌<◌, ◌≤◌, ℕ, ◌+◌, ◌-◌, min, List, [], ◌++◌, Option, Some, length, take, drop, sym, ◌∙◌, ap, append_assoc, arith, length-drop}
 use Rattle.std.proofs.Math.Seq.{take-add, take-append-add}
 use Rattle.std.proofs.lemmas.List.{take_rest, drop-drop, drop_all, drop_at, append-nil, length-take-le}
 use Rattle.std.proofs.lemmas.Grind.{common_steps}
 use borrow.Rule.Slice.PartMut.{put_mid}
-use Rattle.net_io.specs.Depot.{octets_of, IsRead, ChangesFirst}
+use Rattle.net_io.specs.Depot.{octets_of, IsRead, ChangesFirst, NowHolds}
 
 -- what was written stays, and n more of the octets stand behind it
 pub written_more : (i n : ℕ) (xs before : List ℕ) → (before ++ take i xs) ++ take n (take (length xs - i) (drop i xs)) ≡ before ++ take (i + n) xs
@@ -12,6 +12,17 @@ written_more i n xs before =
     append_assoc before (take i xs) (take n (take (length xs - i) (drop i xs)))
     ∙ ap (λ rest. before ++ (take i xs ++ take n rest)) (take_rest xs i)
     ∙ ap (λ part. before ++ part) (sym (take-add i n xs))
+
+-- appended octets stay, and n more stand behind them
+pub appended_more : (name bytes : List ℕ) (d n : ℕ) (a b c : List ℕ → Option (List ℕ)) → NowHolds name (octets_of (a name) ++ take d bytes) a b
+    → NowHolds name (octets_of (b name) ++ take n (take (length bytes - d) (drop d bytes))) b c → NowHolds name (octets_of (a name) ++ take (d + n) bytes) a c
+appended_more name bytes d n a b c before more = record {
+  here =
+      more.here
+      ∙ ap (λ file. Some (octets_of file ++ take n (take (length bytes - d) (drop d bytes)))) before.here
+      ∙ ap Some (written_more d n bytes (octets_of (a name)));
+  elsewhere = λ other not_it. more.elsewhere other not_it ∙ before.elsewhere other not_it;
+}
 
 -- a read gives no more octets than the file has there
 pub read_within : (file : Option (List ℕ)) (at n : ℕ) (buffer : List ℕ) → n ≤ length buffer → IsRead file at n buffer → n ≤ length (octets_of file) - at

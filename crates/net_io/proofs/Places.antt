@@ -2,7 +2,8 @@
 use Rattle.std.proofs.Common.{◌≡◌, ◌≢◌, ◌<◌, ℕ, zero, suc, Bool, true, false, List, [], ◌∷◌, ◌++◌, length, get_or, set, Option, Some, None, refl, sym, ◌∙◌, ap, arith, bytes_eq, string_bytes}
 use Rattle.std.specs.Bool.{if◌then◌else◌}
 use Rattle.std.proofs.lemmas.Slice.Eq.{bytes_eq-Decides}
-use Rattle.net_io.specs.Folder.{held_in, IsElsewhere, IsPlaceOf}
+use Rattle.net_io.specs.Folder.{held_in}
+use Rattle.net_io.specs.inside.Place.{IsElsewhere, IsPlaceOf}
 use Rattle.net_io.specs.Depot.{SameHeld, NowHolds}
 use Rattle.net_io.specs.declared.folder.NamedFile.{NamedFile}
 

@@ -1,5 +1,5 @@
 -- The list of the calls on a folder in memory that have failed.
-use Rattle.std.specs.Prelude.{◌≡◌, ℕ, Bool, true, false, ◌&&◌, List, [], ◌∷◌, ◌++◌, bytes_eq, string_bytes, count_by}
+use Rattle.std.specs.Prelude.{ℕ, Bool, true, false, ◌&&◌, List, bytes_eq, string_bytes, count_by}
 use Rattle.net_io.specs.declared.failed.FailedCall.{FailedCall}
 use Rattle.net_io.specs.declared.failed.DepotCall.{DepotCall}
 use Rattle.net_io.specs.declared.failed.DepotCall.TheVariants.{Read, Create, Append}
@@ -22,10 +22,3 @@ is_failed call name failed = is_same_call call failed.call && bytes_eq (string_b
 -- how many calls of this kind have failed on this name
 abbrev pub failed_in : List FailedCall → DepotCall → List ℕ → ℕ
 failed_in failed call name = count_by (is_failed call name) failed
-
--- One failed call more is listed, of this kind and on this name.
-pub record Lists (call : DepotCall) (name : List ℕ) (old new : List FailedCall) : Type 0 where
-  pub entry : FailedCall
-  pub last : new ≡ old ++ entry ∷ []
-  pub kind : entry.call ≡ call
-  pub on : string_bytes entry.name ≡ name

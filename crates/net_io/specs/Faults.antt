@@ -1,9 +1,5 @@
 -- Numbers of faults: when they move, and which answer needs that they did.
 use Rattle.std.specs.Prelude.{◌≡◌, ◌⊎◌, ◌<◌, ◌≤◌, ◌-◌, ◌^◌, ℕ, List, Result, OnOk, IsErrOf}
-use Rattle.net_io.specs.declared.fault.IoFault.{IoFault}
-use Rattle.net_io.specs.declared.fault.IoFault.TheVariants.{Failed as IoFailed, OutOfMemory as IoOutOfMemory}
-use Rattle.net_io.specs.declared.fault.WholeFault.{WholeFault}
-use Rattle.net_io.specs.declared.fault.WholeFault.TheVariants.{Failed as WholeFailed, OutOfMemory as WholeOutOfMemory}
 
 -- A number rose over a call: it is more than at the call's start, or stands at the end of its type.
 abbrev pub Rose : ℕ → ℕ → Type 0
@@ -24,8 +20,3 @@ pub record CountsByName {T E : Type 0} (failed : E) (result : Result T E) (name 
   pub no_less : (other : List ℕ) → old other ≤ new other
   pub ok : OnOk result (SameCounts old new)
   pub cause : IsErrOf result failed → Rose (old name) (new name)
-
--- a fault of one read, as one of reading a whole file
-abbrev pub whole_fault : IoFault → WholeFault
-whole_fault IoFailed = WholeFailed
-whole_fault IoOutOfMemory = WholeOutOfMemory

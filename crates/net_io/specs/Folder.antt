@@ -1,19 +1,8 @@
 -- What a list of named files holds.
-use Rattle.std.specs.Prelude.{◌≡◌, ◌<◌, ℕ, false, List, [], ◌∷◌, length, take, slice_index_or, Option, Some, None, if◌then◌else◌, bytes_eq, string_bytes}
+use Rattle.std.specs.Prelude.{ℕ, List, [], ◌∷◌, Option, Some, None, if◌then◌else◌, bytes_eq, string_bytes}
 use Rattle.net_io.specs.declared.folder.NamedFile.{NamedFile}
 
 -- what the file of this name holds: the first, where there are several
 abbrev pub held_in : List NamedFile → List ℕ → Option (List ℕ)
 held_in [] name = None
 held_in (file ∷ files) name = if bytes_eq (string_bytes file.name) name then Some file.octets.items else held_in files name
-
--- none of these files has this name
-abbrev pub IsElsewhere : List NamedFile → List ℕ → Type 0
-IsElsewhere [] name = Unit {0}
-IsElsewhere (file ∷ files) name = (bytes_eq (string_bytes file.name) name ≡ false) × IsElsewhere files name
-
--- The first file of this name stands at this place.
-pub record IsPlaceOf (files : List NamedFile) (name : List ℕ) (place : ℕ) : Type 0 where
-  pub within : place < length files
-  pub before : IsElsewhere (take place files) name
-  pub here : (file : NamedFile) → file ≡ slice_index_or files place file → string_bytes file.name ≡ name

@@ -5,3 +5,4 @@ pub mod Folder
 pub mod Memory
 pub mod Real
 pub mod Sink
+pub mod inside

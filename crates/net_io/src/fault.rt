@@ -2,7 +2,7 @@
 ghost use Rattle.std.specs.Prelude.{◌≡◌};
 ghost use Rattle.net_io.specs.declared.fault.IoFault.TheVariants.{OutOfMemory as IoOutOfMemory};
 ghost use Rattle.net_io.specs.declared.fault.WholeFault.TheVariants.{OutOfMemory as WholeOutOfMemory};
-ghost use Rattle.net_io.specs.Faults.{whole_fault};
+ghost use Rattle.net_io.specs.inside.Whole.{whole_fault};
 
 use std::alloc::{AllocError, AllocFailed};
 use thiserror::Error;

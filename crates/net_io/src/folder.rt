@@ -1,7 +1,8 @@
 //! A list of named files.
 ghost use Rattle.std.specs.Prelude.{◌≡◌, ◌<◌, ◌≤◌, ◌+◌, ◌++◌, ◌^◌, ℕ, List, [], length, take, drop, Some, None, IsSome, IfOk, OnOk, OnErr, IsErr, MatchOption, slice_get, option_map};
 ghost use Rattle.net_io.specs.Depot.{octets_of, ChangesFirst, IsPart, SameHeld, NowHolds};
-ghost use Rattle.net_io.specs.Folder.{held_in, IsPlaceOf};
+ghost use Rattle.net_io.specs.Folder.{held_in};
+ghost use Rattle.net_io.specs.inside.Place.{IsPlaceOf};
 
 use crate::OutOfMemory;
 
@@ -58,6 +59,7 @@ pub fn copy_from(octets: &[u8], at: u64, piece: usize, buf: &mut [u8]) -> usize
     requires { 0 < piece }
     ensures octets { take result buf.new ≡ take result (drop at octets.now) }
     ensures end { result ≡ 0 → 0 < length buf.old → length octets.now ≤ at }
+    ensures piece { result ≤ piece }
     ensures rest { ChangesFirst result buf.old buf.new }
     ensures place { at + result < 2 ^ 64 }
 {

@@ -1,33 +1,38 @@
 //! The outside of the program, by names and octets: a folder of named files and a stream out, each as a
-//! trait whose contract says what every call reads, changes and counts. Two implementations stand in
-//! memory, with failing calls and short moves; two are the real edge, the file system and standard output.
+//! trait whose contract says what every call reads, changes and counts. Four implementations stand in memory, two
+//! of them with failing calls and short moves; two are the real edge, the file system and standard output.
 #![tactic(auto)]
 
 mod depot;
 mod failed;
 mod fault;
 mod folder;
-mod laws;
+pub mod laws;
 mod memory_depot;
 mod memory_sink;
+mod open_file;
 mod piece;
 mod plan;
 mod reading;
 mod real_depot;
 mod real_sink;
+mod safe_depot;
+mod safe_sink;
 mod sink;
 mod writing;
 
 pub use depot::Depot;
+pub use failed::DepotCall;
 pub use fault::{IoFault, OutOfMemory, WholeFault};
-pub use laws::octets_read_are_within_the_file;
 pub use memory_depot::MemoryDepot;
 pub use memory_sink::MemorySink;
 pub use reading::{read_full, read_whole};
 pub use real_depot::RealDepot;
 pub use real_sink::RealSink;
+pub use safe_depot::SafeDepot;
+pub use safe_sink::SafeSink;
 pub use sink::Sink;
-pub use writing::write_all_to;
+pub use writing::{append_all, write_all_to};
 
 #[cfg(test)]
 mod tests;

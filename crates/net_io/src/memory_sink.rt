@@ -1,5 +1,8 @@
 //! A stream in memory, some of whose writes fail by plan.
-ghost use Rattle.std.specs.Prelude.{◌≡◌, ◌<◌, true, [], IfOk};
+ghost use Rattle.std.specs.Prelude.{◌≡◌, ◌<◌, ◌≤◌, ◌++◌, ℕ, true, IsTrue, [], take, OnErr, IfOk};
+ghost use Rattle.net_io.specs.Depot.{IsPart};
+ghost use Rattle.net_io.specs.Faults.{Counts};
+ghost use Rattle.net_io.specs.Memory.{CallPlan, memory_sink_state, memory_sink_plan, FollowsPlan};
 
 use crate::plan::FaultPlan;
 use crate::{IoFault, OutOfMemory, Sink};
@@ -14,15 +17,12 @@ pub struct MemorySink {
 }
 
 impl MemorySink {
-    ghost use Rattle.net_io.specs.Memory.{memory_written, memory_write_fails, memory_faults};
-
     /// An empty stream. The writes whose numbers, from 1, stand in `fail` fail; a write takes at most
     /// `piece` octets.
     pub fn new(alloc: Global, fail: &[u32], piece: usize) -> Result<MemorySink, OutOfMemory>
         requires { 0 < piece }
-        ensures empty { IfOk result (λ sink. memory_written sink ≡ []) }
-        ensures fails { IfOk result (λ sink. memory_write_fails sink ≡ fail.now) }
-        ensures faults { IfOk result (λ sink. memory_faults sink ≡ 0) }
+        ensures empty { IfOk result (λ sink. memory_sink_state sink ≡ record { tells = true; written = []; faults = 0 }) }
+        ensures plan { IfOk result (λ sink. memory_sink_plan sink ≡ record { fail = fail.now; piece = piece; calls = 0 }) }
     {
         Ok(MemorySink {
             written: Vec::new(alloc),
@@ -33,22 +33,26 @@ impl MemorySink {
 
     /// All that was written.
     pub fn bytes(&self) -> &[u8]
-        ensures { result.now ≡ memory_written self.now }
+        ensures { result.now ≡ (memory_sink_state self.now).written }
     {
         &self.written
     }
 }
 
 impl Sink for MemorySink {
-    ghost use Rattle.net_io.specs.Memory.{memory_written, memory_faults};
+    ghost use Rattle.net_io.specs.Memory.{memory_sink_state};
 
-    ghost tells = { λ sink. true };
+    ghost state = { memory_sink_state };
 
-    ghost written = { memory_written };
-
-    ghost faults = { memory_faults };
-
-    fn write(&mut self, bytes: &[u8]) -> Result<usize, IoFault> {
+    fn write(&mut self, bytes: &[u8]) -> Result<usize, IoFault>
+        ensures ok { IfOk result (λ n. IsTrue (memory_sink_state self.old).tells → (memory_sink_state self.new).written ≡ (memory_sink_state self.old).written ++ take n bytes.now) }
+        ensures part { IfOk result (λ n. IsPart n bytes.now) }
+        ensures err { OnErr result (IsTrue (memory_sink_state self.old).tells → (memory_sink_state self.new).written ≡ (memory_sink_state self.old).written) }
+        ensures told { (memory_sink_state self.new).tells ≡ (memory_sink_state self.old).tells }
+        ensures counts { Counts IoFault.Failed result (memory_sink_state self.old).faults (memory_sink_state self.new).faults }
+        ensures plan { FollowsPlan ⊥ result (memory_sink_plan self.old) (memory_sink_plan self.new) }
+        ensures piece { IfOk result (λ n. n ≤ (memory_sink_plan self.old).piece) }
+    {
         if self.plan.fails_next() {
             self.faults = self.faults.saturating_add(1);
             return Err(IoFault::Failed);

@@ -1,7 +1,7 @@
 //! Reads that go on until the buffer is full or the file ends.
-ghost use Rattle.std.specs.Prelude.{◌≡◌, ◌<◌, ◌≤◌, ◌+◌, ◌-◌, ◌++◌, min, ℕ, IsTrue, IsSome, Some, length, take, drop, vec_len, OnOk, OnErr, IfOk, IsErrOf};
-ghost use Rattle.net_io.specs.Depot.{octets_of, IsRead, ChangesFirst, ReadsPrefix, SameHeld};
-ghost use Rattle.net_io.specs.Faults.{SameCounts, CountsByName};
+ghost use Rattle.std.specs.Prelude.{◌≡◌, ◌<◌, ◌≤◌, ◌+◌, ◌-◌, ◌++◌, ◌^◌, min, ℕ, IsTrue, IsSome, Some, length, take, drop, vec_len, OnOk, OnErr, IfOk, IsErrOf};
+ghost use Rattle.net_io.specs.Depot.{octets_of, IsRead, ChangesFirst, ReadsPrefix, OnlyReads};
+ghost use Rattle.net_io.specs.Faults.{SameCounts};
 
 use crate::piece::new_piece;
 use crate::{Depot, IoFault, WholeFault};
@@ -15,18 +15,14 @@ pub fn read_full<D: Depot>(
     at: u64,
     buf: &mut [u8],
 ) -> Result<usize, IoFault>
-    ensures count { IfOk result (λ n. IsTrue (D.tells depot.old)
-        → n ≡ min (length buf.old) (length (octets_of (D.held depot.old name.now)) - at)) }
-    ensures octets { IfOk result (λ n. IsTrue (D.tells depot.old) → IsRead (D.held depot.old name.now) at n buf.new) }
-    ensures present { OnOk result (IsTrue (D.tells depot.old) → 0 < length buf.old → IsSome (D.held depot.old name.now)) }
+    ensures count { IfOk result (λ n. IsTrue (D.state depot.old).tells
+        → n ≡ min (length buf.old) (length (octets_of ((D.state depot.old).held name.now)) - at)) }
+    ensures octets { IfOk result (λ n. IsTrue (D.state depot.old).tells → IsRead ((D.state depot.old).held name.now) at n buf.new) }
+    ensures present { OnOk result (IsTrue (D.state depot.old).tells → 0 < length buf.old → IsSome ((D.state depot.old).held name.now)) }
     ensures rest { IfOk result (λ n. ChangesFirst n buf.old buf.new) }
-    ensures err { OnErr result (ReadsPrefix (D.tells depot.old) (D.held depot.old name.now) at buf.old buf.new) }
-
-    ensures kept { IsTrue (D.tells depot.old) → SameHeld (D.held depot.old) (D.held depot.new) }
-    ensures told { D.tells depot.new ≡ D.tells depot.old }
-    ensures reads { CountsByName IoFault.Failed result name.now (D.read_faults depot.old) (D.read_faults depot.new) }
-    ensures creates { SameCounts (D.create_faults depot.old) (D.create_faults depot.new) }
-    ensures appends { SameCounts (D.append_faults depot.old) (D.append_faults depot.new) }
+    ensures place { IfOk result (λ n. at + n < 2 ^ 64) }
+    ensures err { OnErr result (ReadsPrefix (D.state depot.old).tells ((D.state depot.old).held name.now) at buf.old buf.new) }
+    ensures frame { OnlyReads IoFault.Failed result name.now (D.state depot.old) (D.state depot.new) }
 {
     let mut done = 0;
     while done < buf.len() {
@@ -62,20 +58,15 @@ fn read_more<D: Depot>(
     requires piece { 0 < length piece.old }
     ensures grown { IfOk result (λ n. vec_len whole.new ≡ vec_len whole.old + n) }
     ensures within { IfOk result (λ n. vec_len whole.old + n ≤ most) }
-    ensures octets { IfOk result (λ n. IsTrue (D.tells depot.old)
-        → whole.new.items ≡ whole.old.items ++ take n (drop (vec_len whole.old) (octets_of (D.held depot.old name.now)))) }
-    ensures present { OnOk result (IsTrue (D.tells depot.old) → IsSome (D.held depot.old name.now)) }
-    ensures end { IfOk result (λ n. IsTrue (D.tells depot.old) → n ≡ 0
-        → length (octets_of (D.held depot.old name.now)) ≤ vec_len whole.old) }
-    ensures too_long { IsErrOf result WholeFault.TooLong → IsTrue (D.tells depot.old)
-        → most < length (octets_of (D.held depot.old name.now)) }
-    ensures uncounted { IsErrOf result WholeFault.TooLong → SameCounts (D.read_faults depot.old) (D.read_faults depot.new) }
-
-    ensures kept { IsTrue (D.tells depot.old) → SameHeld (D.held depot.old) (D.held depot.new) }
-    ensures told { D.tells depot.new ≡ D.tells depot.old }
-    ensures reads { CountsByName WholeFault.Failed result name.now (D.read_faults depot.old) (D.read_faults depot.new) }
-    ensures creates { SameCounts (D.create_faults depot.old) (D.create_faults depot.new) }
-    ensures appends { SameCounts (D.append_faults depot.old) (D.append_faults depot.new) }
+    ensures octets { IfOk result (λ n. IsTrue (D.state depot.old).tells
+        → whole.new.items ≡ whole.old.items ++ take n (drop (vec_len whole.old) (octets_of ((D.state depot.old).held name.now)))) }
+    ensures present { OnOk result (IsTrue (D.state depot.old).tells → IsSome ((D.state depot.old).held name.now)) }
+    ensures end { IfOk result (λ n. IsTrue (D.state depot.old).tells → n ≡ 0
+        → length (octets_of ((D.state depot.old).held name.now)) ≤ vec_len whole.old) }
+    ensures too_long { IsErrOf result WholeFault.TooLong → IsTrue (D.state depot.old).tells
+        → most < length (octets_of ((D.state depot.old).held name.now)) }
+    ensures uncounted { IsErrOf result WholeFault.TooLong → SameCounts (D.state depot.old).reads (D.state depot.new).reads }
+    ensures frame { OnlyReads WholeFault.Failed result name.now (D.state depot.old) (D.state depot.new) }
 {
     let room = room_for(most, whole.len(), piece.len());
     let n = depot.read_at(name, whole.len() as u64, &mut piece[..room])?;
@@ -94,17 +85,12 @@ pub fn read_whole<D: Depot>(
     name: &str,
     most: usize,
 ) -> Result<Vec<u8>, WholeFault>
-    ensures whole { IfOk result (λ whole. IsTrue (D.tells depot.old) → D.held depot.old name.now ≡ Some whole.items) }
+    ensures whole { IfOk result (λ whole. IsTrue (D.state depot.old).tells → (D.state depot.old).held name.now ≡ Some whole.items) }
     ensures most { IfOk result (λ whole. vec_len whole ≤ most) }
-    ensures too_long { IsErrOf result WholeFault.TooLong → IsTrue (D.tells depot.old)
-        → most < length (octets_of (D.held depot.old name.now)) }
-    ensures uncounted { IsErrOf result WholeFault.TooLong → SameCounts (D.read_faults depot.old) (D.read_faults depot.new) }
-
-    ensures kept { IsTrue (D.tells depot.old) → SameHeld (D.held depot.old) (D.held depot.new) }
-    ensures told { D.tells depot.new ≡ D.tells depot.old }
-    ensures reads { CountsByName WholeFault.Failed result name.now (D.read_faults depot.old) (D.read_faults depot.new) }
-    ensures creates { SameCounts (D.create_faults depot.old) (D.create_faults depot.new) }
-    ensures appends { SameCounts (D.append_faults depot.old) (D.append_faults depot.new) }
+    ensures too_long { IsErrOf result WholeFault.TooLong → IsTrue (D.state depot.old).tells
+        → most < length (octets_of ((D.state depot.old).held name.now)) }
+    ensures uncounted { IsErrOf result WholeFault.TooLong → SameCounts (D.state depot.old).reads (D.state depot.new).reads }
+    ensures frame { OnlyReads WholeFault.Failed result name.now (D.state depot.old) (D.state depot.new) }
 {
     let mut whole = Vec::new(alloc);
     let mut piece = new_piece(alloc)?;

@@ -1,5 +1,5 @@
 //! Standard output. No clause tells what reaches it: this is the trusted edge.
-ghost use Rattle.std.specs.Prelude.{◌≡◌, [], false};
+ghost use Rattle.std.specs.Prelude.{◌≡◌};
 
 use crate::{IoFault, Sink};
 use std::io::Print;
@@ -13,24 +13,20 @@ pub struct RealSink<R: Print> {
 }
 
 impl<R: Print> RealSink<R> {
-    ghost use Rattle.net_io.specs.Real.{real_faults};
+    ghost use Rattle.net_io.specs.Real.{real_sink_state};
 
     /// The standard output of this runtime, with no faults so far.
     pub fn new(out: R) -> RealSink<R>
-        ensures { real_faults result ≡ 0 }
+        ensures { (real_sink_state result).faults ≡ 0 }
     {
         RealSink { out, faults: 0 }
     }
 }
 
 impl<R: Print> Sink for RealSink<R> {
-    ghost use Rattle.net_io.specs.Real.{real_faults};
+    ghost use Rattle.net_io.specs.Real.{real_sink_state};
 
-    ghost tells = { λ sink. false };
-
-    ghost written = { λ sink. [] };
-
-    ghost faults = { real_faults };
+    ghost state = { real_sink_state };
 
     // A stream that takes nothing of some octets has failed.
     fn write(&mut self, bytes: &[u8]) -> Result<usize, IoFault> {

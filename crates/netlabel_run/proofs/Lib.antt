@@ -1,4 +1,6 @@
 pub mod Commands
 pub mod Endings
-pub mod Calls
+pub mod Handing
+pub mod Law
 pub mod Once
+pub mod Requests

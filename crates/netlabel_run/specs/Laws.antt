@@ -1,6 +1,16 @@
 -- What is true of the definitions alone.
-use Rattle.std.specs.Prelude.{ℕ, ◌≡◌, List}
+use Rattle.std.specs.Prelude.{◌≡◌, Option}
+use Rattle.netlabel_run.specs.declared.command.Command.{Command}
+use Rattle.netlabel_run.specs.Report.{Folder, Versions, HasReport}
+use Rattle.netlabel_run.specs.Status.{HasStatus}
+use Rattle.netlabel_run.specs.Stages.{HasStages}
 
--- at most one status is to be reported, with one text
-abbrev pub IsOne : (ℕ → List ℕ → Type 0) → Type 0
-IsOne R = (n m : ℕ) (a b : List ℕ) → R n a → R m b → (n ≡ m) × (a ≡ b)
+-- at most one value is of the kind
+abbrev pub IsOne : {A : Type 0} → (A → Type 0) → Type 0
+IsOne {A} P = (a b : A) → P a → P b → a ≡ b
+
+-- what words ask for has one status, one report and one list of stages at most
+pub record IsDetermined (request : Option Command) (held : Folder) (seen : Versions) : Type 0 where
+  pub status : IsOne (HasStatus request held)
+  pub report : IsOne (HasReport request held seen)
+  pub stages : IsOne (HasStages request held seen)

@@ -1,9 +1,11 @@
 pub mod Words
-pub mod Command
 pub mod Verdict
 pub mod Line
 pub mod Report
-pub mod Ending
-pub mod Prints
-pub mod Call
+pub mod Status
+pub mod Stages
+pub mod Seen
+pub mod Outside
+pub mod CallEnds
 pub mod Laws
+pub mod inside

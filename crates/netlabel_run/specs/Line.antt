@@ -1,13 +1,12 @@
 -- The printed lines of a verdict.
-use Rattle.std.specs.Prelude.{ℕ, List, [], ◌∷◌, ◌++◌, codes}
+use Rattle.std.specs.Prelude.{ℕ, List, [], ◌∷◌, ◌++◌, codes, Ok, Err}
 use Rattle.std.specs.Fmt.{decimal}
 use Rattle.mls_label.specs.declared.label.Label.{Label}
 use Rattle.mls_range.specs.LabelText.{label_text}
 use Rattle.packet_label.specs.declared.denial.Denial.{Denial}
 use Rattle.packet_label.specs.declared.denial.Denial.TheVariants.{BadHeader, BadOption, UnknownDoi, TagNotAllowed, CategoryUnmapped, AlreadyLabelled, NotCrossable}
 use Rattle.packet_label.specs.Denial.{number_of, name_of, cause_name}
-use Rattle.netlabel_run.specs.declared.verdict.Verdict.{Verdict}
-use Rattle.netlabel_run.specs.declared.verdict.Verdict.TheVariants.{Delivered, Denied}
+use Rattle.netlabel_run.specs.Verdict.{Verdict}
 
 -- a text and the end of its line
 abbrev pub line_of : List ℕ → List ℕ
@@ -35,5 +34,5 @@ unfoldable pub delivered_text : Label → List ℕ
 delivered_text label = codes "delivered " ++ label_text label
 
 abbrev pub verdict_line : Verdict → List ℕ
-verdict_line (Delivered label) = line_of (delivered_text label)
-verdict_line (Denied denial) = line_of (denial_text denial)
+verdict_line (Ok label) = line_of (delivered_text label)
+verdict_line (Err denial) = line_of (denial_text denial)

@@ -1,11 +1,13 @@
 -- The forms of the command line: what the words, without the program's name, ask for.
-use Rattle.std.specs.Prelude.{ℕ, ◌≡◌, ◌≢◌, ◌<◌, ◌≤◌, ◌^◌, false, List, [], ◌∷◌, length, map, slice_index, codes, string_bytes, String}
+use Rattle.std.specs.Prelude.{ℕ, ◌≡◌, ◌≢◌, ◌<◌, ◌≤◌, ◌^◌, List, [], ◌∷◌, length, map, slice_index, codes, string_bytes, String, Option, Some, None}
 use Rattle.std.specs.declared.alloc.Global.{Global}
 use Rattle.std.specs.List.{All}
 use Rattle.std.specs.Fmt.{decimal}
 use Rattle.mls_label.specs.declared.label.Label.{Label}
 use Rattle.mls_range.specs.LabelText.{IsLabelText}
-use Rattle.mls_range.specs.Crowd.{IsRoomy}
+use Rattle.mls_range.specs.TextFault.{IsRoomyLabel}
+use Rattle.netlabel_run.specs.declared.command.Command.{Command}
+use Rattle.netlabel_run.specs.declared.command.Command.TheVariants.{Judge}
 
 -- the octets of each word
 abbrev pub texts_of : List (String Global) → List (List ℕ)
@@ -25,10 +27,10 @@ pub record IsDoi (text : List ℕ) (doi : ℕ) : Type 0 where
   pub named : 0 < doi
   pub fits : doi < 2 ^ 32
 
--- a level that a word may name: the text of a label
+-- a level that a word may name: the text of a label that has room for its categories
 pub record IsLevel (text : List ℕ) (level : Label) : Type 0 where
   pub reads : IsLabelText text level
-  pub roomy : IsRoomy false text
+  pub roomy : IsRoomyLabel text
 
 -- `judge <doi> <level> <file>`
 pub record AsksToJudge (words : List (List ℕ)) (doi : ℕ) (level : Label) (file : List ℕ) : Type 0 where
@@ -39,9 +41,15 @@ pub record AsksToJudge (words : List (List ℕ)) (doi : ℕ) (level : Label) (fi
   pub is_level : IsLevel level_text level
   pub is_name : IsFileName file
 
+-- the words are of the command's form
+abbrev pub Asks : List (List ℕ) → Command → Type 0
+Asks words (Judge doi level file) = AsksToJudge words doi level file
+
 -- the words are of one of the forms
-pub record IsForm (words : List (List ℕ)) : Type 0 where
-  pub doi : ℕ
-  pub level : Label
-  pub file : List ℕ
-  pub asks : AsksToJudge words doi level file
+abbrev pub IsForm : List (List ℕ) → Type 0
+IsForm words = (command : Command) × Asks words command
+
+-- what the words ask for; none where they are no form
+abbrev pub IsAsked : List (List ℕ) → Option Command → Type 0
+IsAsked words None = IsForm words → ⊥
+IsAsked words (Some command) = Asks words command

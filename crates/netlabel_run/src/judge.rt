@@ -1,16 +1,16 @@
 //! `judge`: one raw packet from a file, received by a receiver of a level whose node knows one DOI alone.
 
-ghost use Rattle.std.specs.Prelude.{◌≡◌, ◌≢◌, ◌≤◌, ◌^◌, ◌-◌, ◌⊎◌, ℕ, IsTrue, IfOk};
-ghost use Rattle.net_io.specs.Depot.{SameHeld};
-ghost use Rattle.net_io.specs.Faults.{Rose, SameCounts};
-ghost use Rattle.netlabel_run.specs.declared.verdict.Verdict.{Verdict};
-ghost use Rattle.netlabel_run.specs.Verdict.{IsVerdict};
+ghost use Rattle.std.specs.Prelude.{◌≡◌, ◌≤◌, ◌^◌, [], Some, IfOk};
+ghost use Rattle.netlabel_run.specs.declared.command.Command.TheVariants.{Judge};
+ghost use Rattle.netlabel_run.specs.Verdict.{Verdict, IsVerdict};
 ghost use Rattle.netlabel_run.specs.Line.{verdict_line};
-ghost use Rattle.netlabel_run.specs.Report.{ReportsJudge};
-ghost use Rattle.netlabel_run.specs.Prints.{Ends};
+ghost use Rattle.netlabel_run.specs.Outside.{Outside};
+ghost use Rattle.netlabel_run.specs.CallEnds.{CallEnds};
+ghost use Rattle.netlabel_run.specs.inside.Numbers.{number_of};
 
-use crate::ending::Ending;
-use crate::report;
+use crate::lines::{packet_limit, write_verdict};
+use crate::report::Report;
+use crate::status::Status;
 use crate::verdict::judge_packet;
 use mls_label::{Label, OutOfMemory};
 use net_io::{Depot, Sink, WholeFault, read_whole};
@@ -27,39 +27,40 @@ pub(crate) fn judge<D: Depot, S: Sink>(
     file: &str,
     depot: &mut D,
     out: &mut S,
-) -> Ending
-    ensures ends { Ends (ReportsJudge doi level.now (D.held depot.old file.now)) (D.tells depot.old) (S.tells out.old) result
-        (D.read_faults depot.old file.now) (D.read_faults depot.new file.now) (S.faults out.old) (S.faults out.new)
-        (S.written out.old) (S.written out.new) }
-    ensures form { result ≢ Ending.NoForm }
-    ensures unmoved { result ≡ Ending.Done → SameCounts (D.read_faults depot.old) (D.read_faults depot.new) }
-    ensures kept { IsTrue (D.tells depot.old) → SameHeld (D.held depot.old) (D.held depot.new) }
-    ensures creates { SameCounts (D.create_faults depot.old) (D.create_faults depot.new) }
-    ensures appends { SameCounts (D.append_faults depot.old) (D.append_faults depot.new) }
-    ensures told { D.tells depot.new ≡ D.tells depot.old }
-    ensures out_told { S.tells out.new ≡ S.tells out.old }
+) -> Status
+    ensures { CallEnds (Some (Judge doi level.now file.now))
+        (record { folder = D.state depot.old; stream = S.state out.old })
+        (record { folder = D.state depot.new; stream = S.state out.new }) (number_of result) [] }
 {
     let octets = match read_whole(alloc, depot, file, PACKET_LIMIT) {
         Ok(octets) => octets,
-        Err(WholeFault::TooLong) => return report::print(
+        Err(WholeFault::TooLong) => return Report::new(alloc).end(
             out,
-            report::packet_limit(),
-            Ending::Limit,
+            packet_limit(),
+            Status::Limit,
         ),
-        Err(WholeFault::Failed) => return Ending::ReadFault,
-        Err(WholeFault::OutOfMemory) => return Ending::OutOfMemory,
+        Err(WholeFault::Failed) => return Status::ReadFault,
+        Err(WholeFault::OutOfMemory) => return Status::OutOfMemory,
     };
-    match judge_line(alloc, doi, level, &octets) {
-        Ok(line) => report::print(out, &line, Ending::Done),
-        Err(OutOfMemory) => Ending::OutOfMemory,
+    match verdict_report(alloc, doi, level, &octets) {
+        Ok(report) => report.end(out, b"", Status::Done),
+        Err(OutOfMemory) => Status::OutOfMemory,
     }
 }
 
-/// The line that says whether a receiver of this level may have the packet, and why not.
-fn judge_line(alloc: Global, doi: u32, level: &Label, octets: &[u8]) -> Result<Vec<u8>, OutOfMemory>
-    ensures { IfOk result (λ line. (verdict : Verdict) × IsVerdict doi level.now octets.now verdict
-        × (line.items ≡ verdict_line verdict)) }
+/// The report that says whether a receiver of this level may have the packet, and why not.
+fn verdict_report(
+    alloc: Global,
+    doi: u32,
+    level: &Label,
+    octets: &[u8],
+) -> Result<Report, OutOfMemory>
+    ensures { IfOk result (λ report. (verdict : Verdict) × IsVerdict doi level.now octets.now verdict
+        × (report.waiting.items ≡ verdict_line verdict)) }
 {
-    let verdict = judge_packet(doi, level, octets);
-    report::verdict_line(alloc, &verdict)
+    let mut label = Label::lowest();
+    let verdict = judge_packet(doi, level, octets, &mut label);
+    let mut report = Report::new(alloc);
+    write_verdict(&verdict, &label, &mut report.waiting)?;
+    Ok(report)
 }

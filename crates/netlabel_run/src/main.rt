@@ -2,19 +2,23 @@
 //! status and a report come out. All that the program does is the one call `netlabel`, and its contract says what.
 #![tactic(auto)]
 
-mod ending;
+mod command;
 mod judge;
-mod laws;
+pub mod laws;
+mod lines;
 mod outcome;
 mod report;
+mod status;
 #[cfg(test)]
 mod tests;
 mod top;
 mod verdict;
 mod words;
 
-ghost use Rattle.std.specs.Prelude.{IfOk};
+ghost use Rattle.std.specs.Prelude.{◌≡◌, ◌⊎◌, IfOk};
+ghost use Rattle.std.specs.Process.{exit_status};
 ghost use Rattle.netlabel_run.specs.Words.{texts_of, IsForm};
+ghost use Rattle.netlabel_run.specs.CallEnds.{MayEnd};
 
 use net_io::{RealDepot, RealSink};
 use std::alloc::{AllocError, Global};
@@ -27,11 +31,23 @@ const OUT_OF_MEMORY: u8 = 6;
 
 /// Makes the real folder and the real stream out, makes the call, and ends with its status.
 fn main(rt: HostRuntime) -> ExitCode {
-    ExitCode::from(call(rt).unwrap_or(OUT_OF_MEMORY))
+    end(rt)
+}
+
+/// The same, with what it ends with.
+fn end(rt: HostRuntime) -> ExitCode
+    ensures { MayEnd (exit_status result) ⊎ (exit_status result ≡ 6) }
+{
+    match call(rt) {
+        Ok(status) => ExitCode::from(status),
+        Err(_) => ExitCode::from(OUT_OF_MEMORY),
+    }
 }
 
 /// Calls the program with the words of the command line.
-fn call(rt: HostRuntime) -> io::Result<u8> {
+fn call(rt: HostRuntime) -> io::Result<u8>
+    ensures { IfOk result (λ status. MayEnd status ⊎ (status ≡ 6)) }
+{
     let alloc = rt.alloc();
     let words = match words_of(&rt) {
         Err(fault) if fault.kind() == io::ErrorKind::InvalidData => no_form(alloc)?,

@@ -1,109 +1,93 @@
-//! The printed lines. Each is a definition of `specs/`, and printing one is one write of the whole line.
+//! A report on its way to the stream out: it is gathered, and handed on in pieces of some kilobytes.
 
-ghost use Rattle.std.specs.Prelude.{◌≡◌, ◌++◌, codes, OnOk, IfOk};
-ghost use Rattle.netlabel_run.specs.Line.{octet_detail, detail_of, denial_text, delivered_text, verdict_line};
-ghost use Rattle.netlabel_run.specs.Report.{usage_line, packet_limit_line};
-ghost use Rattle.netlabel_run.specs.Prints.{Prints};
+ghost use Rattle.std.specs.Prelude.{◌≡◌, ◌++◌, [], false, IsTrue, OnOk};
+ghost use Rattle.net_io.specs.Sink.{SinkState};
+ghost use Rattle.netlabel_run.specs.inside.Printing.{HandsOn, Printed};
 
-use crate::ending::Ending;
-use crate::verdict::Verdict;
-use decimal_text::write_decimal;
-use mls_label::{Label, OutOfMemory};
-use mls_range::write_label;
+use crate::status::Status;
 use net_io::{IoFault, Sink, write_all_to};
-use packet_label::{Denial, cause_name};
-use std::alloc::{AllocError, Global};
+use std::alloc::Global;
 
-/// The forms of the command line.
-#[tactic(auto, unfolding(crate::specs::Report::usage_line))]
-pub(crate) fn usage() -> &'static [u8]
-    ensures { result.now ≡ usage_line }
-{
-    b"usage: netlabel run <script> [-w <n>] | judge <doi> <level> <file> | check <script> | show <capture> | agree <script> <flow> [<versions>] | make <number> <count> <capture>\n"
+/// How many octets are gathered before they are handed on.
+const PIECE: usize = 4096;
+
+/// The end of a report that waits to be handed on.
+#[derive(Debug, Drop)]
+pub(crate) struct Report {
+    /// What waits: writers of lines append to it.
+    pub waiting: Vec<u8>,
 }
 
-/// The file for `judge` is longer than any packet.
-#[tactic(auto, unfolding(crate::specs::Report::packet_limit_line))]
-pub(crate) fn packet_limit() -> &'static [u8]
-    ensures { result.now ≡ packet_limit_line }
+/// Adds a text behind what waits, and tells whether there was memory for it.
+fn add(waiting: &mut Vec<u8>, text: &[u8]) -> bool
+    ensures added { IsTrue result → waiting.new.items ≡ waiting.old.items ++ text.now }
+    ensures kept { result ≡ false → waiting.new.items ≡ waiting.old.items }
 {
-    b"limit packet 65575\n"
-}
-
-/// The line of a verdict.
-pub(crate) fn verdict_line(alloc: Global, verdict: &Verdict) -> Result<Vec<u8>, OutOfMemory>
-    ensures { IfOk result (λ line. line.items ≡ verdict_line verdict.now) }
-{
-    let mut line = Vec::new(alloc);
-    match verdict {
-        Verdict::Delivered(label) => write_delivered(label, &mut line)?,
-        Verdict::Denied(denial) => write_denied(denial, &mut line)?,
-    }
-    line.push(b'\n')?;
-    Ok(line)
-}
-
-/// Appends that the receiver may have the packet, whose label this is.
-#[tactic(auto, unfolding(crate::specs::Line::delivered_text))]
-fn write_delivered(label: &Label, line: &mut Vec<u8>) -> Result<(), OutOfMemory>
-    ensures { OnOk result (line.new.items ≡ line.old.items ++ delivered_text label.now) }
-{
-    line.extend_from_slice(b"delivered ")?;
-    write_label(label, line)
-}
-
-/// Appends why the receiver may not have it.
-#[tactic(auto, unfolding(crate::specs::Line::denial_text))]
-fn write_denied(denial: &Denial, line: &mut Vec<u8>) -> Result<(), OutOfMemory>
-    ensures { OnOk result (line.new.items ≡ line.old.items ++ denial_text denial.now) }
-{
-    line.extend_from_slice(b"denied ")?;
-    write_decimal(u64::from(denial.number()), line)?;
-    line.extend_from_slice(b" ")?;
-    line.extend_from_slice(denial.name().as_bytes())?;
-    write_detail(denial, line)?;
-    Ok(())
-}
-
-/// Appends the octet at fault, the category or the cause, where the denial has one.
-fn write_detail(denial: &Denial, line: &mut Vec<u8>) -> Result<(), AllocError>
-    ensures { OnOk result (line.new.items ≡ line.old.items ++ detail_of denial.now) }
-{
-    match denial {
-        Denial::BadHeader { octet }
-        | Denial::BadOption { octet }
-        | Denial::UnknownDoi { octet }
-        | Denial::TagNotAllowed { octet }
-        | Denial::AlreadyLabelled { octet } => write_octet(*octet, line),
-        Denial::CategoryUnmapped { category } => {
-            line.extend_from_slice(b" category ")?;
-            write_decimal(u64::from(*category), line)
-        }
-        Denial::NotCrossable { cause } => {
-            line.extend_from_slice(b" ")?;
-            line.extend_from_slice(cause_name(*cause).as_bytes())
-        }
-        _ => Ok(()),
+    match waiting.extend_from_slice(text) {
+        Ok(()) => true,
+        Err(_) => false,
     }
 }
 
-/// Appends the octet at fault.
-fn write_octet(octet: usize, line: &mut Vec<u8>) -> Result<(), AllocError>
-    ensures { OnOk result (line.new.items ≡ line.old.items ++ octet_detail octet) }
-{
-    line.extend_from_slice(b" octet ")?;
-    write_decimal(octet as u64, line)
-}
+impl Report {
+    /// An empty report. It takes no memory.
+    pub(crate) fn new(alloc: Global) -> Report
+        ensures { result.waiting.items ≡ [] }
+    {
+        Report {
+            waiting: Vec::new(alloc),
+        }
+    }
 
-/// Prints a whole line, and tells how the call ends that is to end so. A write that fails ends it otherwise only where
-/// nothing else has decided before.
-pub(crate) fn print<S: Sink>(out: &mut S, line: &[u8], ending: Ending) -> Ending
-    ensures prints { Prints (S.tells out.old) line.now ending result (S.written out.old) (S.written out.new) (S.faults out.old) (S.faults out.new) }
-    ensures told { S.tells out.new ≡ S.tells out.old }
-{
-    match write_all_to(out, line) {
-        Ok(()) => ending,
-        Err(IoFault::OutOfMemory) => Ending::OutOfMemory,
-        Err(IoFault::Failed) => ending.after_write_fault(),
+    /// Hands all that waits on.
+    pub(crate) fn flush<S: Sink>(&mut self, out: &mut S) -> Result<(), IoFault>
+        ensures hands { HandsOn [] self.old.waiting.items self.new.waiting.items result (S.state out.old) (S.state out.new) }
+        ensures empty { OnOk result (self.new.waiting.items ≡ []) }
+    {
+        write_all_to(out, &self.waiting)?;
+        self.waiting.clear();
+        Ok(())
+    }
+
+    /// Hands what waits on where it has grown to a piece.
+    pub(crate) fn pass<S: Sink>(&mut self, out: &mut S) -> Result<(), IoFault>
+        ensures { HandsOn [] self.old.waiting.items self.new.waiting.items result (S.state out.old) (S.state out.new) }
+    {
+        if self.waiting.len() < PIECE {
+            return Ok(());
+        }
+        self.flush(out)
+    }
+
+    /// Adds a text behind what waits. Where there is no memory for it, both are handed on at once.
+    pub(crate) fn print<S: Sink>(&mut self, out: &mut S, text: &[u8]) -> Result<(), IoFault>
+        ensures { HandsOn text.now self.old.waiting.items self.new.waiting.items result (S.state out.old) (S.state out.new) }
+    {
+        if add(&mut self.waiting, text) {
+            return self.pass(out);
+        }
+        self.flush(out)?;
+        write_all_to(out, text)
+    }
+
+    /// Prints what waits and the last line of a report, none of it being left out, and tells how a call ends that is to
+    /// end so. Where it can't be printed, an event that came first keeps its status.
+    pub(crate) fn end<S: Sink>(self, out: &mut S, last: &[u8], status: Status) -> Status
+        ensures { Printed (self.waiting.items ++ last.now) status result (S.state out.old) (S.state out.new) }
+    {
+        let mut report = self;
+        match report.print_all(out, last) {
+            Ok(()) => status,
+            Err(IoFault::OutOfMemory) => Status::OutOfMemory,
+            Err(IoFault::Failed) => status.after_write_fault(),
+        }
+    }
+
+    /// Adds a text behind what waits, and hands all of it on.
+    fn print_all<S: Sink>(&mut self, out: &mut S, text: &[u8]) -> Result<(), IoFault>
+        ensures { HandsOn text.now self.old.waiting.items [] result (S.state out.old) (S.state out.new) }
+    {
+        self.print(out, text)?;
+        self.flush(out)
     }
 }

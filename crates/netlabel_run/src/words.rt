@@ -1,58 +1,63 @@
 //! The words of the command line.
 
-ghost use Rattle.std.specs.Prelude.{◌≡◌, ◌≢◌, ◌<◌, ◌≤◌, ◌↔◌, ℕ, IsTrue, IfOk, IfErr, IfSome, IfNone, OnErr, length, slice_index, All};
+ghost use Rattle.std.specs.Prelude.{◌≡◌, ◌≢◌, ◌<◌, ◌≤◌, ◌↔◌, ℕ, IsTrue, IfSome, IfNone, length, slice_index, All};
 ghost use Rattle.std.specs.Fmt.{decimal};
 ghost use Rattle.mls_label.specs.declared.label.Label.{Label as LabelValue};
-ghost use Rattle.netlabel_run.specs.Command.{Asks, AsksBy, NoneAsks};
-ghost use Rattle.netlabel_run.specs.Words.{texts_of, AsksToJudge, IsForm, IsFileName, IsDoi};
+ghost use Rattle.netlabel_run.specs.Words.{texts_of, IsAsked, IsFileName, IsDoi, IsLevel};
+ghost use Rattle.netlabel_run.specs.inside.Reading.{IsAskedBy};
 
+use crate::command::{Command, FileName, Level};
 use decimal_text::read_decimal;
 use mls_label::Label;
-use mls_range::read_label;
+use mls_range::read_label_into;
 
-/// `judge`: one raw packet, received by a receiver of this level whose node knows this DOI alone.
-#[derive(Debug, Drop)]
-pub(crate) struct Judge<'a> {
-    pub doi: u32,
-    pub level: Label,
-    pub file: &'a str,
-}
-
-/// The words are none of the forms.
-#[derive(Clone, Copy, Debug, PartialEq, Eq)]
-pub(crate) struct NoForm;
-
-/// Reads the words, without the program's name.
-pub(crate) fn read_words(words: &[String]) -> Result<Judge<'_>, NoForm>
-    ensures ok { IfOk result (Asks (texts_of words.now)) }
-    ensures no_form { OnErr result (IsForm (texts_of words.now) → ⊥) }
+/// Reads the words, without the program's name. The label that is lent takes the level, where they have one.
+pub(crate) fn read_words<'a>(words: &'a [String], label: &'a mut Label) -> Option<Command<'a>>
+    ensures { IsAsked (texts_of words.now) result }
 {
     match words {
         [command, doi, level, file] => {
             if command.as_str() == "judge" {
-                read_judge(doi, level, file)
+                read_judge(doi, level, file, label)
             } else {
-                Err(NoForm)
+                None
             }
         }
-        _ => Err(NoForm),
+        _ => None,
     }
 }
 
 /// Reads the words behind `judge`.
-fn read_judge<'a>(doi: &str, level: &str, file: &'a str) -> Result<Judge<'a>, NoForm>
-    ensures ok { IfOk result (AsksBy doi.now level.now file.now) }
-    ensures no_form { OnErr result (NoneAsks doi.now level.now file.now) }
+fn read_judge<'a>(
+    doi: &str,
+    level: &str,
+    file: &'a str,
+    label: &'a mut Label,
+) -> Option<Command<'a>>
+    ensures { IsAskedBy doi.now level.now file.now result }
 {
-    let Some(doi) = read_doi(doi) else {
-        return Err(NoForm);
-    };
+    let doi = read_doi(doi)?;
     if !is_file_name(file) {
-        return Err(NoForm);
+        return None;
     }
-    match read_label(level.as_bytes()) {
-        Ok(level) => Ok(Judge { doi, level, file }),
-        Err(_fault) => Err(NoForm),
+    if !read_level(level, label) {
+        return None;
+    }
+    Some(Command::Judge {
+        doi,
+        level: Level::new(label),
+        file: FileName::new(file),
+    })
+}
+
+/// Reads a level into the label that is lent, which is any label where the text is none.
+fn read_level(text: &str, label: &mut Label) -> bool
+    ensures yes { IsTrue result → IsLevel text.now label.new }
+    ensures no { (level : LabelValue) → IsLevel text.now level → IsTrue result }
+{
+    match read_label_into(text.as_bytes(), label) {
+        Ok(()) => true,
+        Err(_fault) => false,
     }
 }
 

@@ -1,6 +1,7 @@
 use Rattle.std.proofs.Common.{◌≡◌, ◌++◌, set, subst, ap, sym, ◌∙◌, refl}
 use Rattle.net_io.specs.Depot.{octets_of, NowHolds}
-use Rattle.net_io.specs.Folder.{held_in, IsPlaceOf}
+use Rattle.net_io.specs.Folder.{held_in}
+use Rattle.net_io.specs.inside.Place.{IsPlaceOf}
 use Rattle.std.proofs.lemmas.Result.{err_from_is_err_and}
 use Rattle.net_io.specs.declared.folder.NamedFile.{NamedFile}
 use Rattle.net_io.proofs.Places.{held_in-place, holds-set, same_held-set}

@@ -1,6 +1,6 @@
 use Rattle.std.proofs.Common.{◌≡◌, ◌+◌, ◌++◌, [], ◌∷◌, take, subst, sym, ◌∙◌, ap, arith, false, bytes_eq, string_bytes}
 use Rattle.std.proofs.lemmas.List.{take_more, take_all}
-use Rattle.net_io.specs.Folder.{IsElsewhere}
+use Rattle.net_io.specs.inside.Place.{IsElsewhere}
 use Rattle.net_io.proofs.Places.{elsewhere_more, held_in-elsewhere}
 use Rattle.net_io.proofs.folder.place_of.Goals as goal
 

@@ -1,5 +1,5 @@
 use Rattle.std.proofs.Common.{take}
-use Rattle.net_io.specs.Folder.{IsElsewhere}
+use Rattle.net_io.specs.inside.Place.{IsElsewhere}
 use Rattle.net_io.proofs.folder.place_of.Given as goal
 
 -- none of the files so far has the name

@@ -1,5 +1,6 @@
 use Rattle.std.proofs.Common.{◌≡◌, None, subst}
-use Rattle.net_io.specs.Folder.{held_in, IsPlaceOf}
+use Rattle.net_io.specs.Folder.{held_in}
+use Rattle.net_io.specs.inside.Place.{IsPlaceOf}
 use Rattle.net_io.proofs.Places.{holds-set, holds-push}
 use Rattle.net_io.proofs.folder.put_file.Goals as goal
 

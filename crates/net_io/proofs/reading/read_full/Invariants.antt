@@ -1,6 +1,6 @@
-use Rattle.std.proofs.Common.{◌≡◌, ◌<◌, ◌+◌, ◌-◌, ◌^◌, IsTrue, IsSome, length}
-use Rattle.net_io.specs.Depot.{IsRead, ChangesFirst, SameHeld}
-use Rattle.net_io.specs.Faults.{SameCounts}
+use Rattle.std.proofs.Common.{◌<◌, ◌+◌, ◌-◌, ◌^◌, ℕ, IsTrue, IsSome, length, Ok}
+use Rattle.net_io.specs.Depot.{IsRead, ChangesFirst, OnlyReads}
+use Rattle.net_io.specs.declared.fault.IoFault.TheVariants.{Failed}
 use Rattle.net_io.proofs.reading.read_full.Given as goal
 
 abbrev pub decreases-loop-done : goal.decreases-loop-done
@@ -8,15 +8,11 @@ decreases-loop-done g l = length l.initial.buf - l.done
 
 abbrev pub invariant-loop-done : goal.invariant-loop-done
 invariant-loop-done g l =
-    let depot = g.D.Depot in
+    let before = g.D.Depot.state l.initial.depot in
     record {
       place : l.at + l.done < 2 ^ 64;
       rest : ChangesFirst l.done l.initial.buf l.buf;
-      octets : IsTrue (depot.tells l.initial.depot) → IsRead (depot.held l.initial.depot l.name) l.at l.done l.buf;
-      present : IsTrue (depot.tells l.initial.depot) → 0 < l.done → IsSome (depot.held l.initial.depot l.name);
-      kept : IsTrue (depot.tells l.initial.depot) → SameHeld (depot.held l.initial.depot) (depot.held l.depot);
-      told : depot.tells l.depot ≡ depot.tells l.initial.depot;
-      reads : SameCounts (depot.read_faults l.initial.depot) (depot.read_faults l.depot);
-      creates : SameCounts (depot.create_faults l.initial.depot) (depot.create_faults l.depot);
-      appends : SameCounts (depot.append_faults l.initial.depot) (depot.append_faults l.depot);
+      octets : IsTrue before.tells → IsRead (before.held l.name) l.at l.done l.buf;
+      present : IsTrue before.tells → 0 < l.done → IsSome (before.held l.name);
+      frame : OnlyReads {T = ℕ} Failed (Ok 0) l.name before (g.D.Depot.state l.depot);
     }

@@ -4,7 +4,7 @@ use Rattle.net_io.proofs.writing.write_all_to.Goals as goal
 
 pub loop-done-preserved : goal.loop-done-preserved
 loop-done-preserved g c =
-    let before = g.S.Sink.written c.args.sink.now in
+    let before = (g.S.Sink.state c.args.sink.now).written in
     let bytes = c.args.bytes.now in
     let done = c.loop-done.done in
     let n = c.in_ok-done.field-0 in

@@ -6,10 +6,11 @@ decreases-loop-done g l = length l.bytes - l.done
 
 abbrev pub invariant-loop-done : goal.invariant-loop-done
 invariant-loop-done g l =
-    let sink = g.S.Sink in
+    let before = g.S.Sink.state l.initial.sink in
+    let now = g.S.Sink.state l.sink in
     record {
       within : l.done ≤ length l.bytes;
-      written : IsTrue (sink.tells l.initial.sink) → sink.written l.sink ≡ sink.written l.initial.sink ++ take l.done l.bytes;
-      told : sink.tells l.sink ≡ sink.tells l.initial.sink;
-      counted : sink.faults l.sink ≡ sink.faults l.initial.sink;
+      written : IsTrue before.tells → now.written ≡ before.written ++ take l.done l.bytes;
+      told : now.tells ≡ before.tells;
+      counted : now.faults ≡ before.faults;
     }

@@ -1,31 +1,63 @@
-use Rattle.std.proofs.Common.{◌≤◌, length, ap, refl, subst, sym, inl, inr, arith}
-use Rattle.net_io.specs.Depot.{octets_of}
-use Rattle.netlabel_run.specs.declared.ending.Ending.TheVariants.{Done, Limit}
-use Rattle.netlabel_run.specs.Report.{ReportsJudge, too_long, judged, packet_limit_line}
-use Rattle.netlabel_run.proofs.Endings.{ends_printed, only_too_long, only_judged, is_there}
+use Rattle.std.proofs.Common.{◌≤◌, length, ap, refl, sym, subst, inl, arith, [], ◌∷◌, Some}
+use Rattle.std.specs.Prelude.{Contains}
+use Rattle.netlabel_run.specs.declared.command.Command.TheVariants.{Judge}
+use Rattle.netlabel_run.specs.declared.status.Status.TheVariants.{Done, Limit}
+use Rattle.netlabel_run.specs.Line.{verdict_line}
+use Rattle.netlabel_run.specs.Report.{late_report, packet_limit_line}
+use Rattle.netlabel_run.specs.Stages.{reading_stage}
+use Rattle.netlabel_run.specs.Outside.{Outside}
+use Rattle.netlabel_run.proofs.Endings.{ends_printed, ends_unread, ends_unprinted}
+use Rattle.netlabel_run.proofs.Requests.{knows_judge, limit_due, verdict_due, quiet}
 use Rattle.netlabel_run.proofs.judge.judge.Goals as goal
 
-pub returns-in-Err-TooLong-clause-ends : goal.returns-in-Err-TooLong-clause-ends
-returns-in-Err-TooLong-clause-ends g c =
-    let file = g.D.Depot.held c.args.depot.now c.args.file.now in
-    let clauses = rw c.in-Err-TooLong.field-0-is at c.in-Err-TooLong.ensures.too_long in
-    let unmoved = rw c.in-Err-TooLong.field-0-is at c.in-Err-TooLong.ensures.uncounted in
-    ends_printed (ReportsJudge c.args.doi c.args.level.now file) (g.D.Depot.tells c.args.depot.now) (g.S.Sink.tells c.args.out.now) Limit c.print.result packet_limit_line _ _ _ _ _ _
-    (inr (inr refl))
-    (λ told. too_long (octets_of file) (is_there file (clauses refl told)) (clauses refl told))
-    (λ told n text r. only_too_long c.args.doi c.args.level.now (octets_of file) file n text (is_there file (clauses refl told)) (clauses refl told) r)
-    (unmoved refl c.args.file.now)
-    (rw c.packet_limit.ensures at c.print.ensures.prints)
+pub returns-in-Err-TooLong : goal.returns-in-Err-TooLong
+returns-in-Err-TooLong g c =
+    let file = c.args.file.now in
+    let before : Outside = record { folder = g.D.Depot.state c.args.depot.now; stream = g.S.Sink.state c.args.out.now } in
+    let after : Outside = record { folder = g.D.Depot.state c.read_whole.new.depot; stream = g.S.Sink.state c.end.new.out } in
+    let clauses = rw c.in-Err-TooLong.field-0-is at c.in-Err-TooLong.ensures in
+    let printed = rw (c.new.ensures, c.packet_limit.ensures) at c.end.ensures in
+    ends_printed (Some (Judge c.args.doi c.args.level.now file)) before after (reading_stage file ∷ [])
+    (knows_judge c.args.doi c.args.level.now file before _ _ after c.in-Err-TooLong.ensures.frame printed.told)
+    Limit (late_report [] packet_limit_line) (limit_due c.args.doi c.args.level.now file before (clauses.too_long refl)) c.end.result (clauses.uncounted refl) printed
 
-pub returns-in-Ok-judge_line-clause-ends : goal.returns-in-Ok-judge_line-clause-ends
-returns-in-Ok-judge_line-clause-ends g c =
-    let file = g.D.Depot.held c.args.depot.now c.args.file.now in
+pub returns-in-Err-Failed : goal.returns-in-Err-Failed
+returns-in-Err-Failed g c =
+    let file = c.args.file.now in
+    let before : Outside = record { folder = g.D.Depot.state c.args.depot.now; stream = g.S.Sink.state c.args.out.now } in
+    let after : Outside = record { folder = g.D.Depot.state c.read_whole.new.depot; stream = g.S.Sink.state c.args.out.now } in
+    let clauses = rw c.in-Err-Failed.field-0-is at c.in-Err-Failed.ensures in
+    ends_unread (Some (Judge c.args.doi c.args.level.now file)) before after (reading_stage file ∷ [])
+    (knows_judge c.args.doi c.args.level.now file before _ _ after c.in-Err-Failed.ensures.frame refl)
+    (λ e. cc) (record { name = file; counted = inl refl; rose = clauses.frame.reads.cause refl }) refl
+    (λ report has. subst (λ pauses. Contains pauses []) (sym (quiet c.args.doi c.args.level.now file before _ report has)) (0, omega arith, refl))
+
+pub returns-in-Err-OutOfMemory : goal.returns-in-Err-OutOfMemory
+returns-in-Err-OutOfMemory g c =
+    let file = c.args.file.now in
+    let before : Outside = record { folder = g.D.Depot.state c.args.depot.now; stream = g.S.Sink.state c.args.out.now } in
+    let after : Outside = record { folder = g.D.Depot.state c.read_whole.new.depot; stream = g.S.Sink.state c.args.out.now } in
+    ends_unprinted (Some (Judge c.args.doi c.args.level.now file)) before after (reading_stage file ∷ [])
+    (knows_judge c.args.doi c.args.level.now file before _ _ after c.in-Err-OutOfMemory.ensures.frame refl) refl
+
+pub returns-in-Ok-verdict_report : goal.returns-in-Ok-verdict_report
+returns-in-Ok-verdict_report g c =
+    let file = c.args.file.now in
+    let before : Outside = record { folder = g.D.Depot.state c.args.depot.now; stream = g.S.Sink.state c.args.out.now } in
+    let after : Outside = record { folder = g.D.Depot.state c.read_whole.new.depot; stream = g.S.Sink.state c.end-in-Ok-verdict_report.new.out } in
     let octets = c.in-Ok.octets.items in
     let short : length octets ≤ 65575 = omega (arith, c.in-Ok.ensures.most, c.deref.ensures.len, ap length c.deref.ensures.value) in
-    let found = c.in-Ok-judge_line.ensures in
-    ends_printed (ReportsJudge c.args.doi c.args.level.now file) (g.D.Depot.tells c.args.depot.now) (g.S.Sink.tells c.args.out.now) Done c.print-in-Ok-judge_line.result c.in-Ok-judge_line.line.items _ _ _ _ _ _
-    (inl refl)
-    (λ told. subst (λ line. ReportsJudge c.args.doi c.args.level.now file 0 line) (sym found.2) (judged octets found.0 (c.in-Ok.ensures.whole told) short (rw c.deref.ensures.value at found.1)))
-    (λ told n text r. only_judged c.args.doi c.args.level.now octets file n text (c.in-Ok.ensures.whole told) short r)
-    (c.in-Ok.ensures.reads.ok c.args.file.now)
-    (rw c.deref-in-Ok-judge_line.ensures.value at c.print-in-Ok-judge_line.ensures.prints)
+    let found = c.in-Ok-verdict_report.ensures in
+    let printed = rw found.2 at c.end-in-Ok-verdict_report.ensures in
+    ends_printed (Some (Judge c.args.doi c.args.level.now file)) before after (reading_stage file ∷ [])
+    (knows_judge c.args.doi c.args.level.now file before _ _ after c.in-Ok.ensures.frame printed.told)
+    Done (late_report (verdict_line found.0) []) (verdict_due c.args.doi c.args.level.now file before octets found.0 c.in-Ok.ensures.whole short (rw c.deref.ensures.value at found.1))
+    c.end-in-Ok-verdict_report.result c.in-Ok.ensures.frame.reads.ok printed
+
+pub returns : goal.returns
+returns g c =
+    let file = c.args.file.now in
+    let before : Outside = record { folder = g.D.Depot.state c.args.depot.now; stream = g.S.Sink.state c.args.out.now } in
+    let after : Outside = record { folder = g.D.Depot.state c.read_whole.new.depot; stream = g.S.Sink.state c.args.out.now } in
+    ends_unprinted (Some (Judge c.args.doi c.args.level.now file)) before after (reading_stage file ∷ [])
+    (knows_judge c.args.doi c.args.level.now file before _ _ after c.in-Ok.ensures.frame refl) refl

@@ -1,9 +1,8 @@
 use Rattle.std.proofs.Common.{◌≡◌, ◌∙◌, sym, ◌∷◌, []}
 use Rattle.std.specs.Prelude.{codes, string_bytes}
-use Rattle.std.proofs.lemmas.Result.{on_err_weaker}
 use Rattle.std.proofs.lemmas.Slice.Eq.{bytes_eq-Decides}
 use Rattle.netlabel_run.specs.Words.{texts_of}
-use Rattle.netlabel_run.proofs.Commands.{four_texts, asks_all_ok, no_form}
+use Rattle.netlabel_run.proofs.Commands.{four_texts, asks_all}
 use Rattle.netlabel_run.proofs.words.read_words.Goals as goal
 
 -- the words are `judge` and the three texts that were passed on
@@ -16,10 +15,6 @@ are_judge c =
     let f = c.deref-then-eq-2.ensures in
     cc
 
-pub returns-then-eq-clause-ok : goal.returns-then-eq-clause-ok
-returns-then-eq-clause-ok c =
-    asks_all_ok (texts_of c.args.words.now) c.deref.result.now c.deref-then-eq.result.now c.deref-then-eq-2.result.now c.read_judge.result (are_judge c) c.read_judge.ensures.ok
-
-pub returns-then-eq-clause-no_form : goal.returns-then-eq-clause-no_form
-returns-then-eq-clause-no_form c =
-    on_err_weaker c.read_judge.result (no_form (texts_of c.args.words.now) c.deref.result.now c.deref-then-eq.result.now c.deref-then-eq-2.result.now (are_judge c)) c.read_judge.ensures.no_form
+pub returns-then-eq : goal.returns-then-eq
+returns-then-eq c =
+    asks_all (texts_of c.args.words.now) c.deref.result.now c.deref-then-eq.result.now c.deref-then-eq-2.result.now c.read_judge.result (are_judge c) c.read_judge.ensures

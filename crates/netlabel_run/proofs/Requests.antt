@@ -1,0 +1,95 @@
+-- What `judge`, and words that are no form, know at their end.
+use Rattle.std.proofs.Common.{◌≡◌, ◌<◌, ◌≤◌, ℕ, zero, suc, replicate, List, [], ◌∷◌, length, refl, sym, ap, subst, arith, inl, inr, Option, Some, None, Result}
+use Rattle.std.specs.Prelude.{IsTrue}
+use Rattle.std.specs.List.{All}
+use Rattle.std.proofs.lemmas.List.{length-replicate}
+use Rattle.mls_label.specs.declared.label.Label.{Label}
+use Rattle.net_io.specs.Depot.{octets_of, OnlyReads}
+use Rattle.netlabel_run.specs.declared.command.Command.TheVariants.{Judge}
+use Rattle.netlabel_run.specs.declared.status.Status.TheVariants.{Done, NoForm, Limit}
+use Rattle.netlabel_run.specs.Verdict.{Verdict, IsVerdict}
+use Rattle.netlabel_run.specs.Line.{verdict_line}
+use Rattle.netlabel_run.specs.Report.{Report, JudgeReport, absent, too_long, judged, late_report, packet_limit, packet_limit_line, usage_line}
+use Rattle.netlabel_run.specs.Status.{JudgeStatus}
+use Rattle.netlabel_run.specs.Stages.{reading_stage}
+use Rattle.netlabel_run.specs.Outside.{Outside}
+use Rattle.netlabel_run.proofs.Endings.{Knows, IsDue}
+
+-- a file with more octets than none is there
+is_there : (file : Option (List ℕ)) → packet_limit < length (octets_of file) → file ≡ Some (octets_of file)
+is_there None long = absurd (omega arith)
+is_there (Some octets) long = refl
+
+-- one stage, which has no output
+reads_alone : (file : List ℕ) → All (λ stage. stage.output ≡ None) (reading_stage file ∷ [])
+reads_alone file zero d within = refl
+reads_alone file (suc k) d within = absurd (omega (arith, within))
+
+pub knows_usage : (before after : Outside) → after.folder ≡ before.folder → after.stream.tells ≡ before.stream.tells → Knows None before after []
+knows_usage before after same told = record {
+  begun = record { content = before.folder.held; told = λ _ name. refl; are = refl; flows = refl };
+  none = λ k d within. absurd (omega (arith, within));
+  lawful = refl;
+  whole = refl;
+  kept = λ _ name. ap (λ folder. folder.held name) same;
+  creates = λ name. ap (λ folder. folder.creates name) same;
+  appends = λ name. ap (λ folder. folder.appends name) same;
+  folder_told = ap (λ folder. folder.tells) same;
+  stream_told = told;
+}
+
+pub usage_due : (before : Outside) → IsDue None before NoForm (late_report [] usage_line)
+usage_due before = record {
+  event = (λ e. omega (arith, e), λ e. omega (arith, e), λ e. omega (arith, e));
+  form = λ e. refl;
+  usage = λ e. refl;
+  has = λ told. refl;
+  may = (λ name. None, refl);
+  reports = λ told. refl;
+  last = λ e. absurd cc;
+}
+
+module _ (doi : ℕ) (level : Label) (file : List ℕ) (before : Outside) where
+  pub knows_judge : {T E : Type 0} (failed : E) (result : Result T E) (after : Outside) → OnlyReads {T = T} {E = E} failed result file before.folder after.folder
+      → after.stream.tells ≡ before.stream.tells → Knows (Some (Judge doi level file)) before after (reading_stage file ∷ [])
+  knows_judge failed result after reads told = record {
+    begun = record { content = before.folder.held; told = λ _ name. refl; are = refl; flows = refl };
+    none = reads_alone file;
+    lawful = refl;
+    whole = refl;
+    kept = reads.kept;
+    creates = reads.creates;
+    appends = reads.appends;
+    folder_told = reads.told;
+    stream_told = told;
+  }
+
+  pub limit_due : (IsTrue before.folder.tells → packet_limit < length (octets_of (before.folder.held file)))
+      → IsDue (Some (Judge doi level file)) before Limit (late_report [] packet_limit_line)
+  limit_due long = record {
+    event = (λ e. omega (arith, e), λ e. omega (arith, e), λ e. omega (arith, e));
+    form = λ e. absurd (omega (arith, e));
+    usage = λ e. absurd cc;
+    has = λ told. subst (λ held. JudgeStatus held 7) (sym (is_there (before.folder.held file) (long told))) (inl (long told, refl));
+    may = (λ name. Some (replicate 65576 0), inl (omega (arith, length-replicate {A = ℕ} 65576 0), refl));
+    reports = λ told. subst (λ held. JudgeReport doi level held (late_report [] packet_limit_line)) (sym (is_there (before.folder.held file) (long told))) (too_long _ (long told));
+    last = λ e. absurd cc;
+  }
+
+  pub verdict_due : (octets : List ℕ) (verdict : Verdict) → (IsTrue before.folder.tells → before.folder.held file ≡ Some octets) → length octets ≤ packet_limit
+      → IsVerdict doi level octets verdict → IsDue (Some (Judge doi level file)) before Done (late_report (verdict_line verdict) [])
+  verdict_due octets verdict holds short is = record {
+    event = (λ e. omega (arith, e), λ e. omega (arith, e), λ e. omega (arith, e));
+    form = λ e. absurd (omega (arith, e));
+    usage = λ e. absurd cc;
+    has = λ told. subst (λ held. JudgeStatus held 0) (sym (holds told)) (inr (short, refl));
+    may = (λ name. Some [], inr (omega arith, refl));
+    reports = λ told. subst (λ held. JudgeReport doi level held (late_report (verdict_line verdict) [])) (sym (holds told)) (judged octets verdict short is);
+    last = λ e. refl;
+  }
+
+  -- every report of `judge` has nothing in front of its read
+  pub quiet : (held : Option (List ℕ)) (report : Report) → JudgeReport doi level held report → report.pauses ≡ [] ∷ []
+  quiet None report absent = refl
+  quiet (Some octets) report (too_long o long) = refl
+  quiet (Some octets) report (judged o verdict short is) = refl

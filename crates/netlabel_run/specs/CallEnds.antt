@@ -1,0 +1,100 @@
+-- How a call ends: what was asked for, what it finds outside and leaves there, its status, and the versions that it printed.
+use Rattle.std.specs.Prelude.{ℕ, ◌≡◌, ◌≢◌, ◌⊎◌, ◌<◌, ◌++◌, IsTrue, List, [], length, take, drop, Contains, Option, Some, None}
+use Rattle.std.specs.List.{All}
+use Rattle.net_io.specs.Depot.{DepotState, SameHeld}
+use Rattle.net_io.specs.Faults.{SameCounts}
+use Rattle.net_io.specs.Sink.{WritesPrefix, WritesLess}
+use Rattle.netlabel_run.specs.declared.command.Command.{Command}
+use Rattle.netlabel_run.specs.Report.{Folder, Versions, Report, report_text, HasReport, IsQuiet}
+use Rattle.netlabel_run.specs.Status.{HasStatus, IsRefusal}
+use Rattle.netlabel_run.specs.Stages.{Stage, Output, HasStages}
+use Rattle.netlabel_run.specs.Seen.{IsLawful, IsWhole}
+use Rattle.netlabel_run.specs.Outside.{Outside, ReadRose, CreateRose, AppendRose, WriteRose, CountRose, NoneFailed}
+
+-- nothing was refused: the status is 0, or no counted number rose and memory sufficed
+abbrev pub IsClean : List Stage → Outside → Outside → ℕ → Type 0
+IsClean stages before after status = (status ≡ 0) ⊎ ((status ≢ 6) × (CountRose stages before after → ⊥))
+
+-- What was asked for, and the folder where it tells what it holds, say of the status.
+pub record EndsWith (request : Option Command) (before after : Outside) (status : ℕ) (stages : List Stage) : Type 0 where
+  -- the status is the one that is due, or a refusal's; where the folder tells nothing, it is due over some content
+  pub due : IsTrue before.folder.tells → HasStatus request before.folder.held status ⊎ IsRefusal status
+  pub possible : ((held : Folder) × HasStatus request held status) ⊎ IsRefusal status
+  -- 1: exactly where the words are no form, but for want of memory
+  pub no_form : status ≡ 1 → request ≡ None
+  pub usage : request ≡ None → (status ≡ 1) ⊎ (status ≡ 6)
+  -- 3 and 4: only where a counted number rose in this call
+  pub read_fault : status ≡ 3 → ReadRose stages before after ⊎ CreateRose stages before after
+  pub write_fault : status ≡ 4 → WriteRose before after ⊎ AppendRose stages before after
+  -- 0: only where nothing has failed
+  pub unmoved : status ≡ 0 → NoneFailed before after
+
+-- The stages that a call has begun which printed these versions, by what the folder tells, or by what it may hold where it tells nothing; behind the first there is one for each flow.
+pub record HasBegun (request : Option Command) (folder : DepotState) (seen : Versions) (stages : List Stage) : Type 0 where
+  pub content : Folder
+  pub told : IsTrue folder.tells → SameHeld folder.held content
+  pub are : HasStages request content seen stages
+  pub flows : length (drop 1 stages) ≡ length seen
+
+-- a write has failed in the body of a report, before the event that decides
+pub record StopsInBody (request : Option Command) (before after : Outside) (seen : Versions) : Type 0 where
+  pub report : Report
+  pub has : HasReport request before.folder.held seen report
+  pub some : 0 < length report.body
+  pub part : IsTrue before.stream.tells → WritesLess report.body before.stream.written after.stream.written
+
+-- this text stands behind what was written
+abbrev pub IsWritten : List ℕ → Outside → Outside → Type 0
+IsWritten text before after = after.stream.written ≡ before.stream.written ++ text
+
+-- What was printed, where the folder tells what it holds.
+pub record Prints (request : Option Command) (before after : Outside) (status : ℕ) (seen : Versions) (stages : List Stage) : Type 0 where
+  -- the whole report, where nothing was refused
+  pub whole : IsTrue before.stream.tells → IsClean stages before after status
+      → (report : Report) × HasReport request before.folder.held seen report × IsWritten (report_text report) before after
+  -- with every status nothing, or some first octets of the report
+  pub part : IsTrue before.stream.tells → IsWritten [] before after
+      ⊎ ((report : Report) × HasReport request before.folder.held seen report × WritesPrefix (report_text report) before.stream.written after.stream.written)
+  -- 3: all that may stand before a read
+  pub pause : IsTrue before.stream.tells → status ≡ 3
+      → (text : List ℕ) × IsWritten text before after × ((report : Report) → HasReport request before.folder.held seen report → Contains report.pauses text)
+  -- 4: not all that comes before the deciding event, where it was a write that failed
+  pub stop : status ≡ 4 → StopsInBody request before after seen ⊎ AppendRose stages before after
+
+-- a file holds what it held, or some first octets of what it is to hold
+abbrev pub IsBegun : Output → Folder → Folder → Type 0
+IsBegun output old new = (new output.name ≡ old output.name)
+    ⊎ ((octets : List ℕ) × (count : ℕ) × (output.octets ≡ Some octets) × (new output.name ≡ Some (take count octets)))
+
+-- a file holds all that it is to hold, or what it held where it isn't made
+abbrev pub IsMade : Output → Folder → Folder → Type 0
+IsMade output old new = ((octets : List ℕ) → output.octets ≡ Some octets → new output.name ≡ Some octets)
+    × (output.octets ≡ None → new output.name ≡ old output.name)
+
+-- What the files hold, where the folder tells it: an output what was made of it, and each other name what it held.
+pub record Leaves (before after : Outside) (status : ℕ) (stages : List Stage) : Type 0 where
+  pub outputs : All (λ stage. (output : Output) → stage.output ≡ Some output → IsBegun output before.folder.held after.folder.held) stages
+  pub whole : IsClean stages before after status
+      → All (λ stage. (output : Output) → stage.output ≡ Some output → IsMade output before.folder.held after.folder.held) stages
+  pub others : (name : List ℕ) → All (λ stage. (output : Output) → stage.output ≡ Some output → output.name ≢ name) stages
+      → after.folder.held name ≡ before.folder.held name
+
+-- how a call ends
+pub record CallEnds (request : Option Command) (before after : Outside) (status : ℕ) (seen : Versions) : Type 0 where
+  pub stages : List Stage
+  pub begun : HasBegun request before.folder seen stages
+  pub ends : EndsWith request before after status stages
+  pub prints : IsTrue before.folder.tells → Prints request before after status seen stages
+  pub leaves : IsTrue before.folder.tells → Leaves before after status stages
+  pub lawful : IsTrue before.folder.tells → IsLawful request before.folder.held seen
+  pub whole : IsTrue before.folder.tells → IsClean stages before after status → IsWhole request before.folder.held seen
+  -- where nothing is printed before a read, nothing stands there with status 3, whether or not the folder tells what it holds
+  pub silent : IsTrue before.stream.tells → status ≡ 3 → IsQuiet request → after.stream.written ≡ before.stream.written
+  -- a call without an output makes nothing and appends nothing
+  pub still : All (λ stage. stage.output ≡ None) stages → SameCounts before.folder.creates after.folder.creates × SameCounts before.folder.appends after.folder.appends
+  pub folder_told : after.folder.tells ≡ before.folder.tells
+  pub stream_told : after.stream.tells ≡ before.stream.tells
+
+-- some call ends with this status
+abbrev pub MayEnd : ℕ → Type 0
+MayEnd status = (request : Option Command) × (before : Outside) × (after : Outside) × (seen : Versions) × CallEnds request before after status seen

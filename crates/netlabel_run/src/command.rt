@@ -1,0 +1,75 @@
+//! What the words of the command line ask for.
+
+use mls_label::Label;
+use std::marker::Model;
+
+/// A command with what its words name.
+#[derive(Debug, Drop)]
+pub(crate) enum Command<'a> {
+    /// `judge`: one raw packet, received by a receiver of this level whose node knows this DOI alone.
+    Judge {
+        doi: u32,
+        level: Level<'a>,
+        file: FileName<'a>,
+    },
+}
+
+/// The name of a file, as its octets.
+#[derive(Debug, Drop)]
+pub(crate) struct FileName<'a> {
+    name: &'a str,
+}
+
+impl<'a> Model for FileName<'a> {
+    ghost use Rattle.std.specs.Prelude.{List, ℕ};
+
+    ghost Value = { List ℕ };
+
+    ghost view = { λ f. f.name.now };
+}
+
+impl<'a> FileName<'a> {
+    ghost use Rattle.std.specs.Prelude.{◌≡◌};
+
+    pub(crate) fn new(name: &'a str) -> FileName<'a>
+        ensures { result ≡ name.now }
+    {
+        FileName { name }
+    }
+
+    pub(crate) fn as_str(&self) -> &'a str
+        ensures { result.now ≡ self.now }
+    {
+        self.name
+    }
+}
+
+/// A label that is lent.
+#[derive(Debug, Drop)]
+pub(crate) struct Level<'a> {
+    label: &'a Label,
+}
+
+impl<'a> Model for Level<'a> {
+    ghost use Rattle.mls_label.specs.declared.label.Label.{Label};
+
+    ghost Value = { Label };
+
+    ghost view = { λ l. l.label.now };
+}
+
+impl<'a> Level<'a> {
+    ghost use Rattle.std.specs.Prelude.{◌≡◌};
+
+    pub(crate) fn new(label: &'a Label) -> Level<'a>
+        ensures { result ≡ label.now }
+    {
+        Level { label }
+    }
+
+    pub(crate) fn label(&self) -> &'a Label
+        ensures { result.now ≡ self.now }
+    {
+        self.label
+    }
+}

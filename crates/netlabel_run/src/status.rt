@@ -1,0 +1,66 @@
+//! The status that a call ends with.
+
+ghost use Rattle.std.specs.Prelude.{◌≡◌, []};
+ghost use Rattle.netlabel_run.specs.inside.Numbers.{number_of, after_write_fault_of};
+
+use crate::outcome::{Outcome, Seen};
+use std::alloc::Global;
+
+/// How a call ends. The first of these events decides.
+#[derive(Clone, Copy, Debug, PartialEq, Eq)]
+pub(crate) enum Status {
+    /// The command was carried out and its input read to the end.
+    Done,
+    /// The words are none of the forms.
+    NoForm,
+    /// The script isn't in its grammar.
+    WrongScript,
+    /// A read of an input, or the making of an output, failed.
+    ReadFault,
+    /// A write to the stream out, or an append to an output, failed.
+    WriteFault,
+    /// A capture isn't in its grammar.
+    WrongCapture,
+    OutOfMemory,
+    /// A limit is passed.
+    Limit,
+}
+
+impl Status {
+    /// The number that the program ends with.
+    pub(crate) fn number(self) -> u8
+        ensures { result ≡ number_of self }
+    {
+        match self {
+            Status::Done => 0,
+            Status::NoForm => 1,
+            Status::WrongScript => 2,
+            Status::ReadFault => 3,
+            Status::WriteFault => 4,
+            Status::WrongCapture => 5,
+            Status::OutOfMemory => 6,
+            Status::Limit => 7,
+        }
+    }
+
+    /// How a call has ended that has no flows.
+    pub(crate) fn outcome(self, alloc: Global) -> Outcome
+        ensures status { result.status ≡ number_of self }
+        ensures seen { result.seen ≡ [] }
+    {
+        Outcome {
+            status: self.number(),
+            seen: Seen::none(alloc),
+        }
+    }
+
+    /// The status where printing its report has failed: an event that came first keeps its own.
+    pub(crate) fn after_write_fault(self) -> Status
+        ensures { result ≡ after_write_fault_of self }
+    {
+        match self {
+            Status::Done => Status::WriteFault,
+            event => event,
+        }
+    }
+}
