@@ -1,0 +1,9 @@
+pub mod Lookups
+pub mod Walks
+pub mod Translations
+pub mod Sorting
+pub mod Kept
+pub mod Tables
+pub mod Back
+pub mod Going
+pub mod Law

@@ -1,0 +1,6 @@
+pub mod Pairs
+pub mod Definition
+pub mod Translation
+pub mod GoesBy
+pub mod Table
+pub mod inside
