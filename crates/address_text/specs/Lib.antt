@@ -1,0 +1,5 @@
+pub mod Name
+pub mod Number
+pub mod Address
+pub mod Prefix
+pub mod inside

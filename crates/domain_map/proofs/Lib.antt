@@ -1,0 +1,5 @@
+pub mod Ranks
+pub mod Longests
+pub mod Lookups
+pub mod Rules
+pub mod Interfaces

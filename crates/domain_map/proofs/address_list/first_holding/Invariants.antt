@@ -1,0 +1,16 @@
+use Rattle.std.proofs.Common.{◌≡◌, length, find, map}
+use Rattle.address_text.specs.Prefix.{holds}
+use Rattle.domain_map.specs.declared.order.Ranked.{Ranked}
+use Rattle.domain_map.specs.inside.Order.{Tells}
+use Rattle.domain_map.specs.inside.Ranking.{passes_at}
+use Rattle.domain_map.proofs.address_list.first_holding.Given as goal
+
+-- nothing so far passes
+abbrev pub invariant-loop-rest : goal.invariant-loop-rest
+invariant-loop-rest l = let test = λ (r : Ranked). passes_at (λ e. holds e.0 l.address) l.entries r.place in record {
+  tells : Tells (map (λ e. e.0.bits) l.entries) l.rest;
+  found : find test l.order ≡ find test l.rest;
+}
+
+abbrev pub decreases-loop-rest : goal.decreases-loop-rest
+decreases-loop-rest l = length l.rest

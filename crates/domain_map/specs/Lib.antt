@@ -1,0 +1,6 @@
+pub mod Protocol
+pub mod Longest
+pub mod Addresses
+pub mod Domains
+pub mod Statics
+pub mod inside

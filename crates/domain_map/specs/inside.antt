@@ -1,0 +1,4 @@
+pub mod Order
+pub mod Ranking
+pub mod Fewer
+pub mod Ordered
