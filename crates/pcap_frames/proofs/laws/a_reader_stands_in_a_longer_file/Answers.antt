@@ -1,0 +1,5 @@
+use Rattle.pcap_frames.proofs.Law.{a_reader_stands_in_a_longer_file}
+use Rattle.pcap_frames.proofs.laws.a_reader_stands_in_a_longer_file.Goals as goal
+
+pub returns : goal.returns
+returns c = a_reader_stands_in_a_longer_file

@@ -1,0 +1,33 @@
+use Rattle.std.proofs.Common.{arith, ◌≡◌, ◌<◌, ◌∙◌, sym, ap, length}
+use Rattle.std.proofs.lemmas.Result.{err_from_is_err_and}
+use Rattle.std.proofs.lemmas.List.{length-drop}
+use Rattle.net_io.specs.Depot.{octets_of}
+use Rattle.pcap_frames.specs.Header.{capture_header}
+use Rattle.pcap_frames.proofs.Windows.{header_front, passed}
+use Rattle.pcap_frames.proofs.reading.read_start.Goals as goal
+
+pub returns-in_err-header-clause-answer : goal.returns-in_err-header-clause-answer
+returns-in_err-header-clause-answer g c = λ told.
+    let file = octets_of ((g.D.Depot.state c.args.depot.now).held c.args.name.now) in
+    let count = c.in_ok-fill.ensures.count told in
+    let enough : length c.fill.new.self < 24 → length c.fill.new.self ≡ length file = λ lt. omega (arith, count, lt) in
+    let same = header_front file c.fill.new.self (c.in_ok-fill.ensures.octets told) enough in
+    let p = err_from_is_err_and c.from_residual-in_err-header.result c.from_residual-in_err-header.ensures.1 in
+    rw (p.1, p.2) (same ∙ ap capture_header (sym c.ahead.ensures.value) ∙ sym c.read_header.ensures.value ∙ c.in_err-header.was)
+
+pub returns-clause-answer : goal.returns-clause-answer
+returns-clause-answer g c = λ told.
+    let file = octets_of ((g.D.Depot.state c.args.depot.now).held c.args.name.now) in
+    let count = c.in_ok-fill.ensures.count told in
+    let enough : length c.fill.new.self < 24 → length c.fill.new.self ≡ length file = λ lt. omega (arith, count, lt) in
+    header_front file c.fill.new.self (c.in_ok-fill.ensures.octets told) enough
+    ∙ ap capture_header (sym c.ahead.ensures.value) ∙ sym c.read_header.ensures.value ∙ c.in_ok-header.was
+
+pub returns-clause-ahead : goal.returns-clause-ahead
+returns-clause-ahead g c = λ told.
+    let file = octets_of ((g.D.Depot.state c.args.depot.now).held c.args.name.now) in
+    rw c.pass.ensures (passed file 0 24 c.fill.new.self (omega (arith, ap length c.ahead.ensures.value, c.in_ok-header.ensures.long)) (c.in_ok-fill.ensures.octets told))
+
+pub returns-clause-place : goal.returns-clause-place
+returns-clause-place g c =
+    rw c.pass.ensures (omega (arith, length-drop 24 c.fill.new.self, c.in_ok-fill.ensures.place, ap length c.ahead.ensures.value, c.in_ok-header.ensures.long))

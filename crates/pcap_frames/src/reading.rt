@@ -1,0 +1,256 @@
+//! Reading the header and the records of a capture through a window of its file.
+ghost use Rattle.std.specs.Prelude.{◌≡◌, ◌+◌, ◌-◌, ◌<◌, ◌≤◌, ◌^◌, IsTrue, [], length, drop, take, min, ◌++◌, Option, Some, None, Ok, option_map, is_ok, is_some, if◌then◌else◌, vec_len, vec_capacity, OnOk, OnErr, IfOk, IfSome};
+ghost use Rattle.net_io.specs.Depot.{octets_of, OnlyReads};
+ghost use Rattle.pcap_frames.specs.Header.{capture_header};
+ghost use Rattle.pcap_frames.specs.Record.{head_at, behind_head, record_at};
+ghost use Rattle.pcap_frames.specs.Reader.{IsFrom, IsAnswerOf};
+
+use crate::header::{CAPTURE_HEAD, read_header};
+use crate::record::{RECORD_HEAD, RecordHead, read_record_head};
+use crate::window::{WINDOW, Window};
+use crate::{CaptureFault, CaptureHeader, CaptureKind, FrameHead, FrameStop, OctetOrder};
+use net_io::{Depot, IoFault, read_full};
+
+/// The file ends at this octet, too early.
+fn short(octet: u64) -> FrameStop
+    ensures { result ≡ FrameStop.Capture (record { octet = octet; kind = CaptureKind.Short }) }
+{
+    FrameStop::Capture(CaptureFault {
+        octet,
+        kind: CaptureKind::Short,
+    })
+}
+
+/// Reads on where the window has fewer than `need` octets, so that it has them or all that the file has from `place` on.
+fn look<D: Depot>(
+    depot: &mut D,
+    name: &str,
+    place: u64,
+    window: &mut Window,
+    need: usize,
+) -> Result<(), IoFault>
+    requires need { need ≤ 65536 }
+    requires ahead { IsTrue (D.state depot.old).tells → IsFrom (octets_of ((D.state depot.old).held name.now)) place window.old }
+    requires place { place + length window.old < 2 ^ 64 }
+    ensures ahead { IsTrue (D.state depot.old).tells → IsFrom (octets_of ((D.state depot.old).held name.now)) place window.new }
+    ensures enough { OnOk result (IsTrue (D.state depot.old).tells → length window.new < need
+        → length window.new ≡ length (drop place (octets_of ((D.state depot.old).held name.now)))) }
+    ensures place { place + length window.new < 2 ^ 64 }
+    ensures frame { OnlyReads IoFault.Failed result name.now
+        (D.state depot.old)
+        (D.state depot.new) }
+{
+    if window.ahead().len() < need {
+        window.fill(depot, name, place)?;
+    }
+    Ok(())
+}
+
+/// Reads the head of the record at `place`; None at the file's end.
+fn read_head<D: Depot>(
+    depot: &mut D,
+    name: &str,
+    order: OctetOrder,
+    place: u64,
+    window: &mut Window,
+) -> Result<Option<RecordHead>, FrameStop>
+    requires ahead { IsTrue (D.state depot.old).tells → IsFrom (octets_of ((D.state depot.old).held name.now)) place window.old }
+    requires place { place + length window.old < 2 ^ 64 }
+    ensures answer { IsTrue (D.state depot.old).tells
+        → IsAnswerOf (λ read. read) result (head_at order place (drop place (octets_of ((D.state depot.old).held name.now)))) }
+    ensures head { IfOk result (λ read. IfSome read (λ head. 16 ≤ length window.new)) }
+    ensures captured { IfOk result (λ read. IfSome read (λ head. head.captured ≤ 262144)) }
+    ensures ahead { IsTrue (D.state depot.old).tells → IsFrom (octets_of ((D.state depot.old).held name.now)) place window.new }
+    ensures place { place + length window.new < 2 ^ 64 }
+    ensures frame { OnlyReads FrameStop.ReadFault result name.now
+        (D.state depot.old)
+        (D.state depot.new) }
+{
+    look(depot, name, place, window, RECORD_HEAD)?;
+    Ok(read_record_head(order, place, window.ahead())?)
+}
+
+/// Takes the octets of a record that has room in a window.
+fn take_held<D: Depot>(
+    depot: &mut D,
+    name: &str,
+    head: RecordHead,
+    place: &mut u64,
+    window: &mut Window,
+    into: &mut Vec<u8>,
+) -> Result<(), FrameStop>
+    requires room { 16 + head.captured ≤ 65536 }
+    requires head { 16 ≤ length window.old }
+    requires empty { into.old.items ≡ [] }
+    requires ahead { IsTrue (D.state depot.old).tells → IsFrom (octets_of ((D.state depot.old).held name.now)) place.old window.old }
+    requires place { place.old + length window.old < 2 ^ 64 }
+    ensures answer { IsTrue (D.state depot.old).tells → IsAnswerOf (λ taken. Some (record { head = head.frame; octets = into.new.items })) result
+        (behind_head place.old (drop place.old (octets_of ((D.state depot.old).held name.now))) (Ok (Some head))) }
+    ensures captured { OnOk result (vec_len into.new ≡ head.captured) }
+    ensures moved { place.new ≡ (if is_ok result then place.old + (16 + head.captured) else place.old) }
+    ensures ahead { IsTrue (D.state depot.old).tells → IsFrom (octets_of ((D.state depot.old).held name.now)) place.new window.new }
+    ensures memory { vec_capacity into.old ≤ vec_capacity into.new }
+    ensures place { place.new + length window.new < 2 ^ 64 }
+    ensures frame { OnlyReads FrameStop.ReadFault result name.now
+        (D.state depot.old)
+        (D.state depot.new) }
+{
+    let size = RECORD_HEAD + head.captured as usize;
+    look(depot, name, *place, window, size)?;
+    let ahead = window.ahead();
+    if ahead.len() < size {
+        return Err(short(*place + ahead.len() as u64));
+    }
+    into.extend_from_slice(&ahead[RECORD_HEAD..size])?;
+    window.pass(size);
+    *place += size as u64;
+    Ok(())
+}
+
+/// Reads octets of the file from `from` on straight behind those of `into`, up to `whole` of them in all, and answers how many.
+fn read_behind<D: Depot>(
+    depot: &mut D,
+    name: &str,
+    from: u64,
+    whole: usize,
+    into: &mut Vec<u8>,
+) -> Result<usize, IoFault>
+    requires { vec_len into.old ≤ whole }
+    ensures len { OnOk result (vec_len into.new ≡ whole) }
+    ensures count { IfOk result (λ n. n ≤ whole - vec_len into.old) }
+    ensures end { IfOk result (λ n. IsTrue (D.state depot.old).tells
+        → n ≡ min (whole - vec_len into.old) (length (octets_of ((D.state depot.old).held name.now)) - from)) }
+    ensures octets { IfOk result (λ n. IsTrue (D.state depot.old).tells
+        → take (vec_len into.old + n) into.new.items ≡ into.old.items ++ take n (drop from (octets_of ((D.state depot.old).held name.now)))) }
+    ensures memory { vec_capacity into.old ≤ vec_capacity into.new }
+    ensures place { IfOk result (λ n. from + n < 2 ^ 64) }
+    ensures frame { OnlyReads IoFault.Failed result name.now
+        (D.state depot.old)
+        (D.state depot.new) }
+{
+    let have = into.len();
+    into.resize(whole, 0)?;
+    let n = read_full(depot, name, from, &mut into[have..])?;
+    Ok(n)
+}
+
+/// Takes the octets of a record that is longer than a window: those of the window, and the rest by a read of its own.
+fn take_long<D: Depot>(
+    depot: &mut D,
+    name: &str,
+    head: RecordHead,
+    place: &mut u64,
+    window: &mut Window,
+    into: &mut Vec<u8>,
+) -> Result<(), FrameStop>
+    requires long { 65536 < 16 + head.captured }
+    requires head { 16 ≤ length window.old }
+    requires empty { into.old.items ≡ [] }
+    requires ahead { IsTrue (D.state depot.old).tells → IsFrom (octets_of ((D.state depot.old).held name.now)) place.old window.old }
+    requires place { place.old + length window.old < 2 ^ 64 }
+    ensures answer { IsTrue (D.state depot.old).tells → IsAnswerOf (λ taken. Some (record { head = head.frame; octets = into.new.items })) result
+        (behind_head place.old (drop place.old (octets_of ((D.state depot.old).held name.now))) (Ok (Some head))) }
+    ensures captured { OnOk result (vec_len into.new ≡ head.captured) }
+    ensures moved { place.new ≡ (if is_ok result then place.old + (16 + head.captured) else place.old) }
+    ensures ahead { IsTrue (D.state depot.old).tells → IsFrom (octets_of ((D.state depot.old).held name.now)) place.new window.new }
+    ensures memory { vec_capacity into.old ≤ vec_capacity into.new }
+    ensures place { place.new + length window.new < 2 ^ 64 }
+    ensures frame { OnlyReads FrameStop.ReadFault result name.now
+        (D.state depot.old)
+        (D.state depot.new) }
+{
+    let captured = head.captured as usize;
+    let ahead = window.ahead();
+    let from = *place + ahead.len() as u64;
+    into.extend_from_slice(&ahead[RECORD_HEAD..])?;
+    let have = into.len();
+    let n = read_behind(depot, name, from, captured, into)?;
+    if have + n < captured {
+        return Err(short(from + n as u64));
+    }
+    window.clear();
+    *place = from + n as u64;
+    Ok(())
+}
+
+/// Takes the captured octets behind the head of the record at `place`, and goes behind them.
+fn take_octets<D: Depot>(
+    depot: &mut D,
+    name: &str,
+    head: RecordHead,
+    place: &mut u64,
+    window: &mut Window,
+    into: &mut Vec<u8>,
+) -> Result<(), FrameStop>
+    requires head { 16 ≤ length window.old }
+    requires empty { into.old.items ≡ [] }
+    requires ahead { IsTrue (D.state depot.old).tells → IsFrom (octets_of ((D.state depot.old).held name.now)) place.old window.old }
+    requires place { place.old + length window.old < 2 ^ 64 }
+    ensures answer { IsTrue (D.state depot.old).tells → IsAnswerOf (λ taken. Some (record { head = head.frame; octets = into.new.items })) result
+        (behind_head place.old (drop place.old (octets_of ((D.state depot.old).held name.now))) (Ok (Some head))) }
+    ensures captured { OnOk result (vec_len into.new ≡ head.captured) }
+    ensures moved { place.new ≡ (if is_ok result then place.old + (16 + head.captured) else place.old) }
+    ensures ahead { IsTrue (D.state depot.old).tells → IsFrom (octets_of ((D.state depot.old).held name.now)) place.new window.new }
+    ensures memory { vec_capacity into.old ≤ vec_capacity into.new }
+    ensures place { place.new + length window.new < 2 ^ 64 }
+    ensures frame { OnlyReads FrameStop.ReadFault result name.now
+        (D.state depot.old)
+        (D.state depot.new) }
+{
+    if RECORD_HEAD + head.captured as usize <= WINDOW {
+        take_held(depot, name, head, place, window, into)
+    } else {
+        take_long(depot, name, head, place, window, into)
+    }
+}
+
+/// Reads the record at `place` and goes behind it; None at the file's end.
+pub fn read_record<D: Depot>(
+    depot: &mut D,
+    name: &str,
+    order: OctetOrder,
+    place: &mut u64,
+    window: &mut Window,
+    into: &mut Vec<u8>,
+) -> Result<Option<FrameHead>, FrameStop>
+    requires empty { into.old.items ≡ [] }
+    requires ahead { IsTrue (D.state depot.old).tells → IsFrom (octets_of ((D.state depot.old).held name.now)) place.old window.old }
+    requires place { place.old + length window.old < 2 ^ 64 }
+    ensures answer { IsTrue (D.state depot.old).tells → IsAnswerOf (option_map (λ head. record { head = head; octets = into.new.items })) result
+        (record_at order place.old (drop place.old (octets_of ((D.state depot.old).held name.now)))) }
+    ensures captured { OnOk result (vec_len into.new ≤ 262144) }
+    ensures none { IfOk result (λ read. read ≡ None → into.new.items ≡ []) }
+    ensures moved { IfOk result (λ read. place.new ≡ place.old + (if is_some read then 16 + vec_len into.new else 0)) }
+    ensures stands { OnErr result (place.new ≡ place.old) }
+    ensures ahead { IsTrue (D.state depot.old).tells → IsFrom (octets_of ((D.state depot.old).held name.now)) place.new window.new }
+    ensures memory { vec_capacity into.old ≤ vec_capacity into.new }
+    ensures place { place.new + length window.new < 2 ^ 64 }
+    ensures frame { OnlyReads FrameStop.ReadFault result name.now
+        (D.state depot.old)
+        (D.state depot.new) }
+{
+    let Some(head) = read_head(depot, name, order, *place, window)? else {
+        return Ok(None);
+    };
+    take_octets(depot, name, head, place, window, into)?;
+    Ok(Some(head.frame))
+}
+
+/// Reads the header of the file, and goes behind it.
+pub fn read_start<D: Depot>(
+    depot: &mut D,
+    name: &str,
+    window: &mut Window,
+) -> Result<CaptureHeader, FrameStop>
+    ensures answer { IsTrue (D.state depot.old).tells → IsAnswerOf (λ header. header) result (capture_header (octets_of ((D.state depot.old).held name.now))) }
+    ensures ahead { OnOk result (IsTrue (D.state depot.old).tells → IsFrom (octets_of ((D.state depot.old).held name.now)) 24 window.new) }
+    ensures place { OnOk result (24 + length window.new < 2 ^ 64) }
+    ensures frame { OnlyReads FrameStop.ReadFault result name.now
+        (D.state depot.old)
+        (D.state depot.new) }
+{
+    window.fill(depot, name, 0)?;
+    let header = read_header(window.ahead())?;
+    window.pass(CAPTURE_HEAD);
+    Ok(header)
+}
