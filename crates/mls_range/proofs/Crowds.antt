@@ -45,7 +45,7 @@ pub record HasTerms (text : List ℕ) (start at : ℕ) (cats : List ℕ) : Type 
   pub is : cats ≡ cats_of_terms terms
   pub few : (n : ℕ) → run_count (take n terms) ≤ 1952
 
-take_none : (n : ℕ) → (let none : List (ℕ × ℕ) = [] in take n none ≡ none)
+pub take_none : (n : ℕ) → (let none : List (ℕ × ℕ) = [] in take n none ≡ none)
 take_none zero = refl
 take_none (suc n) = refl
 
@@ -61,7 +61,7 @@ has_none text start within =
           omega (arith, e);
     }
 
-few_push : (terms : List (ℕ × ℕ)) (term : ℕ × ℕ) → ((n : ℕ) → run_count (take n terms) ≤ 1952) → run_count (terms ++ term ∷ []) ≤ 1952 → (n : ℕ) → run_count (take n (terms ++ term ∷ [])) ≤ 1952
+pub few_push : (terms : List (ℕ × ℕ)) (term : ℕ × ℕ) → ((n : ℕ) → run_count (take n terms) ≤ 1952) → run_count (terms ++ term ∷ []) ≤ 1952 → (n : ℕ) → run_count (take n (terms ++ term ∷ [])) ≤ 1952
 few_push terms term few last n =
     elim (cases_lt (length terms) n) [
       | inl lt ↦

@@ -12,4 +12,12 @@ pub mod Wholes
 pub mod Unique
 pub mod ReadBack
 pub mod RangeTexts
+pub mod Rows
+pub mod Splits
+pub mod Counts
+pub mod Roomy
+pub mod Orders
+pub mod Octets
+pub mod Computes
 pub mod Law
+pub mod Values

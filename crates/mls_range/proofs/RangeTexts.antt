@@ -35,7 +35,7 @@ IsRange text = (range : LabelRange) × IsRangeText text range
 range_texts : IsTexts IsRangeText IsRange
 range_texts = record { into = λ t r. r; back = λ t v r. (v, r) }
 
-dash_ends : (t : List ℕ) → IsLabelEnd true (45 ∷ t)
+pub dash_ends : (t : List ℕ) → IsLabelEnd true (45 ∷ t)
 dash_ends t = (refl, refl)
 
 range_on_of : (text : List ℕ) (range : LabelRange) → IsRangeText text range → LabelOn true text

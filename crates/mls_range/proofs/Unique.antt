@@ -10,11 +10,11 @@ use Rattle.mls_range.specs.inside.Rest.{IsLabelEnd, separated}
 use Rattle.mls_range.proofs.TermLists.{NoDigit, number_unique, term_unique, ends_counted}
 use Rattle.mls_range.proofs.Written.{terms_text_is}
 
-separated_counted : (dash : Bool) (us : List (ℕ × ℕ)) (r : List ℕ) → IsLabelEnd dash r → IsCounted dash (separated 44 us ++ r)
+pub separated_counted : (dash : Bool) (us : List (ℕ × ℕ)) (r : List ℕ) → IsLabelEnd dash r → IsCounted dash (separated 44 us ++ r)
 separated_counted dash [] r e = ends_counted dash r e
 separated_counted dash (u ∷ us) r e = inl refl
 
-no_separator : (dash : Bool) (s : ℕ) (r t : List ℕ) → IsLabelEnd dash r → r ≡ s ∷ t → (s ≡ 45 → ⊥) → ⊥
+pub no_separator : (dash : Bool) (s : ℕ) (r t : List ℕ) → IsLabelEnd dash r → r ≡ s ∷ t → (s ≡ 45 → ⊥) → ⊥
 no_separator dash s [] t e q other = absurd (omega (arith, ap length q))
 no_separator dash s (x ∷ w) t e q other = let same : x ≡ s = cc in other (sym same ∙ e.1)
 
@@ -34,11 +34,11 @@ end_free : (dash : Bool) (r : List ℕ) → IsLabelEnd dash r → NoDigit r
 end_free dash [] e = tt
 end_free dash (x ∷ w) e = λ d. omega (arith, e.1, d.0)
 
-separated_free : (dash : Bool) (ts : List (ℕ × ℕ)) (r : List ℕ) → IsLabelEnd dash r → NoDigit (separated 58 ts ++ r)
+pub separated_free : (dash : Bool) (ts : List (ℕ × ℕ)) (r : List ℕ) → IsLabelEnd dash r → NoDigit (separated 58 ts ++ r)
 separated_free dash [] r e = end_free dash r e
 separated_free dash (t ∷ ts) r e = λ d. omega (arith, d.1)
 
-label_parts : (t k : List ℕ) (x : Label) → (l : IsLabelText t x) → t ++ k ≡ 115 ∷ (decimal x.level ++ (separated 58 l.terms ++ k))
+pub label_parts : (t k : List ℕ) (x : Label) → (l : IsLabelText t x) → t ++ k ≡ 115 ∷ (decimal x.level ++ (separated 58 l.terms ++ k))
 label_parts t k x l =
     ap (λ u. u ++ k) (l.is ∙ ap (λ u. 115 ∷ (decimal x.level ++ u)) (terms_text_is l.terms)) ∙ ap (λ u. 115 ∷ u) (append_assoc (decimal x.level) (separated 58 l.terms) k)
 

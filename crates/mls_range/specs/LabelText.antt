@@ -1,5 +1,5 @@
 -- Texts of labels, as SELinux MLS writes them: `s<N>`, or `s<N>:` and terms separated by commas.
-use Rattle.std.specs.Prelude.{◌≡◌, ℕ, ◌+◌, ◌<◌, ◌≤◌, Bool, List, [], ◌∷◌, ◌++◌, map, ◌==◌, if◌then◌else◌}
+use Rattle.std.specs.Prelude.{◌≡◌, ℕ, ◌+◌, ◌<◌, ◌≤◌, Bool, ◌||◌, List, [], ◌∷◌, ◌++◌, map, ◌==◌, if◌then◌else◌}
 use Rattle.std.specs.Fmt.{decimal}
 use Rattle.std.specs.List.{All, flat_map, join_with_byte, list_any}
 use Rattle.mls_label.specs.declared.label.Label.{Label}
@@ -57,6 +57,10 @@ pub record IsLabelText (text : List ℕ) (label : Label) : Type 0 where
 -- a run of two categories is written as two terms, each other run as one
 abbrev pub terms_of_run : ℕ × ℕ → List (ℕ × ℕ)
 terms_of_run run = if run.0 + 1 == run.1 then (run.0, run.0) ∷ (run.1, run.1) ∷ [] else run ∷ []
+
+-- an octet of a label's text
+abbrev pub is_label_octet : ℕ → Bool
+is_label_octet c = is_within 48 57 c || c == letter_s || c == letter_c || c == colon || c == comma || c == dot
 
 -- the one written form: the terms ascend by maximal runs
 abbrev pub label_text : Label → List ℕ

@@ -4,4 +4,5 @@ pub mod Place
 pub mod TextFault
 pub mod Range
 pub mod RangeText
+pub mod Computed
 pub mod inside

@@ -1,10 +1,11 @@
 //! Labels, read from their texts and written in their one form.
 
-ghost use Rattle.std.specs.Prelude.{◌≡◌, [], ◌∷◌, ◌++◌, ◌≤◌, length, IfOk, IfErr, OnOk, OnErr};
+ghost use Rattle.std.specs.Prelude.{◌≡◌, [], ◌∷◌, ◌++◌, ◌≤◌, length, Some, None, IfOk, IfErr, OnOk, OnErr, MatchResult};
 ghost use Rattle.mls_range.specs.LabelText.{IsLabelText, label_text, terms_of_run};
 ghost use Rattle.mls_range.specs.inside.Rest.{Extends, separated};
 ghost use Rattle.mls_range.specs.inside.Stops.{ReadsCats, ReadsPart, StopsCats, StopsPart};
 ghost use Rattle.mls_range.specs.TextFault.{IsRoomyLabel, StopsLabel};
+ghost use Rattle.mls_range.specs.Computed.{label_of_text};
 
 use crate::fault::TextFault;
 use crate::number::read_number;
@@ -22,6 +23,8 @@ pub fn read_label(text: &[u8]) -> Result<Label, TextFault>
     ensures ok { IfOk result (IsLabelText text.now) }
     ensures roomy { OnOk result (IsRoomyLabel text.now) }
     ensures err { IfErr result (StopsLabel text.now) }
+    ensures value { MatchResult result
+        (λ label. label_of_text text.now ≡ Some label) (λ _. label_of_text text.now ≡ None) }
 {
     let mut label = Label::lowest();
     read_label_into(text, &mut label)?;
@@ -33,6 +36,8 @@ pub fn read_label_into(text: &[u8], label: &mut Label) -> Result<(), TextFault>
     ensures ok { OnOk result (IsLabelText text.now label.new) }
     ensures roomy { OnOk result (IsRoomyLabel text.now) }
     ensures err { IfErr result (StopsLabel text.now) }
+    ensures value { MatchResult result
+        (λ _. label_of_text text.now ≡ Some label.new) (λ _. label_of_text text.now ≡ None) }
 {
     let _end = read_part(text, 0, false, label)?;
     Ok(())

@@ -2,6 +2,7 @@
 #![tactic(auto)]
 
 mod fault;
+mod kept_range;
 mod label;
 pub mod laws;
 mod number;
@@ -10,6 +11,7 @@ mod range;
 mod terms;
 
 pub use fault::{TextFault, TextKind};
+pub use kept_range::KeptRange;
 pub use label::{read_label, read_label_into, write_label};
 pub use range::{Range, read_range, read_range_into, write_range};
 

@@ -1,9 +1,10 @@
 //! Ranges of labels, read from their texts and written in their one form.
 
-ghost use Rattle.std.specs.Prelude.{◌≡◌, ◌↔◌, [], ◌++◌, IsTrue, IfOk, IfErr, OnOk, OnErr};
+ghost use Rattle.std.specs.Prelude.{◌≡◌, ◌↔◌, [], ◌++◌, IsTrue, Some, None, IfOk, IfErr, OnOk, OnErr, MatchResult};
 ghost use Rattle.mls_label.specs.Label.{Dominates};
 ghost use Rattle.mls_range.specs.Range.{LabelRange, RangeHolds};
 ghost use Rattle.mls_range.specs.RangeText.{IsRangeText, IsRoomyRange, range_text, StopsRange};
+ghost use Rattle.mls_range.specs.Computed.{range_of_text};
 ghost use Rattle.mls_range.specs.inside.Rest.{Extends};
 
 use crate::fault::{TextFault, TextKind};
@@ -79,6 +80,15 @@ impl Range {
         self.low.assign(&from.low);
         self.high.assign(&from.high);
     }
+
+    /// Becomes the range from one label to another that dominates it.
+    pub fn assign_ends(&mut self, low: &Label, high: &Label)
+        requires { Dominates high.now low.now }
+        ensures { self.new ≡ record { low = low.now; high = high.now } }
+    {
+        self.low.assign(low);
+        self.high.assign(high);
+    }
 }
 
 /// Reads a whole text as a range: one label, which is both ends, or two labels joined by a dash. The high label has to
@@ -88,6 +98,8 @@ pub fn read_range(text: &[u8]) -> Result<Range, TextFault>
     ensures ordered { IfOk result (λ range. Dominates range.high range.low) }
     ensures roomy { OnOk result (IsRoomyRange text.now) }
     ensures err { IfErr result (StopsRange text.now) }
+    ensures value { MatchResult result
+        (λ range. range_of_text text.now ≡ Some range) (λ _. range_of_text text.now ≡ None) }
 {
     let mut range = Range::lowest();
     read_range_into(text, &mut range)?;
@@ -100,6 +112,8 @@ pub fn read_range_into(text: &[u8], range: &mut Range) -> Result<(), TextFault>
     ensures ordered { OnOk result (Dominates range.new.high range.new.low) }
     ensures roomy { OnOk result (IsRoomyRange text.now) }
     ensures err { IfErr result (StopsRange text.now) }
+    ensures value { MatchResult result
+        (λ _. range_of_text text.now ≡ Some range.new) (λ _. range_of_text text.now ≡ None) }
 {
     let read = read_ends(text, &mut range.low, &mut range.high);
     if read.is_err() {

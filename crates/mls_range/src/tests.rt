@@ -1,7 +1,7 @@
 use super::TextKind::*;
 use super::*;
 use decimal_text::write_decimal;
-use mls_label::OutOfMemory;
+use mls_label::{Label, OutOfMemory};
 use std::alloc::Global;
 use std::test::Fail;
 
@@ -244,5 +244,18 @@ fn holds_what_lies_between(rt: HostRuntime) -> Result<(), Fail> {
         let label = read_label(text.as_bytes()).expect(&rt, text);
         assert_eq!(rt; range.holds(&label), held, "{text}");
     }
+    Ok(())
+}
+
+#[test]
+fn keeps_ranges_with_ample_memory(rt: HostRuntime) -> Result<(), Fail> {
+    let high = read_label(b"s2:c1,c3").expect(&rt, "label");
+    let mut range = Range::lowest();
+    range.assign_ends(&Label::lowest(), &high);
+    let kept = KeptRange::of(rt.alloc(), &range).expect(&rt, "kept");
+    let copy = kept.copy(rt.alloc()).expect(&rt, "copy");
+    let mut out = Vec::new(rt.alloc());
+    write_range(copy.range(), &mut out).expect(&rt, "written");
+    assert_eq!(rt; &out[..], "s0-s2:c1,c3".as_bytes());
     Ok(())
 }
