@@ -107,6 +107,7 @@ impl<'a> Packet4<'a> {
     pub fn payload(&self) -> &'a [u8]
         ensures value { result.now ≡ self.now.payload }
         ensures short { length result.now ≤ 65535 }
+        ensures version { self.now.version ≡ V4 }
     {
         self.parts.payload
     }

@@ -105,6 +105,7 @@ impl<'a> Packet6<'a> {
     pub fn payload(&self) -> &'a [u8]
         ensures value { result.now ≡ self.now.payload }
         ensures short { length result.now ≤ 65535 }
+        ensures version { self.now.version ≡ V6 }
     {
         self.parts.payload
     }

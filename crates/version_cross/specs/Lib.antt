@@ -1,0 +1,5 @@
+pub mod Segment
+pub mod Cause
+pub mod Checksum
+pub mod Cross
+pub mod Laws
