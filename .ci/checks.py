@@ -18,7 +18,7 @@ cited = re.compile(
     r"|/(?:work|opt/rattle)/|\.\./shared"
 )
 for name, text in texts.items():
-    if name.startswith(".ci/") or name.endswith(".bin"):
+    if name.startswith(".ci/") or name.endswith((".bin", ".pcap")):
         continue
     for number, line in enumerate(text.splitlines(), 1):
         if found := cited.search(line):

@@ -7,7 +7,7 @@ import tempfile
 import time
 
 top = pathlib.Path(__file__).resolve().parent.parent
-program = top / "crates/netlabel_run/out/netlabel_run"
+program = top / "crates/netlabel_cmd/out/netlabel_cmd"
 
 
 def packet6(length):

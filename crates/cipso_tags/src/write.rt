@@ -61,7 +61,8 @@ fn append_body<const N: usize>(tag: Tag, label: &Label, out: &mut ArrayVec<u8, N
     }
 }
 
-fn type_octet(tag: Tag) -> u8
+/// The octet of a tag's type: 1, 2 or 5.
+pub fn type_octet(tag: Tag) -> u8
     ensures { result ≡ tag_type tag }
 {
     match tag {

@@ -1,22 +1,23 @@
--- How a call ends that makes no file and prints at its end, over plain values.
-use Rattle.std.proofs.Common.{◌≡◌, ◌≢◌, ℕ, List, [], ◌++◌, length, refl, sym, ap, subst, ◌∙◌, arith, inl, inr, ◌⊎◌, Option, Some, None}
+-- How a call ends that makes no file, over plain values.
+use Rattle.std.proofs.Common.{◌≡◌, ◌≢◌, ◌<◌, ℕ, List, [], ◌++◌, length, refl, sym, ap, subst, ◌∙◌, arith, append_assoc, inl, inr, ◌⊎◌, Option, Some, None}
 use Rattle.std.specs.Prelude.{IsTrue, Contains}
 use Rattle.std.specs.List.{All}
-use Rattle.std.proofs.lemmas.List.{take_all, append-nil}
+use Rattle.std.proofs.lemmas.List.{append-nil, take-append-le, length-append}
 use Rattle.net_io.specs.Depot.{SameHeld}
 use Rattle.net_io.specs.Faults.{Rose, SameCounts}
 use Rattle.net_io.specs.Sink.{WritesPrefix, WritesLess}
 use Rattle.netlabel_run.specs.declared.command.Command.{Command}
 use Rattle.netlabel_run.specs.declared.status.Status.{Status}
-use Rattle.netlabel_run.specs.declared.status.Status.TheVariants.{Done, NoForm, WrongScript, ReadFault, WriteFault, WrongCapture, OutOfMemory, Limit}
+use Rattle.netlabel_run.specs.declared.status.Status.TheVariants.{ReadFault, WriteFault, OutOfMemory}
 use Rattle.netlabel_run.specs.Report.{Folder, Report, report_text, HasReport, IsQuiet}
 use Rattle.netlabel_run.specs.Status.{HasStatus}
 use Rattle.netlabel_run.specs.Stages.{Stage, Output}
 use Rattle.netlabel_run.specs.Seen.{IsLawful, IsWhole}
 use Rattle.netlabel_run.specs.Outside.{Outside, ReadRose, NoneFailed}
-use Rattle.netlabel_run.specs.CallEnds.{CallEnds, EndsWith, HasBegun, Prints, IsClean}
-use Rattle.netlabel_run.specs.inside.Numbers.{number_of, after_write_fault_of}
+use Rattle.netlabel_run.specs.CallEnds.{CallEnds, EndsWith, HasBegun, Prints, IsClean, IsWritten}
+use Rattle.netlabel_run.specs.inside.Numbers.{number_of}
 use Rattle.netlabel_run.specs.inside.Printing.{Printed, Breaks}
+use Rattle.netlabel_run.proofs.Handing.{all_is_prefix, less_is_prefix, less_of_all}
 
 -- What such a call knows at its end: what it has begun, and what it has left as it was.
 pub record Knows (request : Option Command) (before after : Outside) (stages : List Stage) : Type 0 where
@@ -30,36 +31,43 @@ pub record Knows (request : Option Command) (before after : Outside) (stages : L
   pub folder_told : after.folder.tells ≡ before.folder.tells
   pub stream_told : after.stream.tells ≡ before.stream.tells
 
--- What it knows of the event that is due: its report, and that no refusal has its number.
-pub record IsDue (request : Option Command) (before : Outside) (due : Status) (report : Report) : Type 0 where
+-- the report of what was asked for has this body and this last line
+pub record HasParts (request : Option Command) (held : Folder) (text line : List ℕ) : Type 0 where
+  pub report : Report
+  pub has : HasReport request held [] report
+  pub body : report.body ≡ text
+  pub last : report.last ≡ line
+
+-- its body begins so
+pub record Begins (request : Option Command) (held : Folder) (text : List ℕ) : Type 0 where
+  pub report : Report
+  pub has : HasReport request held [] report
+  pub rest : List ℕ
+  pub body : report.body ≡ text ++ rest
+
+-- What it knows of the event that is due: its report's body and last line, and that no refusal has its number.
+pub record IsDue (request : Option Command) (before : Outside) (due : Status) (text line : List ℕ) : Type 0 where
   pub event : (number_of due ≢ 3) × (number_of due ≢ 4) × (number_of due ≢ 6)
   pub form : number_of due ≡ 1 → request ≡ None
-  pub usage : request ≡ None → number_of due ≡ 1
+  pub usage : request ≡ None → (number_of due ≡ 1) × (text ≡ [])
   pub has : IsTrue before.folder.tells → HasStatus request before.folder.held (number_of due)
   pub may : (held : Folder) × HasStatus request held (number_of due)
-  pub reports : IsTrue before.folder.tells → HasReport request before.folder.held [] report
-  pub last : due ≡ Done → report.last ≡ []
+  pub parts : IsTrue before.folder.tells → HasParts request before.folder.held text line
+  pub last : number_of due ≡ 0 → line ≡ []
 
 no_output : (stages : List Stage) (P : Output → Type 0) → All (λ stage. stage.output ≡ None) stages
     → All (λ stage. (output : Output) → stage.output ≡ Some output → P output) stages
 no_output stages P none k d within output is = absurd (let no : None ≡ Some output = sym (none k d within) ∙ is in cc)
 
-less_is_prefix : (text old new : List ℕ) → WritesLess text old new → WritesPrefix text old new
-less_is_prefix text old new less = record { count = less.count; within = omega (arith, less.within); written = less.written }
+-- the text of a report that begins so
+text_begins : (request : Option Command) (held : Folder) (text : List ℕ) (b : Begins request held text) → report_text b.report ≡ text ++ (b.rest ++ b.report.last)
+text_begins request held text b = ap (λ x. x ++ b.report.last) b.body ∙ append_assoc text b.rest b.report.last
 
-all_is_prefix : (text old new : List ℕ) → new ≡ old ++ text → WritesPrefix text old new
-all_is_prefix text old new all = record { count = length text; within = omega arith; written = all ∙ ap (λ t. old ++ t) (sym (take_all (length text) text (omega arith))) }
+parts_begin : (request : Option Command) (held : Folder) (body last : List ℕ) → HasParts request held body last → Begins request held body
+parts_begin request held body last p = record { report = p.report; has = p.has; rest = []; body = p.body ∙ sym (append-nil body) }
 
--- the status after a write has failed
-after_fault : (due : Status) → ((due ≡ Done) × (after_write_fault_of due ≡ WriteFault)) ⊎ ((number_of due ≢ 0) × (after_write_fault_of due ≡ due))
-after_fault Done = inl (refl, refl)
-after_fault NoForm = inr (λ e. absurd (omega (arith, e)), refl)
-after_fault WrongScript = inr (λ e. absurd (omega (arith, e)), refl)
-after_fault ReadFault = inr (λ e. absurd (omega (arith, e)), refl)
-after_fault WriteFault = inr (λ e. absurd (omega (arith, e)), refl)
-after_fault WrongCapture = inr (λ e. absurd (omega (arith, e)), refl)
-after_fault OutOfMemory = inr (λ e. absurd (omega (arith, e)), refl)
-after_fault Limit = inr (λ e. absurd (omega (arith, e)), refl)
+parts_text : (request : Option Command) (held : Folder) (body last : List ℕ) (p : HasParts request held body last) → report_text p.report ≡ body ++ last
+parts_text request held body last p = ap (λ x. x ++ p.report.last) p.body ∙ ap (λ x. body ++ x) p.last
 
 module _ (request : Option Command) (before after : Outside) (stages : List Stage) (knows : Knows request before after stages) where
   ends : (status : ℕ) → EndsWith request before after status stages → (IsTrue before.folder.tells → Prints request before after status [] stages)
@@ -82,10 +90,21 @@ module _ (request : Option Command) (before after : Outside) (stages : List Stag
     stream_told = knows.stream_told;
   }
 
+  -- nothing, or some first octets of the report
+  abbrev Part : Type 0
+  Part = IsWritten [] before after ⊎ ((report : Report) × HasReport request before.folder.held [] report × WritesPrefix (report_text report) before.stream.written after.stream.written)
+
+  -- some first octets of a text with which the report begins
+  begun_part : (text : List ℕ) (b : Begins request before.folder.held text) → WritesPrefix (text ++ (b.rest ++ b.report.last)) before.stream.written after.stream.written → Part
+  begun_part text b prefix =
+      inr (b.report, b.has, subst (λ (t : List ℕ). WritesPrefix t before.stream.written after.stream.written) (sym (text_begins request before.folder.held text b)) prefix)
+
+  parts_part : (body last : List ℕ) → HasParts request before.folder.held body last → WritesPrefix (body ++ last) before.stream.written after.stream.written → Part
+  parts_part body last p prefix =
+      inr (p.report, p.has, subst (λ (t : List ℕ). WritesPrefix t before.stream.written after.stream.written) (sym (parts_text request before.folder.held body last p)) prefix)
+
   -- memory ran out, and nothing or a beginning of the report was printed
-  ends_without_memory : (IsTrue before.folder.tells → IsTrue before.stream.tells → (after.stream.written ≡ before.stream.written ++ [])
-      ⊎ ((report : Report) × HasReport request before.folder.held [] report × WritesPrefix (report_text report) before.stream.written after.stream.written))
-      → CallEnds request before after 6 []
+  ends_without_memory : (IsTrue before.folder.tells → IsTrue before.stream.tells → Part) → CallEnds request before after 6 []
   ends_without_memory part = ends 6 (record {
     due = λ told. inr (inr (inr refl));
     possible = inr (inr (inr refl));
@@ -101,10 +120,50 @@ module _ (request : Option Command) (before after : Outside) (stages : List Stag
     stop = λ e. absurd (omega (arith, e));
   }) (λ out e. absurd (omega (arith, e)))
 
-  -- a read has failed before anything was printed
-  pub ends_unread : request ≢ None → ReadRose stages before after → after.stream.written ≡ before.stream.written
-      → ((report : Report) → HasReport request before.folder.held [] report → Contains report.pauses []) → CallEnds request before after 3 []
-  ends_unread form rose same pauses = ends 3 (record {
+  pub ends_unprinted : after.stream.written ≡ before.stream.written → CallEnds request before after 6 []
+  ends_unprinted same = ends_without_memory (λ told out. inl (same ∙ sym (append-nil before.stream.written)))
+
+  -- memory ran out behind the beginning of a report
+  pub ends_short : (text : List ℕ) → (IsTrue before.folder.tells → Begins request before.folder.held text) → (IsTrue before.stream.tells → WritesPrefix text before.stream.written after.stream.written)
+      → CallEnds request before after 6 []
+  ends_short text begins prefix = ends_without_memory (λ told out.
+      let b = begins told in
+      let p = prefix out in
+      begun_part text b (record { count = p.count; within = omega (arith, p.within, length-append text (b.rest ++ b.report.last)); written = p.written ∙ ap (λ t. before.stream.written ++ t) (sym (take-append-le p.count text (b.rest ++ b.report.last) p.within)) }))
+
+  -- a write has failed in the body of the report
+  pub ends_unwritten : (text : List ℕ) → request ≢ None → Rose before.stream.faults after.stream.faults → Breaks text before.stream after.stream
+      → (IsTrue before.folder.tells → Begins request before.folder.held text) → CallEnds request before after 4 []
+  ends_unwritten text form rose breaks begins = ends 4 (record {
+    due = λ told. inr (inr (inl refl));
+    possible = inr (inr (inl refl));
+    no_form = λ e. absurd (omega (arith, e));
+    usage = λ none. absurd (form none);
+    read_fault = λ e. absurd (omega (arith, e));
+    write_fault = λ e. inl rose;
+    unmoved = λ e. absurd (omega (arith, e));
+  }) (λ told.
+      let b = begins told in
+      record {
+        whole = λ out clean. elim clean [ inl e ↦ absurd (omega (arith, e)) | inr c ↦ absurd (c.1 (inl rose)) ];
+        part = λ out. begun_part text b (less_is_prefix text (b.rest ++ b.report.last) before.stream.written after.stream.written (breaks.written out));
+        pause = λ out e. absurd (omega (arith, e));
+        stop = λ e. inl (record {
+          report = b.report;
+          has = b.has;
+          some = omega (arith, breaks.some, ap length b.body, length-append text b.rest);
+          part = λ out. subst (λ (t : List ℕ). WritesLess t before.stream.written after.stream.written) (sym b.body)
+              (less_of_all text b.rest before.stream.written after.stream.written (breaks.written out));
+        });
+      })
+      (λ out e. absurd (omega (arith, e)))
+
+  -- a read has failed behind the beginning of a report
+  pub ends_unread : (text : List ℕ) → request ≢ None → ReadRose stages before after → (IsTrue before.stream.tells → IsWritten text before after)
+      → (IsTrue before.folder.tells → (text ≡ []) ⊎ Begins request before.folder.held text)
+      → (IsTrue before.folder.tells → (report : Report) → HasReport request before.folder.held [] report → Contains report.pauses text)
+      → (IsQuiet request → text ≡ []) → CallEnds request before after 3 []
+  ends_unread text form rose written begins pauses quiet = ends 3 (record {
     due = λ told. inr (inl refl);
     possible = inr (inl refl);
     no_form = λ e. absurd (omega (arith, e));
@@ -114,72 +173,96 @@ module _ (request : Option Command) (before after : Outside) (stages : List Stag
     unmoved = λ e. absurd (omega (arith, e));
   }) (λ told. record {
     whole = λ out clean. elim clean [ inl e ↦ absurd (omega (arith, e)) | inr c ↦ absurd (c.1 (inr (inl rose))) ];
-    part = λ out. inl (same ∙ sym (append-nil before.stream.written));
-    pause = λ out e. ([], same ∙ sym (append-nil before.stream.written), pauses);
+    part = λ out. elim (begins told) [
+      | inl none ↦ inl (written out ∙ ap (λ t. before.stream.written ++ t) none)
+      | inr b ↦ begun_part text b (all_is_prefix text (b.rest ++ b.report.last) before.stream.written after.stream.written (written out))
+    ];
+    pause = λ out e. (text, written out, pauses told);
     stop = λ e. absurd (omega (arith, e));
-  }) (λ out e quiet. same)
+  }) (λ out e all. written out ∙ ap (λ t. before.stream.written ++ t) (quiet all) ∙ append-nil before.stream.written)
 
-  pub ends_unprinted : after.stream.written ≡ before.stream.written → CallEnds request before after 6 []
-  ends_unprinted same = ends_without_memory (λ told out. inl (same ∙ sym (append-nil before.stream.written)))
+  -- its reader has stopped behind the beginning of a report, which was printed, or could not be
+  module _ (text : List ℕ) (form : request ≢ None) (begins : IsTrue before.folder.tells → Begins request before.folder.held text) where
+    short_of : (status : Status) → status ≡ OutOfMemory → (IsTrue before.stream.tells → WritesPrefix (text ++ []) before.stream.written after.stream.written) → CallEnds request before after (number_of status) []
+    short_of status is prefix =
+        subst (λ (n : ℕ). CallEnds request before after n []) (sym (ap number_of is))
+        (ends_short text begins (λ out. subst (λ (t : List ℕ). WritesPrefix t before.stream.written after.stream.written) (append-nil text) (prefix out)))
 
-  module _ (due : Status) (report : Report) (is : IsDue request before due report) where
-    -- the event decides, whether or not its report was printed whole
-    ends_due : (IsTrue before.stream.tells → IsClean stages before after (number_of due) → after.stream.written ≡ before.stream.written ++ report_text report)
-        → (IsTrue before.stream.tells → WritesPrefix (report_text report) before.stream.written after.stream.written)
+    unwritten_of : (status : Status) → status ≡ WriteFault → Rose before.stream.faults after.stream.faults → Breaks text before.stream after.stream → CallEnds request before after (number_of status) []
+    unwritten_of status is rose breaks = subst (λ (n : ℕ). CallEnds request before after n []) (sym (ap number_of is)) (ends_unwritten text form rose breaks begins)
+
+    pub ends_stopped_short : (status : Status) → Printed text [] OutOfMemory status before.stream after.stream → CallEnds request before after (number_of status) []
+    ends_stopped_short status printed = elim printed.how [
+      | inl all ↦ short_of status all.0 (λ out. subst (λ (t : List ℕ). WritesPrefix t before.stream.written after.stream.written) (append-nil (text ++ [])) (all_is_prefix (text ++ []) [] before.stream.written after.stream.written (all.2 out)))
+      | inr rest ↦ elim rest [
+        | inl memory ↦ short_of status memory.0 memory.1
+        | inr failed ↦ elim failed [
+          | inl broken ↦ unwritten_of status broken.0 broken.1 broken.2
+          | inr line ↦ absurd (omega (arith, line.2))
+        ]
+      ]
+    ]
+
+    pub ends_stopped_unread : (status : Status) → ReadRose stages before after
+        → (IsTrue before.folder.tells → (report : Report) → HasReport request before.folder.held [] report → Contains report.pauses text)
+        → (IsQuiet request → text ≡ []) → Printed text [] ReadFault status before.stream after.stream → CallEnds request before after (number_of status) []
+    ends_stopped_unread status rose pauses quiet printed = elim printed.how [
+      | inl all ↦ subst (λ (n : ℕ). CallEnds request before after n []) (sym (ap number_of all.0))
+          (ends_unread text form rose (λ out. all.2 out ∙ ap (λ t. before.stream.written ++ t) (append-nil text)) (λ told. inr (begins told)) pauses quiet)
+      | inr rest ↦ elim rest [
+        | inl memory ↦ short_of status memory.0 memory.1
+        | inr failed ↦ elim failed [
+          | inl broken ↦ unwritten_of status broken.0 broken.1 broken.2
+          | inr line ↦ absurd (omega (arith, line.2))
+        ]
+      ]
+    ]
+
+  module _ (due : Status) (body last : List ℕ) (is : IsDue request before due body last) where
+    -- the event decides, whether or not its line was printed whole
+    ends_due : (IsTrue before.stream.tells → IsClean stages before after (number_of due) → IsWritten (body ++ last) before after)
+        → (IsTrue before.stream.tells → WritesPrefix (body ++ last) before.stream.written after.stream.written)
         → (number_of due ≡ 0 → NoneFailed before after) → CallEnds request before after (number_of due) []
     ends_due whole part unmoved = ends (number_of due) (record {
       due = λ told. inl (is.has told);
       possible = inl is.may;
       no_form = is.form;
-      usage = λ none. inl (is.usage none);
+      usage = λ none. inl (is.usage none).0;
       read_fault = λ e. absurd (is.event.0 e);
       write_fault = λ e. absurd (is.event.1 e);
       unmoved = unmoved;
-    }) (λ told. record {
-      whole = λ out clean. (report, is.reports told, whole out clean);
-      part = λ out. inr (report, is.reports told, part out);
-      pause = λ out e. absurd (is.event.0 e);
-      stop = λ e. absurd (is.event.1 e);
-    }) (λ out e quiet. absurd (is.event.0 e))
+    }) (λ told.
+        let p = is.parts told in
+        record {
+          whole = λ out clean. (p.report, p.has, whole out clean ∙ ap (λ t. before.stream.written ++ t) (sym (parts_text request before.folder.held body last p)));
+          part = λ out. parts_part body last p (part out);
+          pause = λ out e. absurd (is.event.0 e);
+          stop = λ e. absurd (is.event.1 e);
+        })
+        (λ out e quiet. absurd (is.event.0 e))
 
-    -- a write has failed before the report of a call that had nothing else to tell was printed
-    ends_unwritten : due ≡ Done → Rose before.stream.faults after.stream.faults → Breaks (report_text report) before.stream after.stream → CallEnds request before after 4 []
-    ends_unwritten done rose breaks =
-        let body : report_text report ≡ report.body = ap (λ last. report.body ++ last) (is.last done) ∙ append-nil report.body in
-        let in_body : Breaks report.body before.stream after.stream = subst (λ text. Breaks text before.stream after.stream) body breaks in
-        ends 4 (record {
-          due = λ told. inr (inr (inl refl));
-          possible = inr (inr (inl refl));
-          no_form = λ e. absurd (omega (arith, e));
-          usage = λ none. absurd (omega (arith, is.usage none, ap number_of done));
-          read_fault = λ e. absurd (omega (arith, e));
-          write_fault = λ e. inl rose;
-          unmoved = λ e. absurd (omega (arith, e));
-        }) (λ told. record {
-          whole = λ out clean. elim clean [ inl e ↦ absurd (omega (arith, e)) | inr c ↦ absurd (c.1 (inl rose)) ];
-          part = λ out. inr (report, is.reports told, less_is_prefix _ _ _ (breaks.written out));
-          pause = λ out e. absurd (omega (arith, e));
-          stop = λ e. inl (record { report = report; has = is.reports told; some = in_body.some; part = in_body.written });
-        }) (λ out e. absurd (omega (arith, e)))
+    -- the words ask for something, where a body was to be printed
+    has_form : 0 < length body → request ≢ None
+    has_form some none = omega (arith, some, ap length (is.usage none).1)
 
     -- the report was printed, or could not be
-    pub ends_printed : (status : Status) → SameCounts before.folder.reads after.folder.reads → Printed (report_text report) due status before.stream after.stream
+    pub ends_printed : (status : Status) → (number_of due ≡ 0 → SameCounts before.folder.reads after.folder.reads) → Printed body last due status before.stream after.stream
         → CallEnds request before after (number_of status) []
     ends_printed status reads printed =
-        let text = report_text report in
-        let old = before.stream.written in
-        let new = after.stream.written in
         let ended = λ (n : ℕ). CallEnds request before after n [] in
         elim printed.how [
-          | inl all ↦ subst ended (sym (ap number_of all.0)) (ends_due (λ out clean. all.2 out) (λ out. all_is_prefix text old new (all.2 out))
-              (λ zero. record { reads = reads; creates = knows.creates; appends = knows.appends; writes = all.1 }))
+          | inl all ↦ subst ended (sym (ap number_of all.0)) (ends_due (λ out clean. all.2 out)
+              (λ out. subst (λ (t : List ℕ). WritesPrefix t before.stream.written after.stream.written) (append-nil (body ++ last)) (all_is_prefix (body ++ last) [] before.stream.written after.stream.written (all.2 out)))
+              (λ zero. record { reads = reads zero; creates = knows.creates; appends = knows.appends; writes = all.1 }))
           | inr rest ↦ elim rest [
-            | inl memory ↦ subst ended (sym (ap number_of memory.0)) (ends_without_memory (λ told out. inr (report, is.reports told, memory.1 out)))
-            | inr failed ↦ elim (after_fault due) [
-              | inl done ↦ subst ended (sym (ap number_of (failed.0 ∙ done.1))) (ends_unwritten done.0 failed.1 failed.2)
-              | inr event ↦ subst ended (sym (ap number_of (failed.0 ∙ event.1))) (ends_due
-                  (λ out clean. elim clean [ inl e ↦ absurd (event.0 e) | inr c ↦ absurd (c.1 (inl failed.1)) ])
-                  (λ out. less_is_prefix text old new (failed.2.written out)) (λ zero. absurd (event.0 zero)))
+            | inl memory ↦ subst ended (sym (ap number_of memory.0)) (ends_without_memory (λ told out. parts_part body last (is.parts told) (memory.1 out)))
+            | inr failed ↦ elim failed [
+              | inl broken ↦ subst ended (sym (ap number_of broken.0)) (ends_unwritten body (has_form broken.2.some) broken.1 broken.2 (λ told. parts_begin request before.folder.held body last (is.parts told)))
+              | inr line ↦
+                  let not_done : number_of due ≢ 0 = λ e. omega (arith, line.2, ap length (is.last e)) in
+                  subst ended (sym (ap number_of line.0)) (ends_due
+                  (λ out clean. elim clean [ inl e ↦ absurd (not_done e) | inr c ↦ absurd (c.1 (inl line.1)) ])
+                  line.3 (λ zero. absurd (not_done zero)))
             ]
           ]
         ]

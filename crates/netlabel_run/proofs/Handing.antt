@@ -1,86 +1,142 @@
--- Texts handed on one after the other.
-use Rattle.std.proofs.Common.{◌≡◌, ◌<◌, ℕ, ◌+◌, List, [], ◌++◌, length, take, Result, Ok, Err, sym, ap, subst, ◌∙◌, arith, append_assoc, length-append}
-use Rattle.std.specs.Prelude.{IsTrue, OnOk, OnErr}
+-- Texts handed on one after the other, and how a report ends.
+use Rattle.std.proofs.Common.{◌≡◌, ◌<◌, ℕ, ◌+◌, List, [], ◌++◌, length, take, Ok, Err, refl, sym, ap, subst, ◌∙◌, arith, append_assoc, length-append, inl, inr}
+use Rattle.std.specs.Prelude.{IsTrue}
 use Rattle.std.proofs.Math.Seq.{take-append-add}
-use Rattle.std.proofs.lemmas.List.{append-nil}
-use Rattle.net_io.specs.declared.fault.IoFault.{IoFault}
-use Rattle.net_io.specs.declared.fault.IoFault.TheVariants.{Failed}
-use Rattle.net_io.specs.Faults.{Counts}
-use Rattle.net_io.specs.Sink.{SinkState, WritesLess}
-use Rattle.netlabel_run.specs.inside.Printing.{Goes, Breaks, HandsOn}
+use Rattle.std.proofs.lemmas.List.{append-nil, take-append-le, take_all}
+use Rattle.net_io.specs.declared.fault.IoFault.TheVariants.{OutOfMemory as IoOutOfMemory}
+use Rattle.net_io.specs.Faults.{Rose}
+use Rattle.net_io.specs.Sink.{SinkState, WritesPrefix, WritesLess}
+use Rattle.netlabel_run.specs.declared.status.Status.{Status}
+use Rattle.netlabel_run.specs.inside.Printing.{Goes, Breaks, HandsOn, IsUnderWay, Printed}
 
--- what was to be sent, in other words
-pub goes_as : (s t w : List ℕ) (a b : SinkState) → s ≡ t → Goes s w a b → Goes t w a b
-goes_as s t w a b same g = subst (λ x. Goes x w a b) same g
+-- ---- beginnings
 
--- the rest was sent behind what was sent first, or a beginning of it
-then_goes : (text waits more still : List ℕ) (a b c : SinkState) → b.tells ≡ a.tells → Goes text waits a b → Goes (waits ++ more) still b c → Goes (text ++ more) still a c
-then_goes text waits more still a b c told first rest = record {
-  sent = first.sent ++ rest.sent;
-  all =
-      append_assoc first.sent rest.sent still
-      ∙ ap (λ x. first.sent ++ x) rest.all
-      ∙ sym (append_assoc first.sent waits more)
-      ∙ ap (λ x. x ++ more) first.all;
-  written = λ tells.
-      rest.written (subst IsTrue (sym told) tells)
-      ∙ ap (λ x. x ++ rest.sent) (first.written tells)
-      ∙ append_assoc a.written first.sent rest.sent;
+pub all_is_prefix : (text rest old new : List ℕ) → new ≡ old ++ text → WritesPrefix (text ++ rest) old new
+all_is_prefix text rest old new all = record {
+  count = length text;
+  within = omega (arith, length-append text rest);
+  written = all ∙ ap (λ t. old ++ t) (sym (take-append-le (length text) text rest (omega arith) ∙ take_all (length text) text (omega arith)));
 }
 
-then_breaks : (text waits more : List ℕ) (a b c : SinkState) → b.tells ≡ a.tells → Goes text waits a b → Breaks (waits ++ more) b c → Breaks (text ++ more) a c
-then_breaks text waits more a b c told first rest =
-    let whole : text ++ more ≡ first.sent ++ (waits ++ more) = ap (λ x. x ++ more) (sym first.all) ∙ append_assoc first.sent waits more in
-    let long : length (text ++ more) ≡ length first.sent + length (waits ++ more) = ap length whole ∙ length-append first.sent (waits ++ more) in
-    record {
-      some = omega (arith, rest.some, long);
-      written = λ tells. (
-          let less = rest.written (subst IsTrue (sym told) tells) in
-          record {
-            count = length first.sent + less.count;
-            within = omega (arith, less.within, long);
-            written =
-                less.written
-                ∙ ap (λ x. x ++ take less.count (waits ++ more)) (first.written tells)
-                ∙ append_assoc a.written first.sent (take less.count (waits ++ more))
-                ∙ ap (λ x. a.written ++ x) (sym (take-append-add first.sent (waits ++ more) less.count))
-                ∙ ap (λ x. a.written ++ take (length first.sent + less.count) x) (sym whole);
-          });
-    }
-
-counts_then : {T : Type 0} (result : Result T IoFault) (a b c : ℕ) → b ≡ a → Counts Failed result b c → Counts Failed result a c
-counts_then result a b c same counts = subst (λ n. Counts Failed result n c) same counts
-
--- one text behind another
-pub hands_then : {T : Type 0} (first more waits still end : List ℕ) (result : Result T IoFault) (a b c : SinkState)
-    → Goes (waits ++ first) still a b → b.tells ≡ a.tells → b.faults ≡ a.faults → HandsOn more still end result b c → HandsOn (first ++ more) waits end result a c
-hands_then first more waits still end (Ok value) a b c goes told same rest = record {
-  ok = goes_as _ _ end a c (append_assoc waits first more) (then_goes (waits ++ first) still more end a b c told goes rest.ok);
-  err = tt;
-  told = rest.told ∙ told;
-  counts = counts_then (Ok value) a.faults b.faults c.faults same rest.counts;
+pub less_is_prefix : (text rest old new : List ℕ) → WritesLess text old new → WritesPrefix (text ++ rest) old new
+less_is_prefix text rest old new less = record {
+  count = less.count;
+  within = omega (arith, less.within, length-append text rest);
+  written = less.written ∙ ap (λ t. old ++ t) (sym (take-append-le less.count text rest (omega (arith, less.within))));
 }
-hands_then first more waits still end (Err fault) a b c goes told same rest = record {
+
+-- less of a part is less of all
+pub less_of_all : (text rest old new : List ℕ) → WritesLess text old new → WritesLess (text ++ rest) old new
+less_of_all text rest old new less = record {
+  count = less.count;
+  within = omega (arith, less.within, length-append text rest);
+  written = less.written ∙ ap (λ t. old ++ t) (sym (take-append-le less.count text rest (omega (arith, less.within))));
+}
+
+module _ (sent rest old mid new : List ℕ) (was : mid ≡ old ++ sent) where
+  then_first : (n : ℕ) → new ≡ mid ++ take n rest → new ≡ old ++ take (length sent + n) (sent ++ rest)
+  then_first n written =
+      written
+      ∙ ap (λ x. x ++ take n rest) was
+      ∙ append_assoc old sent (take n rest)
+      ∙ ap (λ x. old ++ x) (sym (take-append-add sent rest n))
+
+  prefix_behind : WritesPrefix rest mid new → WritesPrefix (sent ++ rest) old new
+  prefix_behind p = record { count = length sent + p.count; within = omega (arith, p.within, length-append sent rest); written = then_first p.count p.written }
+
+  less_behind : WritesLess rest mid new → WritesLess (sent ++ rest) old new
+  less_behind p = record { count = length sent + p.count; within = omega (arith, p.within, length-append sent rest); written = then_first p.count p.written }
+
+-- ---- a report under way
+
+pub way_start : (a : SinkState) → IsUnderWay [] [] a a
+way_start a = record { goes = record { sent = []; all = refl; written = λ told. sym (append-nil a.written) }; told = refl; faults = refl }
+
+module _ (text waits : List ℕ) (a b : SinkState) (way : IsUnderWay text waits a b) where
+  -- the rest behind what was sent
+  rest_is : (more : List ℕ) → way.goes.sent ++ (waits ++ more) ≡ text ++ more
+  rest_is more = sym (append_assoc way.goes.sent waits more) ∙ ap (λ x. x ++ more) way.goes.all
+
+  pub way_add : (more : List ℕ) → IsUnderWay (text ++ more) (waits ++ more) a b
+  way_add more = record { goes = record { sent = way.goes.sent; all = rest_is more; written = way.goes.written }; told = way.told; faults = way.faults }
+
+  pub way_more : {T : Type 0} (line still : List ℕ) (x : T) (c : SinkState) → HandsOn line waits still (Ok x) b c → IsUnderWay (text ++ line) still a c
+  way_more line still x c hands =
+      let first = way.goes in
+      let next = hands.ok in
+      record {
+        goes = record {
+          sent = first.sent ++ next.sent;
+          all = append_assoc first.sent next.sent still ∙ ap (λ x. first.sent ++ x) next.all ∙ rest_is line;
+          written = λ told. next.written (subst IsTrue (sym way.told) told) ∙ ap (λ x. x ++ next.sent) (first.written told) ∙ append_assoc a.written first.sent next.sent;
+        };
+        told = hands.told ∙ way.told;
+        faults = hands.counts.ok ∙ way.faults;
+      }
+
+  rose_behind : (c : SinkState) → Rose b.faults c.faults → Rose a.faults c.faults
+  rose_behind c rose = subst (λ (n : ℕ). Rose n c.faults) way.faults rose
+
+  breaks_behind : (rest whole : List ℕ) (c : SinkState) → way.goes.sent ++ rest ≡ whole → Breaks rest b c → Breaks whole a c
+  breaks_behind rest whole c is breaks = record {
+    some = omega (arith, breaks.some, ap length is, length-append way.goes.sent rest);
+    written = λ told. subst (λ (x : List ℕ). WritesLess x a.written c.written) is
+        (less_behind way.goes.sent rest a.written b.written c.written (way.goes.written told) (breaks.written (subst IsTrue (sym way.told) told)));
+  }
+
+  -- a write has failed on the way
+  pub breaks_more : (line : List ℕ) (c : SinkState) → Breaks (waits ++ line) b c → Breaks (text ++ line) a c
+  breaks_more line c breaks = breaks_behind (waits ++ line) (text ++ line) c (rest_is line) breaks
+
+  pub rose_more : (c : SinkState) → Rose b.faults c.faults → Rose a.faults c.faults
+  rose_more = rose_behind
+
+  prefix_more : (last : List ℕ) (c : SinkState) → (IsTrue b.tells → WritesPrefix (waits ++ last) b.written c.written) → IsTrue a.tells → WritesPrefix (text ++ last) a.written c.written
+  prefix_more last c prefix told =
+      subst (λ (x : List ℕ). WritesPrefix x a.written c.written) (rest_is last)
+      (prefix_behind way.goes.sent (waits ++ last) a.written b.written c.written (way.goes.written told) (prefix (subst IsTrue (sym way.told) told)))
+
+  all_more : (last : List ℕ) (c : SinkState) → (IsTrue b.tells → c.written ≡ b.written ++ (waits ++ last)) → IsTrue a.tells → c.written ≡ a.written ++ (text ++ last)
+  all_more last c all told =
+      all (subst IsTrue (sym way.told) told)
+      ∙ ap (λ x. x ++ (waits ++ last)) (way.goes.written told)
+      ∙ append_assoc a.written way.goes.sent (waits ++ last)
+      ∙ ap (λ x. a.written ++ x) (rest_is last)
+
+  -- the report's end behind its beginning
+  pub printed_behind : (last : List ℕ) (due status : Status) (c : SinkState) → Printed waits last due status b c → Printed text last due status a c
+  printed_behind last due status c printed = record {
+    told = printed.told ∙ way.told;
+    how = elim printed.how [
+      | inl all ↦ inl (all.0, all.1 ∙ way.faults, all_more last c all.2)
+      | inr rest ↦ elim rest [
+        | inl memory ↦ inr (inl (memory.0, prefix_more last c memory.1))
+        | inr failed ↦ elim failed [
+          | inl body ↦ inr (inr (inl (body.0, rose_behind c body.1, breaks_behind waits text c way.goes.all body.2)))
+          | inr line ↦ inr (inr (inr (line.0, rose_behind c line.1, line.2, prefix_more last c line.3)))
+        ]
+      ]
+    ];
+  }
+
+-- ---- the end of a report
+
+-- all that waited was handed on
+pub way_flushed : {T : Type 0} (waits still : List ℕ) (x : T) (a b : SinkState) → still ≡ [] → HandsOn [] waits still (Ok x) a b → IsUnderWay waits [] a b
+way_flushed waits still x a b none hands = record {
+  goes = subst (λ (t : List ℕ). Goes t [] a b) (append-nil waits) (subst (λ (w : List ℕ). Goes (waits ++ []) w a b) none hands.ok);
+  told = hands.told;
+  faults = hands.counts.ok;
+}
+
+-- no memory for a line behind what waits: nothing is handed on
+pub hands_nothing : {T : Type 0} (line waits still : List ℕ) (a : SinkState) → 0 < length line → HandsOn {T = T} line waits still (Err IoOutOfMemory) a a
+hands_nothing line waits still a some = record {
   ok = tt;
-  err = subst (λ x. Breaks x a c) (append_assoc waits first more) (then_breaks (waits ++ first) still more a b c told goes rest.err);
-  told = rest.told ∙ told;
-  counts = counts_then (Err fault) a.faults b.faults c.faults same rest.counts;
+  err = record {
+    some = omega (arith, some, length-append waits line);
+    written = λ told. record { count = 0; within = omega (arith, some, length-append waits line); written = sym (append-nil a.written) };
+  };
+  told = refl;
+  counts = record { no_less = omega arith; ok = tt; cause = λ e. absurd cc };
 }
-
--- a text written at once, where nothing waits
-pub hands_straight : {T : Type 0} (text : List ℕ) (result : Result T IoFault) (a b : SinkState)
-    → OnOk result (IsTrue a.tells → b.written ≡ a.written ++ text) → OnErr result (IsTrue a.tells → WritesLess text a.written b.written) → OnErr result (0 < length text)
-    → b.tells ≡ a.tells → Counts Failed result a.faults b.faults → HandsOn text [] [] result a b
-hands_straight text (Ok value) a b ok err some told counts = record { ok = record { sent = text; all = append-nil text; written = ok }; err = tt; told = told; counts = counts }
-hands_straight text (Err fault) a b ok err some told counts = record { ok = tt; err = record { some = some; written = err }; told = told; counts = counts }
-
--- nothing waits, where that is known of an Ok
-pub hands_all : {T : Type 0} (text waits still : List ℕ) (result : Result T IoFault) (a b : SinkState)
-    → OnOk result (still ≡ []) → HandsOn text waits still result a b → HandsOn text waits [] result a b
-hands_all text waits still (Ok value) a b none hands = subst (λ w. HandsOn text waits w (Ok value) a b) none hands
-hands_all text waits still (Err fault) a b none hands = record { ok = tt; err = hands.err; told = hands.told; counts = hands.counts }
-
--- nothing more than the text itself
-pub hands_only : {T : Type 0} (text waits still : List ℕ) (result : Result T IoFault) (a b : SinkState)
-    → HandsOn (text ++ []) waits still result a b → HandsOn text waits still result a b
-hands_only text waits still result a b hands = subst (λ t. HandsOn t waits still result a b) (append-nil text) hands

@@ -1,6 +1,9 @@
+pub mod Answer
 pub mod Commands
 pub mod Endings
 pub mod Handing
 pub mod Law
 pub mod Once
 pub mod Requests
+pub mod Shown
+pub mod Showing

@@ -4,14 +4,17 @@ use Rattle.std.specs.Prelude.{IsTrue}
 use Rattle.std.specs.List.{All}
 use Rattle.std.proofs.lemmas.List.{length-replicate}
 use Rattle.mls_label.specs.declared.label.Label.{Label}
-use Rattle.net_io.specs.Depot.{octets_of, OnlyReads}
+use Rattle.net_io.specs.Depot.{DepotState, octets_of, SameHeld, OnlyReads}
+use Rattle.net_io.specs.Faults.{SameCounts}
+use Rattle.netlabel_run.specs.declared.command.Command.{Command}
 use Rattle.netlabel_run.specs.declared.command.Command.TheVariants.{Judge}
 use Rattle.netlabel_run.specs.declared.status.Status.TheVariants.{Done, NoForm, Limit}
 use Rattle.netlabel_run.specs.Verdict.{Verdict, IsVerdict}
 use Rattle.netlabel_run.specs.Line.{verdict_line}
 use Rattle.netlabel_run.specs.Report.{Report, JudgeReport, absent, too_long, judged, late_report, packet_limit, packet_limit_line, usage_line}
 use Rattle.netlabel_run.specs.Status.{JudgeStatus}
-use Rattle.netlabel_run.specs.Stages.{reading_stage}
+use Rattle.netlabel_run.specs.Stages.{HasStages, reading_stage}
+use Rattle.netlabel_run.specs.Seen.{IsLawful, IsWhole}
 use Rattle.netlabel_run.specs.Outside.{Outside}
 use Rattle.netlabel_run.proofs.Endings.{Knows, IsDue}
 
@@ -24,6 +27,16 @@ is_there (Some octets) long = refl
 reads_alone : (file : List ℕ) → All (λ stage. stage.output ≡ None) (reading_stage file ∷ [])
 reads_alone file zero d within = refl
 reads_alone file (suc k) d within = absurd (omega (arith, within))
+
+-- Of a folder nothing but numbers of failed reads has moved.
+pub record IsOnlyRead (old new : DepotState) : Type 0 where
+  pub told : new.tells ≡ old.tells
+  pub kept : IsTrue old.tells → SameHeld old.held new.held
+  pub creates : SameCounts old.creates new.creates
+  pub appends : SameCounts old.appends new.appends
+
+pub only_read : {T E : Type 0} (failed : E) (result : Result T E) (file : List ℕ) (old new : DepotState) → OnlyReads {T = T} {E = E} failed result file old new → IsOnlyRead old new
+only_read failed result file old new reads = record { told = reads.told; kept = reads.kept; creates = reads.creates; appends = reads.appends }
 
 pub knows_usage : (before after : Outside) → after.folder ≡ before.folder → after.stream.tells ≡ before.stream.tells → Knows None before after []
 knows_usage before after same told = record {
@@ -38,53 +51,68 @@ knows_usage before after same told = record {
   stream_told = told;
 }
 
-pub usage_due : (before : Outside) → IsDue None before NoForm (late_report [] usage_line)
+-- a call that reads the file that its words name, and has no flows
+pub knows_reading : (request : Option Command) (file : List ℕ) (before after : Outside) → HasStages request before.folder.held [] (reading_stage file ∷ [])
+    → IsLawful request before.folder.held [] → IsWhole request before.folder.held [] → IsOnlyRead before.folder after.folder → after.stream.tells ≡ before.stream.tells
+    → Knows request before after (reading_stage file ∷ [])
+knows_reading request file before after stages lawful whole reads told = record {
+  begun = record { content = before.folder.held; told = λ _ name. refl; are = stages; flows = refl };
+  none = reads_alone file;
+  lawful = lawful;
+  whole = whole;
+  kept = reads.kept;
+  creates = reads.creates;
+  appends = reads.appends;
+  folder_told = reads.told;
+  stream_told = told;
+}
+
+pub usage_due : (before : Outside) → IsDue None before NoForm [] usage_line
 usage_due before = record {
   event = (λ e. omega (arith, e), λ e. omega (arith, e), λ e. omega (arith, e));
   form = λ e. refl;
-  usage = λ e. refl;
+  usage = λ e. (refl, refl);
   has = λ told. refl;
   may = (λ name. None, refl);
-  reports = λ told. refl;
-  last = λ e. absurd cc;
+  parts = λ told. record { report = late_report [] usage_line; has = refl; body = refl; last = refl };
+  last = λ e. absurd (omega (arith, e));
 }
 
 module _ (doi : ℕ) (level : Label) (file : List ℕ) (before : Outside) where
-  pub knows_judge : {T E : Type 0} (failed : E) (result : Result T E) (after : Outside) → OnlyReads {T = T} {E = E} failed result file before.folder after.folder
-      → after.stream.tells ≡ before.stream.tells → Knows (Some (Judge doi level file)) before after (reading_stage file ∷ [])
-  knows_judge failed result after reads told = record {
-    begun = record { content = before.folder.held; told = λ _ name. refl; are = refl; flows = refl };
-    none = reads_alone file;
-    lawful = refl;
-    whole = refl;
-    kept = reads.kept;
-    creates = reads.creates;
-    appends = reads.appends;
-    folder_told = reads.told;
-    stream_told = told;
-  }
+  pub knows_judge : (after : Outside) → IsOnlyRead before.folder after.folder → after.stream.tells ≡ before.stream.tells → Knows (Some (Judge doi level file)) before after (reading_stage file ∷ [])
+  knows_judge after reads told = knows_reading (Some (Judge doi level file)) file before after refl refl refl reads told
 
   pub limit_due : (IsTrue before.folder.tells → packet_limit < length (octets_of (before.folder.held file)))
-      → IsDue (Some (Judge doi level file)) before Limit (late_report [] packet_limit_line)
+      → IsDue (Some (Judge doi level file)) before Limit [] packet_limit_line
   limit_due long = record {
     event = (λ e. omega (arith, e), λ e. omega (arith, e), λ e. omega (arith, e));
     form = λ e. absurd (omega (arith, e));
     usage = λ e. absurd cc;
     has = λ told. subst (λ held. JudgeStatus held 7) (sym (is_there (before.folder.held file) (long told))) (inl (long told, refl));
     may = (λ name. Some (replicate 65576 0), inl (omega (arith, length-replicate {A = ℕ} 65576 0), refl));
-    reports = λ told. subst (λ held. JudgeReport doi level held (late_report [] packet_limit_line)) (sym (is_there (before.folder.held file) (long told))) (too_long _ (long told));
-    last = λ e. absurd cc;
+    parts = λ told. record {
+      report = late_report [] packet_limit_line;
+      has = subst (λ held. JudgeReport doi level held (late_report [] packet_limit_line)) (sym (is_there (before.folder.held file) (long told))) (too_long _ (long told));
+      body = refl;
+      last = refl;
+    };
+    last = λ e. absurd (omega (arith, e));
   }
 
   pub verdict_due : (octets : List ℕ) (verdict : Verdict) → (IsTrue before.folder.tells → before.folder.held file ≡ Some octets) → length octets ≤ packet_limit
-      → IsVerdict doi level octets verdict → IsDue (Some (Judge doi level file)) before Done (late_report (verdict_line verdict) [])
+      → IsVerdict doi level octets verdict → IsDue (Some (Judge doi level file)) before Done (verdict_line verdict) []
   verdict_due octets verdict holds short is = record {
     event = (λ e. omega (arith, e), λ e. omega (arith, e), λ e. omega (arith, e));
     form = λ e. absurd (omega (arith, e));
     usage = λ e. absurd cc;
     has = λ told. subst (λ held. JudgeStatus held 0) (sym (holds told)) (inr (short, refl));
     may = (λ name. Some [], inr (omega arith, refl));
-    reports = λ told. subst (λ held. JudgeReport doi level held (late_report (verdict_line verdict) [])) (sym (holds told)) (judged octets verdict short is);
+    parts = λ told. record {
+      report = late_report (verdict_line verdict) [];
+      has = subst (λ held. JudgeReport doi level held (late_report (verdict_line verdict) [])) (sym (holds told)) (judged octets verdict short is);
+      body = refl;
+      last = refl;
+    };
     last = λ e. refl;
   }
 

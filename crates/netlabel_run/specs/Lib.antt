@@ -1,6 +1,7 @@
 pub mod Words
 pub mod Verdict
 pub mod Line
+pub mod Show
 pub mod Report
 pub mod Status
 pub mod Stages

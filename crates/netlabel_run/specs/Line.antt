@@ -1,11 +1,20 @@
--- The printed lines of a verdict.
-use Rattle.std.specs.Prelude.{ℕ, List, [], ◌∷◌, ◌++◌, codes, Ok, Err}
+-- The printed lines.
+use Rattle.std.specs.Prelude.{ℕ, List, [], ◌∷◌, ◌++◌, codes, Option, Some, None, Result, Ok, Err}
 use Rattle.std.specs.Fmt.{decimal}
 use Rattle.mls_label.specs.declared.label.Label.{Label}
 use Rattle.mls_range.specs.LabelText.{label_text}
+use Rattle.cipso_tags.specs.Tag.{tag_type}
+use Rattle.ip_headers.specs.Packet.{ParsedPacket}
 use Rattle.packet_label.specs.declared.denial.Denial.{Denial}
 use Rattle.packet_label.specs.declared.denial.Denial.TheVariants.{BadHeader, BadOption, UnknownDoi, TagNotAllowed, CategoryUnmapped, AlreadyLabelled, NotCrossable}
 use Rattle.packet_label.specs.Denial.{number_of, name_of, cause_name}
+use Rattle.packet_label.specs.declared.packet.Wire.{Wire}
+use Rattle.packet_label.specs.declared.packet.Wire.TheVariants.{Cipso, Calipso}
+use Rattle.packet_label.specs.declared.fault.CarryFault.{CarryFault}
+use Rattle.packet_label.specs.declared.fault.CarryFault.TheVariants as carry
+use Rattle.pcap_frames.specs.declared.fault.CaptureFault.{CaptureFault}
+use Rattle.pcap_frames.specs.declared.fault.CaptureKind.{CaptureKind}
+use Rattle.pcap_frames.specs.declared.fault.CaptureKind.TheVariants.{Magic, Version, LinkType, Captured, SnapCut, Short}
 use Rattle.netlabel_run.specs.Verdict.{Verdict}
 
 -- a text and the end of its line
@@ -36,3 +45,37 @@ delivered_text label = codes "delivered " ++ label_text label
 abbrev pub verdict_line : Verdict → List ℕ
 verdict_line (Ok label) = line_of (delivered_text label)
 verdict_line (Err denial) = line_of (denial_text denial)
+
+-- what a label option says and where it stands, or that there is none
+abbrev pub option_text : Option Wire → List ℕ
+option_text None = codes "unlbl"
+option_text (Some (Cipso at doi tag label)) =
+    codes "cipsov4 doi " ++ decimal doi ++ codes " tag " ++ decimal (tag_type tag) ++ codes " " ++ label_text label ++ octet_detail at
+option_text (Some (Calipso at doi label)) = codes "calipso doi " ++ decimal doi ++ codes " " ++ label_text label ++ octet_detail at
+
+-- what a packet carries, or its first fault
+abbrev pub packet_text : Result (ParsedPacket Wire) CarryFault → List ℕ
+packet_text (Ok packet) = option_text packet.label
+packet_text (Err (carry.Header octet)) = codes "BadHeader" ++ octet_detail octet
+packet_text (Err (carry.Option octet)) = codes "BadOption" ++ octet_detail octet
+
+unfoldable pub shown_line : ℕ → List ℕ → List ℕ
+shown_line number text = line_of (codes "packet " ++ decimal number ++ codes " " ++ text)
+
+unfoldable pub shown_end_line : ℕ → List ℕ
+shown_end_line count = line_of (codes "end packets " ++ decimal count)
+
+abbrev pub kind_name : CaptureKind → List ℕ
+kind_name Magic = codes "Magic"
+kind_name Version = codes "Version"
+kind_name LinkType = codes "LinkType"
+kind_name Captured = codes "Captured"
+kind_name SnapCut = codes "SnapCut"
+kind_name Short = codes "Short"
+
+-- the fault of a capture, the one with this number
+unfoldable pub capture_line : ℕ → CaptureFault → List ℕ
+capture_line number fault = line_of (codes "capture " ++ decimal number ++ octet_detail fault.octet ++ codes " " ++ kind_name fault.kind)
+
+unfoldable pub packets_limit_line : List ℕ
+packets_limit_line = line_of (codes "limit packets 1048576")

@@ -1,10 +1,14 @@
 -- What a call prints. It is said under the versions that the call itself has printed, so a flow that was cut short has the report of what it came to.
-use Rattle.std.specs.Prelude.{ℕ, ◌<◌, ◌≤◌, ◌≡◌, List, [], ◌∷◌, ◌++◌, length, codes, Option, Some, None}
+use Rattle.std.specs.Prelude.{ℕ, ◌+◌, ◌<◌, ◌≤◌, ◌≡◌, List, [], ◌∷◌, ◌++◌, length, take, map, codes, Option, Some, None, Result, Ok, Err}
+use Rattle.std.specs.List.{concat, range_with_len}
 use Rattle.mls_label.specs.declared.label.Label.{Label}
 use Rattle.netlabel_run.specs.declared.command.Command.{Command}
-use Rattle.netlabel_run.specs.declared.command.Command.TheVariants.{Judge}
+use Rattle.netlabel_run.specs.declared.command.Command.TheVariants.{Judge, Show}
+use Rattle.pcap_frames.specs.declared.fault.CaptureFault.{CaptureFault}
+use Rattle.pcap_frames.specs.Capture.{Capture, capture_of}
 use Rattle.netlabel_run.specs.Verdict.{Verdict, IsVerdict}
-use Rattle.netlabel_run.specs.Line.{line_of, verdict_line}
+use Rattle.netlabel_run.specs.Line.{line_of, verdict_line, shown_end_line, capture_line}
+use Rattle.netlabel_run.specs.Show.{AreShown, Event, packets_limit, capture_event}
 
 -- what each name of the folder holds
 abbrev pub Folder : Type 0
@@ -43,10 +47,30 @@ pub data JudgeReport (doi : ℕ) (level : Label) : Option (List ℕ) → Report 
   too_long : (octets : List ℕ) → packet_limit < length octets → JudgeReport doi level (Some octets) (late_report [] packet_limit_line)
   judged : (octets : List ℕ) (verdict : Verdict) → length octets ≤ packet_limit → IsVerdict doi level octets verdict → JudgeReport doi level (Some octets) (late_report (verdict_line verdict) [])
 
+-- all that may stand in front of a next line: nothing, the first line, the first two, and so on
+abbrev pub starts_of : List (List ℕ) → List (List ℕ)
+starts_of lines = map (λ n. concat (take n lines)) (range_with_len 0 (length lines + 1))
+
+-- the lines of packets, and behind them their number, or the event that ends the capture before its end
+abbrev pub lines_report : List (List ℕ) → Option Event → Report
+lines_report lines None = record { body = concat lines ++ shown_end_line (length lines); last = []; pauses = starts_of lines }
+lines_report lines (Some event) = record { body = concat lines; last = event.line; pauses = starts_of lines }
+
+-- the lines of as many packets as may be read, or the fault of the header
+abbrev pub CaptureReport : Result Capture CaptureFault → Report → Type 0
+CaptureReport (Err fault) report = report ≡ late_report [] (capture_line 1 fault)
+CaptureReport (Ok capture) report = (lines : List (List ℕ)) × AreShown capture.header.link 1 (take packets_limit capture.frames) lines × (report ≡ lines_report lines (capture_event 1 packets_limit capture))
+
+-- `show`, by what its file holds: nothing of an absent one
+abbrev pub ShowReport : Option (List ℕ) → Report → Type 0
+ShowReport None report = report ≡ late_report [] []
+ShowReport (Some octets) report = CaptureReport (capture_of octets) report
+
 -- the report of what was asked for
 abbrev pub HasReport : Option Command → Folder → Versions → Report → Type 0
 HasReport None held seen report = report ≡ late_report [] usage_line
 HasReport (Some (Judge doi level file)) held seen report = JudgeReport doi level (held file) report
+HasReport (Some (Show file)) held seen report = ShowReport (held file) report
 
 -- whatever the folder may hold, nothing is printed before a read
 abbrev pub IsQuiet : Option Command → Type 0

@@ -1,18 +1,33 @@
 -- The status that a call ends with.
-use Rattle.std.specs.Prelude.{ℕ, ◌≡◌, ◌⊎◌, ◌<◌, ◌≤◌, List, length, Option, Some, None}
+use Rattle.std.specs.Prelude.{ℕ, ◌≡◌, ◌⊎◌, ◌<◌, ◌≤◌, List, length, Option, Some, None, Result, Ok, Err}
+use Rattle.std.specs.Option.{option_map_or}
 use Rattle.netlabel_run.specs.declared.command.Command.{Command}
-use Rattle.netlabel_run.specs.declared.command.Command.TheVariants.{Judge}
+use Rattle.netlabel_run.specs.declared.command.Command.TheVariants.{Judge, Show}
+use Rattle.pcap_frames.specs.declared.fault.CaptureFault.{CaptureFault}
+use Rattle.pcap_frames.specs.Capture.{Capture, capture_of}
 use Rattle.netlabel_run.specs.Report.{Folder, packet_limit}
+use Rattle.netlabel_run.specs.Show.{packets_limit, capture_event}
 
 -- `judge`, by what its file holds
 abbrev pub JudgeStatus : Option (List ℕ) → ℕ → Type 0
 JudgeStatus None status = ⊥
 JudgeStatus (Some octets) status = ((packet_limit < length octets) × (status ≡ 7)) ⊎ ((length octets ≤ packet_limit) × (status ≡ 0))
 
+-- of a capture: that of its event, or 0 at its end
+abbrev pub capture_status : Result Capture CaptureFault → ℕ
+capture_status (Err fault) = 5
+capture_status (Ok capture) = option_map_or (λ event. event.status) (capture_event 1 packets_limit capture) 0
+
+-- `show`, by what its file holds
+abbrev pub ShowStatus : Option (List ℕ) → ℕ → Type 0
+ShowStatus None status = ⊥
+ShowStatus (Some octets) status = status ≡ capture_status (capture_of octets)
+
 -- The status that is due by what was asked for and what the folder holds, the first event deciding: 1 where the words are no form, 2 where a script is wrong, 5 where a capture is, 7 where a limit is passed, else 0. None is due where a file that is needed is absent.
 abbrev pub HasStatus : Option Command → Folder → ℕ → Type 0
 HasStatus None held status = status ≡ 1
 HasStatus (Some (Judge doi level file)) held status = JudgeStatus (held file) status
+HasStatus (Some (Show file)) held status = ShowStatus (held file) status
 
 -- the statuses of what the outside refused: a read or the making of a file, a write or an append, memory
 abbrev pub IsRefusal : ℕ → Type 0

@@ -7,7 +7,7 @@ use Rattle.mls_label.specs.declared.label.Label.{Label}
 use Rattle.mls_range.specs.LabelText.{IsLabelText}
 use Rattle.mls_range.specs.TextFault.{IsRoomyLabel}
 use Rattle.netlabel_run.specs.declared.command.Command.{Command}
-use Rattle.netlabel_run.specs.declared.command.Command.TheVariants.{Judge}
+use Rattle.netlabel_run.specs.declared.command.Command.TheVariants.{Judge, Show}
 
 -- the octets of each word
 abbrev pub texts_of : List (String Global) → List (List ℕ)
@@ -41,9 +41,15 @@ pub record AsksToJudge (words : List (List ℕ)) (doi : ℕ) (level : Label) (fi
   pub is_level : IsLevel level_text level
   pub is_name : IsFileName file
 
+-- `show <capture>`
+pub record AsksToShow (words : List (List ℕ)) (file : List ℕ) : Type 0 where
+  pub are : words ≡ codes "show" ∷ file ∷ []
+  pub is_name : IsFileName file
+
 -- the words are of the command's form
 abbrev pub Asks : List (List ℕ) → Command → Type 0
 Asks words (Judge doi level file) = AsksToJudge words doi level file
+Asks words (Show file) = AsksToShow words file
 
 -- the words are of one of the forms
 abbrev pub IsForm : List (List ℕ) → Type 0

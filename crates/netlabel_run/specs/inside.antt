@@ -1,5 +1,4 @@
 pub mod Numbers
 pub mod Printing
+pub mod Stopping
 pub mod Judged
-pub mod Reading
-pub mod Versions

@@ -12,6 +12,10 @@ pub(crate) enum Command<'a> {
         level: Level<'a>,
         file: FileName<'a>,
     },
+    /// `show`: what each packet of a capture carries.
+    Show {
+        file: FileName<'a>,
+    },
 }
 
 /// The name of a file, as its octets.

@@ -1,14 +1,22 @@
 //! The printed lines: each appends a definition of `specs/Line.antt` to what waits to be printed.
 
-ghost use Rattle.std.specs.Prelude.{◌≡◌, ◌++◌, codes, OnOk};
-ghost use Rattle.netlabel_run.specs.Line.{octet_detail, detail_of, denial_text, delivered_text, verdict_line};
+ghost use Rattle.std.specs.Prelude.{◌≡◌, ◌++◌, List, ℕ, Some, codes, OnOk};
+ghost use Rattle.std.specs.Fmt.{decimal};
+ghost use Rattle.mls_range.specs.LabelText.{label_text};
+ghost use Rattle.cipso_tags.specs.Tag.{tag_type};
+ghost use Rattle.packet_label.specs.declared.packet.Wire.TheVariants as wire;
+ghost use Rattle.packet_label.specs.Wire.{wire_with};
+ghost use Rattle.netlabel_run.specs.Line.{octet_detail, detail_of, denial_text, delivered_text, verdict_line, option_text, shown_line, shown_end_line, kind_name, capture_line, packets_limit_line};
 ghost use Rattle.netlabel_run.specs.Report.{usage_line, packet_limit_line};
+ghost use Rattle.netlabel_run.specs.Show.{IsShown};
 ghost use Rattle.netlabel_run.specs.inside.Judged.{with_label};
 
+use cipso_tags::type_octet;
 use decimal_text::write_decimal;
-use mls_label::{Label, OutOfMemory};
+use mls_label::{Label, OutOfMemory, Tag};
 use mls_range::write_label;
-use packet_label::{Denial, cause_name};
+use packet_label::{CarryFault, Denial, Mark, carried_into, cause_name};
+use pcap_frames::{CaptureFault, CaptureKind, ip_part};
 use std::alloc::AllocError;
 
 /// The forms of the command line.
@@ -25,6 +33,14 @@ pub(crate) fn packet_limit() -> &'static [u8]
     ensures { result.now ≡ packet_limit_line }
 {
     b"limit packet 65575\n"
+}
+
+/// There are more packets than one call reads.
+#[tactic(auto, unfolding(crate::specs::Line::packets_limit_line))]
+pub(crate) fn packets_limit() -> &'static [u8]
+    ensures { result.now ≡ packets_limit_line }
+{
+    b"limit packets 1048576\n"
 }
 
 /// Appends the line of a verdict, whose label is lent.
@@ -74,7 +90,7 @@ fn write_detail(denial: &Denial, line: &mut Vec<u8>) -> Result<(), AllocError>
         | Denial::BadOption { octet }
         | Denial::UnknownDoi { octet }
         | Denial::TagNotAllowed { octet }
-        | Denial::AlreadyLabelled { octet } => write_octet(*octet, line),
+        | Denial::AlreadyLabelled { octet } => write_octet(*octet as u64, line),
         Denial::CategoryUnmapped { category } => {
             line.extend_from_slice(b" category ")?;
             write_decimal(u64::from(*category), line)
@@ -87,10 +103,165 @@ fn write_detail(denial: &Denial, line: &mut Vec<u8>) -> Result<(), AllocError>
     }
 }
 
-/// Appends the octet at fault.
-fn write_octet(octet: usize, line: &mut Vec<u8>) -> Result<(), AllocError>
+/// Appends an octet, that of a fault or of an option.
+fn write_octet(octet: u64, line: &mut Vec<u8>) -> Result<(), AllocError>
     ensures { OnOk result (line.new.items ≡ line.old.items ++ octet_detail octet) }
 {
     line.extend_from_slice(b" octet ")?;
-    write_decimal(octet as u64, line)
+    write_decimal(octet, line)
+}
+
+/// Appends the line of a packet by its number: what its frame, of this link type, carries. The label is lent.
+#[tactic(auto, unfolding(crate::specs::Line::shown_line))]
+pub(crate) fn write_packet(
+    number: u64,
+    link: u32,
+    frame: &[u8],
+    label: &mut Label,
+    line: &mut Vec<u8>,
+) -> Result<(), OutOfMemory>
+    ensures { OnOk result ((text : List ℕ) × IsShown link frame.now text × (line.new.items ≡ line.old.items ++ shown_line number text)) }
+{
+    line.extend_from_slice(b"packet ")?;
+    write_decimal(number, line)?;
+    line.extend_from_slice(b" ")?;
+    write_frame(link, frame, label, line)?;
+    line.push(b'\n')?;
+    Ok(())
+}
+
+/// Appends what a frame carries.
+fn write_frame(
+    link: u32,
+    frame: &[u8],
+    label: &mut Label,
+    line: &mut Vec<u8>,
+) -> Result<(), OutOfMemory>
+    ensures { OnOk result ((text : List ℕ) × IsShown link frame.now text × (line.new.items ≡ line.old.items ++ text)) }
+{
+    let Some(packet) = ip_part(link, frame) else {
+        line.extend_from_slice(b"NotIp")?;
+        return Ok(());
+    };
+    match carried_into(packet, label) {
+        Ok(marked) => write_option(marked.mark, label, line),
+        Err(CarryFault::Header { octet }) => write_fault(b"BadHeader", octet, line),
+        Err(CarryFault::Option { octet }) => write_fault(b"BadOption", octet, line),
+    }
+}
+
+/// Appends a fault of a packet by its name and its octet.
+fn write_fault(name: &[u8], octet: usize, line: &mut Vec<u8>) -> Result<(), OutOfMemory>
+    ensures { OnOk result (line.new.items ≡ line.old.items ++ (name.now ++ octet_detail octet)) }
+{
+    line.extend_from_slice(name)?;
+    write_octet(octet as u64, line)?;
+    Ok(())
+}
+
+/// Appends what a label option says, where there is one; its label is lent.
+fn write_option(mark: Option<Mark>, label: &Label, line: &mut Vec<u8>) -> Result<(), OutOfMemory>
+    ensures { OnOk result (line.new.items ≡ line.old.items ++ option_text (wire_with mark label.now)) }
+{
+    match mark {
+        None => {
+            line.extend_from_slice(b"unlbl")?;
+            Ok(())
+        }
+        Some(Mark::Cipso { at, doi, tag }) => write_cipso(at, doi, tag, label, line),
+        Some(Mark::Calipso { at, doi }) => write_calipso(at, doi, label, line),
+    }
+}
+
+/// Appends what a CIPSO option at this octet says.
+fn write_cipso(
+    at: usize,
+    doi: u32,
+    tag: Tag,
+    label: &Label,
+    line: &mut Vec<u8>,
+) -> Result<(), OutOfMemory>
+    ensures { OnOk result (line.new.items ≡ line.old.items ++ option_text (Some (wire.Cipso at doi tag label.now))) }
+{
+    write_doi(b"cipsov4", doi, line)?;
+    write_tag(tag, line)?;
+    write_said(label, at, line)
+}
+
+/// Appends what a CALIPSO option at this octet says.
+fn write_calipso(at: usize, doi: u32, label: &Label, line: &mut Vec<u8>) -> Result<(), OutOfMemory>
+    ensures { OnOk result (line.new.items ≡ line.old.items ++ option_text (Some (wire.Calipso at doi label.now))) }
+{
+    write_doi(b"calipso", doi, line)?;
+    write_said(label, at, line)
+}
+
+/// Appends a protocol by its name, and its DOI.
+fn write_doi(name: &[u8], doi: u32, line: &mut Vec<u8>) -> Result<(), AllocError>
+    ensures { OnOk result (line.new.items ≡ line.old.items ++ (name.now ++ codes " doi " ++ decimal doi)) }
+{
+    line.extend_from_slice(name)?;
+    line.extend_from_slice(b" doi ")?;
+    write_decimal(u64::from(doi), line)
+}
+
+/// Appends the type of a tag.
+fn write_tag(tag: Tag, line: &mut Vec<u8>) -> Result<(), AllocError>
+    ensures { OnOk result (line.new.items ≡ line.old.items ++ (codes " tag " ++ decimal (tag_type tag))) }
+{
+    line.extend_from_slice(b" tag ")?;
+    write_decimal(u64::from(type_octet(tag)), line)
+}
+
+/// Appends a label, and the octet of its option.
+fn write_said(label: &Label, at: usize, line: &mut Vec<u8>) -> Result<(), OutOfMemory>
+    ensures { OnOk result (line.new.items ≡ line.old.items ++ (codes " " ++ label_text label.now ++ octet_detail at)) }
+{
+    line.extend_from_slice(b" ")?;
+    write_label(label, line)?;
+    write_octet(at as u64, line)?;
+    Ok(())
+}
+
+/// Appends the line behind all packets of a capture: how many there are.
+#[tactic(auto, unfolding(crate::specs::Line::shown_end_line))]
+pub(crate) fn write_packets_end(count: u64, line: &mut Vec<u8>) -> Result<(), OutOfMemory>
+    ensures { OnOk result (line.new.items ≡ line.old.items ++ shown_end_line count) }
+{
+    line.extend_from_slice(b"end packets ")?;
+    write_decimal(count, line)?;
+    line.push(b'\n')?;
+    Ok(())
+}
+
+/// Appends the line of a capture that is broken, by the capture's number.
+#[tactic(auto, unfolding(crate::specs::Line::capture_line))]
+pub(crate) fn write_capture(
+    number: u64,
+    fault: CaptureFault,
+    line: &mut Vec<u8>,
+) -> Result<(), OutOfMemory>
+    ensures { OnOk result (line.new.items ≡ line.old.items ++ capture_line number fault) }
+{
+    line.extend_from_slice(b"capture ")?;
+    write_decimal(number, line)?;
+    write_octet(fault.octet, line)?;
+    line.extend_from_slice(b" ")?;
+    line.extend_from_slice(kind_name(fault.kind).as_bytes())?;
+    line.push(b'\n')?;
+    Ok(())
+}
+
+/// The name under which a capture's fault is reported, that of its variant.
+fn kind_name(kind: CaptureKind) -> &'static str
+    ensures { result.now ≡ kind_name kind }
+{
+    match kind {
+        CaptureKind::Magic => "Magic",
+        CaptureKind::Version => "Version",
+        CaptureKind::LinkType => "LinkType",
+        CaptureKind::Captured => "Captured",
+        CaptureKind::SnapCut => "SnapCut",
+        CaptureKind::Short => "Short",
+    }
 }

@@ -1,7 +1,7 @@
 //! What a call of the program leaves beside the report.
 
 ghost use Rattle.std.specs.Prelude.{◌≡◌, []};
-ghost use Rattle.netlabel_run.specs.inside.Versions.{versions_of};
+ghost use Rattle.netlabel_run.specs.Seen.{versions_of};
 
 use std::alloc::Global;
 use std::marker::Model;
@@ -24,7 +24,7 @@ pub struct Seen {
 
 impl Model for Seen {
     ghost use Rattle.std.specs.Prelude.{List, ℕ};
-    ghost use Rattle.netlabel_run.specs.inside.Versions.{versions_of};
+    ghost use Rattle.netlabel_run.specs.Seen.{versions_of};
 
     ghost Value = { List (List (List ℕ)) };
 
@@ -33,7 +33,7 @@ impl Model for Seen {
 
 impl Seen {
     /// No flow.
-    pub fn none(alloc: Global) -> Seen
+    pub(crate) fn none(alloc: Global) -> Seen
         ensures { result ≡ [] }
     {
         Seen {

@@ -1,7 +1,6 @@
 //! A report on its way to the stream out: it is gathered, and handed on in pieces of some kilobytes.
 
-ghost use Rattle.std.specs.Prelude.{◌≡◌, ◌++◌, [], false, IsTrue, OnOk};
-ghost use Rattle.net_io.specs.Sink.{SinkState};
+ghost use Rattle.std.specs.Prelude.{◌≡◌, [], OnOk};
 ghost use Rattle.netlabel_run.specs.inside.Printing.{HandsOn, Printed};
 
 use crate::status::Status;
@@ -9,24 +8,13 @@ use net_io::{IoFault, Sink, write_all_to};
 use std::alloc::Global;
 
 /// How many octets are gathered before they are handed on.
-const PIECE: usize = 4096;
+const PIECE: usize = 16384;
 
 /// The end of a report that waits to be handed on.
 #[derive(Debug, Drop)]
 pub(crate) struct Report {
     /// What waits: writers of lines append to it.
     pub waiting: Vec<u8>,
-}
-
-/// Adds a text behind what waits, and tells whether there was memory for it.
-fn add(waiting: &mut Vec<u8>, text: &[u8]) -> bool
-    ensures added { IsTrue result → waiting.new.items ≡ waiting.old.items ++ text.now }
-    ensures kept { result ≡ false → waiting.new.items ≡ waiting.old.items }
-{
-    match waiting.extend_from_slice(text) {
-        Ok(()) => true,
-        Err(_) => false,
-    }
 }
 
 impl Report {
@@ -40,7 +28,7 @@ impl Report {
     }
 
     /// Hands all that waits on.
-    pub(crate) fn flush<S: Sink>(&mut self, out: &mut S) -> Result<(), IoFault>
+    fn flush<S: Sink>(&mut self, out: &mut S) -> Result<(), IoFault>
         ensures hands { HandsOn [] self.old.waiting.items self.new.waiting.items result (S.state out.old) (S.state out.new) }
         ensures empty { OnOk result (self.new.waiting.items ≡ []) }
     {
@@ -59,35 +47,27 @@ impl Report {
         self.flush(out)
     }
 
-    /// Adds a text behind what waits. Where there is no memory for it, both are handed on at once.
-    pub(crate) fn print<S: Sink>(&mut self, out: &mut S, text: &[u8]) -> Result<(), IoFault>
-        ensures { HandsOn text.now self.old.waiting.items self.new.waiting.items result (S.state out.old) (S.state out.new) }
-    {
-        if add(&mut self.waiting, text) {
-            return self.pass(out);
-        }
-        self.flush(out)?;
-        write_all_to(out, text)
-    }
-
-    /// Prints what waits and the last line of a report, none of it being left out, and tells how a call ends that is to
-    /// end so. Where it can't be printed, an event that came first keeps its status.
+    /// Prints what waits, the end of a report's body, and then the line of the event that ends the call, none where it has
+    /// none. It tells how a call ends that is to end so: a write that fails in the body comes before the event, one that
+    /// fails in the event's line behind it.
     pub(crate) fn end<S: Sink>(self, out: &mut S, last: &[u8], status: Status) -> Status
-        ensures { Printed (self.waiting.items ++ last.now) status result (S.state out.old) (S.state out.new) }
+        ensures { Printed self.waiting.items last.now status result (S.state out.old) (S.state out.new) }
     {
         let mut report = self;
-        match report.print_all(out, last) {
-            Ok(()) => status,
-            Err(IoFault::OutOfMemory) => Status::OutOfMemory,
-            Err(IoFault::Failed) => status.after_write_fault(),
+        match report.flush(out) {
+            Ok(()) => print_last(out, last, status),
+            Err(fault) => Status::after_write(fault),
         }
     }
+}
 
-    /// Adds a text behind what waits, and hands all of it on.
-    fn print_all<S: Sink>(&mut self, out: &mut S, text: &[u8]) -> Result<(), IoFault>
-        ensures { HandsOn text.now self.old.waiting.items [] result (S.state out.old) (S.state out.new) }
-    {
-        self.print(out, text)?;
-        self.flush(out)
+/// Prints the line of an event.
+fn print_last<S: Sink>(out: &mut S, last: &[u8], status: Status) -> Status
+    ensures { Printed [] last.now status result (S.state out.old) (S.state out.new) }
+{
+    match write_all_to(out, last) {
+        Ok(()) => status,
+        Err(IoFault::Failed) => status,
+        Err(IoFault::OutOfMemory) => Status::OutOfMemory,
     }
 }

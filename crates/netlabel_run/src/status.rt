@@ -1,9 +1,10 @@
 //! The status that a call ends with.
 
 ghost use Rattle.std.specs.Prelude.{◌≡◌, []};
-ghost use Rattle.netlabel_run.specs.inside.Numbers.{number_of, after_write_fault_of};
+ghost use Rattle.netlabel_run.specs.inside.Numbers.{number_of, write_status};
 
 use crate::outcome::{Outcome, Seen};
+use net_io::IoFault;
 use std::alloc::Global;
 
 /// How a call ends. The first of these events decides.
@@ -54,13 +55,13 @@ impl Status {
         }
     }
 
-    /// The status where printing its report has failed: an event that came first keeps its own.
-    pub(crate) fn after_write_fault(self) -> Status
-        ensures { result ≡ after_write_fault_of self }
+    /// How a call ends where a write was refused.
+    pub(crate) fn after_write(fault: IoFault) -> Status
+        ensures { result ≡ write_status fault }
     {
-        match self {
-            Status::Done => Status::WriteFault,
-            event => event,
+        match fault {
+            IoFault::Failed => Status::WriteFault,
+            IoFault::OutOfMemory => Status::OutOfMemory,
         }
     }
 }

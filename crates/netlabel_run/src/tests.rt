@@ -1,5 +1,7 @@
-//! Worked words and failing calls, over a folder and a stream in memory; packets stand in `packets`.
+//! Worked words and failing calls, over a folder and a stream in memory; packets stand in `packets`, captures in
+//! `captures`.
 
+mod captures;
 mod packets;
 
 use crate::outcome::Outcome;
@@ -68,7 +70,13 @@ fn answers_words(rt: HostRuntime) -> Result<(), Fail> {
         ("judge 16 s2 -p.bin", 1, USAGE),
         ("judge 16 s2", 1, USAGE),
         ("judge 16 s2 p.bin p.bin", 1, USAGE),
-        ("show p.bin", 1, USAGE),
+        ("show p.bin", 5, "capture 1 octet 0 Magic\n"),
+        ("show empty.bin", 5, "capture 1 octet 0 Short\n"),
+        ("show absent.bin", 3, ""),
+        ("show", 1, USAGE),
+        ("show -p.bin", 1, USAGE),
+        ("show p.bin p.bin", 1, USAGE),
+        ("check p.bin", 1, USAGE),
         ("", 1, USAGE),
     ];
     for (line, status, text) in cases {

@@ -13,6 +13,7 @@ use crate::judge::judge;
 use crate::lines::usage;
 use crate::outcome::Outcome;
 use crate::report::Report;
+use crate::show::show;
 use crate::status::Status;
 use crate::words::read_words;
 use mls_label::Label;
@@ -54,13 +55,14 @@ fn carry_out<D: Depot, S: Sink>(
         Some(Command::Judge { doi, level, file }) => {
             judge(alloc, doi, level.label(), file.as_str(), depot, out).outcome(alloc)
         }
+        Some(Command::Show { file }) => { show(alloc, file.as_str(), depot, out).outcome(alloc) }
         None => print_usage(alloc, out).outcome(alloc),
     }
 }
 
 /// Prints the forms of the command line.
 fn print_usage<S: Sink>(alloc: Global, out: &mut S) -> Status
-    ensures { Printed usage_line Status.NoForm result (S.state out.old) (S.state out.new) }
+    ensures { Printed [] usage_line Status.NoForm result (S.state out.old) (S.state out.new) }
 {
     Report::new(alloc).end(out, usage(), Status::NoForm)
 }

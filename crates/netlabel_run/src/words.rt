@@ -1,10 +1,9 @@
 //! The words of the command line.
 
-ghost use Rattle.std.specs.Prelude.{◌≡◌, ◌≢◌, ◌<◌, ◌≤◌, ◌↔◌, ℕ, IsTrue, IfSome, IfNone, length, slice_index, All};
+ghost use Rattle.std.specs.Prelude.{◌≡◌, ◌≢◌, ◌<◌, ◌≤◌, ◌↔◌, ℕ, [], ◌∷◌, codes, IsTrue, IfSome, IfNone, length, slice_index, All};
 ghost use Rattle.std.specs.Fmt.{decimal};
 ghost use Rattle.mls_label.specs.declared.label.Label.{Label as LabelValue};
 ghost use Rattle.netlabel_run.specs.Words.{texts_of, IsAsked, IsFileName, IsDoi, IsLevel};
-ghost use Rattle.netlabel_run.specs.inside.Reading.{IsAskedBy};
 
 use crate::command::{Command, FileName, Level};
 use decimal_text::read_decimal;
@@ -16,15 +15,38 @@ pub(crate) fn read_words<'a>(words: &'a [String], label: &'a mut Label) -> Optio
     ensures { IsAsked (texts_of words.now) result }
 {
     match words {
-        [command, doi, level, file] => {
-            if command.as_str() == "judge" {
-                read_judge(doi, level, file, label)
-            } else {
-                None
-            }
-        }
+        [command, file] => read_two(command, file),
+        [command, doi, level, file] => read_four(command, doi, level, file, label),
         _ => None,
     }
+}
+
+/// Reads two words.
+fn read_two<'a>(command: &str, file: &'a str) -> Option<Command<'a>>
+    ensures { IsAsked (command.now ∷ file.now ∷ []) result }
+{
+    if command != "show" || !is_file_name(file) {
+        return None;
+    }
+    Some(Command::Show {
+        file: FileName::new(file),
+    })
+}
+
+/// Reads four words.
+fn read_four<'a>(
+    command: &str,
+    doi: &str,
+    level: &str,
+    file: &'a str,
+    label: &'a mut Label,
+) -> Option<Command<'a>>
+    ensures { IsAsked (command.now ∷ doi.now ∷ level.now ∷ file.now ∷ []) result }
+{
+    if command != "judge" {
+        return None;
+    }
+    read_judge(doi, level, file, label)
 }
 
 /// Reads the words behind `judge`.
@@ -34,7 +56,7 @@ fn read_judge<'a>(
     file: &'a str,
     label: &'a mut Label,
 ) -> Option<Command<'a>>
-    ensures { IsAskedBy doi.now level.now file.now result }
+    ensures { IsAsked (codes "judge" ∷ doi.now ∷ level.now ∷ file.now ∷ []) result }
 {
     let doi = read_doi(doi)?;
     if !is_file_name(file) {

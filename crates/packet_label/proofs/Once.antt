@@ -18,7 +18,7 @@ use Rattle.packet_label.specs.Wire.{IsWireFault, Says, HasTenOctets}
 use Rattle.packet_label.specs.Choice.{chosen, read_in, headers_in, front_in}
 use Rattle.packet_label.specs.Packet.{IsPacket, labelled}
 use Rattle.packet_label.specs.Fault.{told, BreaksLabel, IsPacketFault}
-use Rattle.packet_label.specs.Laws.{HasOneAnswer, StandsWithin}
+use Rattle.packet_label.specs.Laws.{StandsWithin}
 use Rattle.packet_label.proofs.Wires.{says_once, says_right, wire_fault_once, ten_octets, wire_within}
 
 -- ---- headers of the version that is chosen
@@ -79,7 +79,7 @@ packet_ten octets p is = ten_octets is.headers.version is.headers.label p.label 
 same_headers : (r : Result Headers HeadFault) (h k : Headers) → r ≡ Ok h → r ≡ Ok k → h ≡ k
 same_headers r h k a b = cc
 
-one_packet : (octets : List ℕ) (p q : ParsedPacket Wire) → IsPacket octets p → IsPacket octets q → p ≡ q
+pub one_packet : (octets : List ℕ) (p q : ParsedPacket Wire) → IsPacket octets p → IsPacket octets q → p ≡ q
 one_packet octets p q a b =
     let h = same_headers (headers_in octets) a.headers b.headers a.reads b.reads in
     let says : Says a.headers.version a.headers.label q.label = subst (λ (x : Headers). Says x.version x.label q.label) (sym h) b.option in
@@ -98,13 +98,13 @@ faults_at (Ok h) f g a b =
     a.is ∙ (λ i. carry.Option ((option i).place + within i)) ∙ sym b.is
 faults_at (Err e) f g a b = a ∙ sym b
 
-not_both : (octets : List ℕ) (p : ParsedPacket Wire) (f : CarryFault) → IsPacket octets p → IsPacketFault octets f → ⊥
+pub not_both : (octets : List ℕ) (p : ParsedPacket Wire) (f : CarryFault) → IsPacket octets p → IsPacketFault octets f → ⊥
 not_both octets p f is fails =
     let b : BreaksLabel is.headers f = rw is.reads at fails in
     says_right is.headers.version is.headers.label p.label b.option b.within b.has is.option b.breaks
 
-pub one_answer : (octets : List ℕ) → HasOneAnswer octets
-one_answer octets = record { one_packet = one_packet octets; one_fault = λ f g a b. faults_at (headers_in octets) f g a b; not_both = not_both octets }
+pub one_fault : (octets : List ℕ) (f g : CarryFault) → IsPacketFault octets f → IsPacketFault octets g → f ≡ g
+one_fault octets f g a b = faults_at (headers_in octets) f g a b
 
 -- ---- where faults stand
 

@@ -9,8 +9,9 @@ use Rattle.packet_label.specs.Packet.{IsPacket}
 use Rattle.packet_label.specs.Fault.{IsPacketFault}
 use Rattle.packet_label.specs.Written.{written, IsWritable, IsNext, IsReadAs}
 
--- octets say one packet at most, or have one first fault, and never both
+-- octets are a packet or have a first fault, one alone, and never both
 pub record HasOneAnswer (octets : List ℕ) : Type 0 where
+  pub some : (answer : Result (ParsedPacket Wire) CarryFault) × IsReadAs octets answer
   pub one_packet : (p q : ParsedPacket Wire) → IsPacket octets p → IsPacket octets q → p ≡ q
   pub one_fault : (f g : CarryFault) → IsPacketFault octets f → IsPacketFault octets g → f ≡ g
   pub not_both : (p : ParsedPacket Wire) (f : CarryFault) → IsPacket octets p → IsPacketFault octets f → ⊥

@@ -1,5 +1,5 @@
 -- A reader of a capture, and how its answers follow from the file.
-use Rattle.std.specs.Prelude.{◌≡◌, ℕ, ◌+◌, IsTrue, List, [], ◌∷◌, length, take, drop, Some, Result, Ok, Err}
+use Rattle.std.specs.Prelude.{◌≡◌, ℕ, ◌+◌, IsTrue, IsSome, List, [], ◌∷◌, length, take, drop, Option, Some, Result, Ok, Err}
 use Rattle.net_io.specs.Depot.{DepotState, octets_of}
 use Rattle.pcap_frames.specs.declared.order.OctetOrder.{OctetOrder}
 use Rattle.pcap_frames.specs.declared.header.CaptureHeader.{CaptureHeader}
@@ -42,3 +42,10 @@ IsAnswerOf shown (Ok given) said = said ≡ Ok (shown given)
 IsAnswerOf shown (Err (Capture fault)) said = said ≡ Err fault
 IsAnswerOf shown (Err ReadFault) said = Unit {0}
 IsAnswerOf shown (Err OutOfMemory) said = Unit {0}
+
+-- an answer that says something of a file is of one that is there
+abbrev pub SpeaksOf : {T : Type 0} → Option (List ℕ) → Result T FrameStop → Type 0
+SpeaksOf file (Ok given) = IsSome file
+SpeaksOf file (Err (Capture fault)) = IsSome file
+SpeaksOf file (Err ReadFault) = Unit {0}
+SpeaksOf file (Err OutOfMemory) = Unit {0}

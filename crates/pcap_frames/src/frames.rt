@@ -3,7 +3,7 @@ ghost use Rattle.std.specs.Prelude.{◌≡◌, ◌+◌, ◌≤◌, IsTrue, [], d
 ghost use Rattle.net_io.specs.Depot.{octets_of, OnlyReads};
 ghost use Rattle.pcap_frames.specs.Header.{capture_header};
 ghost use Rattle.pcap_frames.specs.Record.{record_at};
-ghost use Rattle.pcap_frames.specs.Reader.{IsReady, IsAnswerOf};
+ghost use Rattle.pcap_frames.specs.Reader.{IsReady, IsAnswerOf, SpeaksOf};
 
 use crate::header::CAPTURE_HEAD;
 use crate::reading::{read_record, read_start};
@@ -40,6 +40,7 @@ impl Frames {
     /// Version or LinkType; `ReadFault` comes only where the count of failed reads of this name rose in this call.
     pub fn begin<D: Depot>(alloc: Global, depot: &mut D, name: &str) -> Result<Frames, FrameStop>
         ensures answer { IsTrue (D.state depot.old).tells → IsAnswerOf (λ frames. frames.header) result (capture_header (octets_of ((D.state depot.old).held name.now))) }
+        ensures present { IsTrue (D.state depot.old).tells → SpeaksOf ((D.state depot.old).held name.now) result }
         ensures name { IfOk result (λ frames. frames.name ≡ name.now) }
         ensures place { IfOk result (λ frames. frames.place ≡ 24) }
         ensures ready { IfOk result (λ frames. IsReady (D.state depot.new) frames) }

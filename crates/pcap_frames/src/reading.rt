@@ -1,9 +1,9 @@
 //! Reading the header and the records of a capture through a window of its file.
-ghost use Rattle.std.specs.Prelude.{◌≡◌, ◌+◌, ◌-◌, ◌<◌, ◌≤◌, ◌^◌, IsTrue, [], length, drop, take, min, ◌++◌, Option, Some, None, Ok, option_map, is_ok, is_some, if◌then◌else◌, vec_len, vec_capacity, OnOk, OnErr, IfOk, IfSome};
+ghost use Rattle.std.specs.Prelude.{◌≡◌, ◌+◌, ◌-◌, ◌<◌, ◌≤◌, ◌^◌, IsTrue, IsSome, [], length, drop, take, min, ◌++◌, Option, Some, None, Ok, option_map, is_ok, is_some, if◌then◌else◌, vec_len, vec_capacity, OnOk, OnErr, IfOk, IfSome};
 ghost use Rattle.net_io.specs.Depot.{octets_of, OnlyReads};
 ghost use Rattle.pcap_frames.specs.Header.{capture_header};
 ghost use Rattle.pcap_frames.specs.Record.{head_at, behind_head, record_at};
-ghost use Rattle.pcap_frames.specs.Reader.{IsFrom, IsAnswerOf};
+ghost use Rattle.pcap_frames.specs.Reader.{IsFrom, IsAnswerOf, SpeaksOf};
 
 use crate::header::{CAPTURE_HEAD, read_header};
 use crate::record::{RECORD_HEAD, RecordHead, read_record_head};
@@ -243,6 +243,7 @@ pub fn read_start<D: Depot>(
     window: &mut Window,
 ) -> Result<CaptureHeader, FrameStop>
     ensures answer { IsTrue (D.state depot.old).tells → IsAnswerOf (λ header. header) result (capture_header (octets_of ((D.state depot.old).held name.now))) }
+    ensures present { IsTrue (D.state depot.old).tells → SpeaksOf ((D.state depot.old).held name.now) result }
     ensures ahead { OnOk result (IsTrue (D.state depot.old).tells → IsFrom (octets_of ((D.state depot.old).held name.now)) 24 window.new) }
     ensures place { OnOk result (24 + length window.new < 2 ^ 64) }
     ensures frame { OnlyReads FrameStop.ReadFault result name.now

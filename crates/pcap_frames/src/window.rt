@@ -1,5 +1,5 @@
 //! The part of a file that a reader keeps: what one read gave, from the octet at which the reader stands on.
-ghost use Rattle.std.specs.Prelude.{◌≡◌, ◌+◌, ◌-◌, ◌<◌, ◌≤◌, ◌^◌, IsTrue, [], length, take, drop, min, vec_len, OnOk, OnErr, IfOk};
+ghost use Rattle.std.specs.Prelude.{◌≡◌, ◌+◌, ◌-◌, ◌<◌, ◌≤◌, ◌^◌, IsTrue, IsSome, [], length, take, drop, min, vec_len, OnOk, OnErr, IfOk};
 ghost use Rattle.net_io.specs.Depot.{octets_of, OnlyReads};
 ghost use Rattle.pcap_frames.specs.Reader.{IsFrom};
 
@@ -76,6 +76,7 @@ impl Window {
         ensures octets { OnOk result (IsTrue (D.state depot.old).tells → IsFrom (octets_of ((D.state depot.old).held name.now)) place self.new) }
         ensures count { OnOk result (IsTrue (D.state depot.old).tells
             → length self.new ≡ min 65536 (length (octets_of ((D.state depot.old).held name.now)) - place)) }
+        ensures present { OnOk result (IsTrue (D.state depot.old).tells → IsSome ((D.state depot.old).held name.now)) }
         ensures place { OnOk result (place + length self.new < 2 ^ 64) }
         ensures err { OnErr result (self.new ≡ []) }
         ensures frame { OnlyReads IoFault.Failed result name.now

@@ -1,5 +1,7 @@
 -- The status of a call as the code has it, and its number.
 use Rattle.std.specs.Prelude.{ℕ}
+use Rattle.net_io.specs.declared.fault.IoFault.{IoFault}
+use Rattle.net_io.specs.declared.fault.IoFault.TheVariants as io
 use Rattle.netlabel_run.specs.declared.status.Status.{Status}
 use Rattle.netlabel_run.specs.declared.status.Status.TheVariants.{Done, NoForm, WrongScript, ReadFault, WriteFault, WrongCapture, OutOfMemory, Limit}
 
@@ -13,7 +15,7 @@ number_of WrongCapture = 5
 number_of OutOfMemory = 6
 number_of Limit = 7
 
--- the status where its report couldn't be printed: an event that came first keeps its own
-abbrev pub after_write_fault_of : Status → Status
-after_write_fault_of Done = WriteFault
-after_write_fault_of status = status
+-- where a write was refused
+abbrev pub write_status : IoFault → Status
+write_status io.Failed = WriteFault
+write_status io.OutOfMemory = OutOfMemory

@@ -5,8 +5,7 @@ use Rattle.net_io.specs.declared.fault.IoFault.TheVariants.{Failed}
 use Rattle.net_io.specs.Faults.{Counts, Rose}
 use Rattle.net_io.specs.Sink.{SinkState, WritesPrefix, WritesLess}
 use Rattle.netlabel_run.specs.declared.status.Status.{Status}
-use Rattle.netlabel_run.specs.declared.status.Status.TheVariants.{OutOfMemory}
-use Rattle.netlabel_run.specs.inside.Numbers.{after_write_fault_of}
+use Rattle.netlabel_run.specs.declared.status.Status.TheVariants.{WriteFault, OutOfMemory}
 
 -- Of a text that is to be written, this was sent, and this still waits.
 pub record Goes (text waiting : List ℕ) (before after : SinkState) : Type 0 where
@@ -26,10 +25,18 @@ pub record HandsOn {T : Type 0} (text waiting waiting' : List ℕ) (result : Res
   pub told : after.tells ≡ before.tells
   pub counts : Counts Failed result before.faults after.faults
 
--- How a whole text was printed by a call that is to end so: all of it; or for want of memory, or a write that failed, a beginning of it.
-pub record Printed (text : List ℕ) (due status : Status) (before after : SinkState) : Type 0 where
+-- A report under way: this text was handed on but for what waits, and no write has failed.
+pub record IsUnderWay (text waiting : List ℕ) (before now : SinkState) : Type 0 where
+  pub goes : Goes text waiting before now
+  pub told : now.tells ≡ before.tells
+  pub faults : now.faults ≡ before.faults
+
+-- How a report was printed by a call that is to end so: all of it; or for want of memory some first octets of it; or a write has failed, in the
+-- body, or in the line of the event, which came first.
+pub record Printed (body last : List ℕ) (due status : Status) (before after : SinkState) : Type 0 where
   pub told : after.tells ≡ before.tells
   pub how :
-      ((status ≡ due) × (after.faults ≡ before.faults) × (IsTrue before.tells → after.written ≡ before.written ++ text))
-      ⊎ ((status ≡ OutOfMemory) × (IsTrue before.tells → WritesPrefix text before.written after.written))
-      ⊎ ((status ≡ after_write_fault_of due) × Rose before.faults after.faults × Breaks text before after)
+      ((status ≡ due) × (after.faults ≡ before.faults) × (IsTrue before.tells → after.written ≡ before.written ++ (body ++ last)))
+      ⊎ ((status ≡ OutOfMemory) × (IsTrue before.tells → WritesPrefix (body ++ last) before.written after.written))
+      ⊎ ((status ≡ WriteFault) × Rose before.faults after.faults × Breaks body before after)
+      ⊎ ((status ≡ due) × Rose before.faults after.faults × (0 < length last) × (IsTrue before.tells → WritesPrefix (body ++ last) before.written after.written))

@@ -1,13 +1,14 @@
 use Rattle.std.proofs.Common.{◌≤◌, length, ap, refl, sym, subst, inl, arith, [], ◌∷◌, Some}
 use Rattle.std.specs.Prelude.{Contains}
+use Rattle.std.proofs.lemmas.List.{append-nil}
 use Rattle.netlabel_run.specs.declared.command.Command.TheVariants.{Judge}
 use Rattle.netlabel_run.specs.declared.status.Status.TheVariants.{Done, Limit}
 use Rattle.netlabel_run.specs.Line.{verdict_line}
-use Rattle.netlabel_run.specs.Report.{late_report, packet_limit_line}
+use Rattle.netlabel_run.specs.Report.{packet_limit_line}
 use Rattle.netlabel_run.specs.Stages.{reading_stage}
 use Rattle.netlabel_run.specs.Outside.{Outside}
 use Rattle.netlabel_run.proofs.Endings.{ends_printed, ends_unread, ends_unprinted}
-use Rattle.netlabel_run.proofs.Requests.{knows_judge, limit_due, verdict_due, quiet}
+use Rattle.netlabel_run.proofs.Requests.{only_read, knows_judge, limit_due, verdict_due, quiet}
 use Rattle.netlabel_run.proofs.judge.judge.Goals as goal
 
 pub returns-in-Err-TooLong : goal.returns-in-Err-TooLong
@@ -18,8 +19,8 @@ returns-in-Err-TooLong g c =
     let clauses = rw c.in-Err-TooLong.field-0-is at c.in-Err-TooLong.ensures in
     let printed = rw (c.new.ensures, c.packet_limit.ensures) at c.end.ensures in
     ends_printed (Some (Judge c.args.doi c.args.level.now file)) before after (reading_stage file ∷ [])
-    (knows_judge c.args.doi c.args.level.now file before _ _ after c.in-Err-TooLong.ensures.frame printed.told)
-    Limit (late_report [] packet_limit_line) (limit_due c.args.doi c.args.level.now file before (clauses.too_long refl)) c.end.result (clauses.uncounted refl) printed
+    (knows_judge c.args.doi c.args.level.now file before after (only_read _ _ file before.folder after.folder c.in-Err-TooLong.ensures.frame) printed.told)
+    Limit [] packet_limit_line (limit_due c.args.doi c.args.level.now file before (clauses.too_long refl)) c.end.result (λ e. absurd (omega (arith, e))) printed
 
 pub returns-in-Err-Failed : goal.returns-in-Err-Failed
 returns-in-Err-Failed g c =
@@ -28,9 +29,9 @@ returns-in-Err-Failed g c =
     let after : Outside = record { folder = g.D.Depot.state c.read_whole.new.depot; stream = g.S.Sink.state c.args.out.now } in
     let clauses = rw c.in-Err-Failed.field-0-is at c.in-Err-Failed.ensures in
     ends_unread (Some (Judge c.args.doi c.args.level.now file)) before after (reading_stage file ∷ [])
-    (knows_judge c.args.doi c.args.level.now file before _ _ after c.in-Err-Failed.ensures.frame refl)
-    (λ e. cc) (record { name = file; counted = inl refl; rose = clauses.frame.reads.cause refl }) refl
-    (λ report has. subst (λ pauses. Contains pauses []) (sym (quiet c.args.doi c.args.level.now file before _ report has)) (0, omega arith, refl))
+    (knows_judge c.args.doi c.args.level.now file before after (only_read _ _ file before.folder after.folder c.in-Err-Failed.ensures.frame) refl)
+    [] (λ e. cc) (record { name = file; counted = inl refl; rose = clauses.frame.reads.cause refl }) (λ out. sym (append-nil before.stream.written)) (λ told. inl refl)
+    (λ told report has. subst (λ pauses. Contains pauses []) (sym (quiet c.args.doi c.args.level.now file before _ report has)) (0, omega arith, refl)) (λ quiet. refl)
 
 pub returns-in-Err-OutOfMemory : goal.returns-in-Err-OutOfMemory
 returns-in-Err-OutOfMemory g c =
@@ -38,7 +39,7 @@ returns-in-Err-OutOfMemory g c =
     let before : Outside = record { folder = g.D.Depot.state c.args.depot.now; stream = g.S.Sink.state c.args.out.now } in
     let after : Outside = record { folder = g.D.Depot.state c.read_whole.new.depot; stream = g.S.Sink.state c.args.out.now } in
     ends_unprinted (Some (Judge c.args.doi c.args.level.now file)) before after (reading_stage file ∷ [])
-    (knows_judge c.args.doi c.args.level.now file before _ _ after c.in-Err-OutOfMemory.ensures.frame refl) refl
+    (knows_judge c.args.doi c.args.level.now file before after (only_read _ _ file before.folder after.folder c.in-Err-OutOfMemory.ensures.frame) refl) refl
 
 pub returns-in-Ok-verdict_report : goal.returns-in-Ok-verdict_report
 returns-in-Ok-verdict_report g c =
@@ -50,9 +51,9 @@ returns-in-Ok-verdict_report g c =
     let found = c.in-Ok-verdict_report.ensures in
     let printed = rw found.2 at c.end-in-Ok-verdict_report.ensures in
     ends_printed (Some (Judge c.args.doi c.args.level.now file)) before after (reading_stage file ∷ [])
-    (knows_judge c.args.doi c.args.level.now file before _ _ after c.in-Ok.ensures.frame printed.told)
-    Done (late_report (verdict_line found.0) []) (verdict_due c.args.doi c.args.level.now file before octets found.0 c.in-Ok.ensures.whole short (rw c.deref.ensures.value at found.1))
-    c.end-in-Ok-verdict_report.result c.in-Ok.ensures.frame.reads.ok printed
+    (knows_judge c.args.doi c.args.level.now file before after (only_read _ _ file before.folder after.folder c.in-Ok.ensures.frame) printed.told)
+    Done (verdict_line found.0) [] (verdict_due c.args.doi c.args.level.now file before octets found.0 c.in-Ok.ensures.whole short (rw c.deref.ensures.value at found.1))
+    c.end-in-Ok-verdict_report.result (λ e. c.in-Ok.ensures.frame.reads.ok) printed
 
 pub returns : goal.returns
 returns g c =
@@ -60,4 +61,4 @@ returns g c =
     let before : Outside = record { folder = g.D.Depot.state c.args.depot.now; stream = g.S.Sink.state c.args.out.now } in
     let after : Outside = record { folder = g.D.Depot.state c.read_whole.new.depot; stream = g.S.Sink.state c.args.out.now } in
     ends_unprinted (Some (Judge c.args.doi c.args.level.now file)) before after (reading_stage file ∷ [])
-    (knows_judge c.args.doi c.args.level.now file before _ _ after c.in-Ok.ensures.frame refl) refl
+    (knows_judge c.args.doi c.args.level.now file before after (only_read _ _ file before.folder after.folder c.in-Ok.ensures.frame) refl) refl

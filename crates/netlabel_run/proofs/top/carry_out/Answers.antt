@@ -1,6 +1,6 @@
 use Rattle.std.proofs.Common.{[], None, refl}
 use Rattle.netlabel_run.specs.declared.status.Status.TheVariants.{NoForm}
-use Rattle.netlabel_run.specs.Report.{late_report, usage_line}
+use Rattle.netlabel_run.specs.Report.{usage_line}
 use Rattle.netlabel_run.specs.Outside.{Outside}
 use Rattle.netlabel_run.proofs.Endings.{ends_printed}
 use Rattle.netlabel_run.proofs.Requests.{knows_usage, usage_due}
@@ -11,5 +11,5 @@ returns-in-None g c =
     let before : Outside = record { folder = g.D.Depot.state c.args.depot.now; stream = g.S.Sink.state c.args.out.now } in
     let after : Outside = record { folder = g.D.Depot.state c.args.depot.now; stream = g.S.Sink.state c.print_usage.new.out } in
     rw (c.in-None.is, c.outcome-in-None.ensures.status, c.outcome-in-None.ensures.seen)
-    (ends_printed None before after [] (knows_usage before after refl c.print_usage.ensures.told) NoForm (late_report [] usage_line) (usage_due before)
-    c.print_usage.result (λ name. refl) c.print_usage.ensures)
+    (ends_printed None before after [] (knows_usage before after refl c.print_usage.ensures.told) NoForm [] usage_line (usage_due before)
+    c.print_usage.result (λ e. λ name. refl) c.print_usage.ensures)

@@ -1,4 +1,5 @@
+use Rattle.netlabel_run.proofs.Commands.{no_level}
 use Rattle.netlabel_run.proofs.words.read_judge.Goals as goal
 
 pub returns-then-not-read_level : goal.returns-then-not-read_level
-returns-then-not-read_level c doi level is_doi is_level is_name = absurd (let no = c.if-not-read_level.ensures.no level is_level in cc)
+returns-then-not-read_level c = no_level c.args.doi.now c.args.level.now c.args.file.now (λ level is. absurd (let no = c.if-not-read_level.ensures.no level is in cc))

@@ -1,0 +1,124 @@
+-- What is read of octets, and so a verdict and the lines of frames, are there and one alone.
+use Rattle.std.proofs.Common.{◌≡◌, ℕ, suc, ◌+◌, Bool, true, false, List, [], ◌∷◌, ◌++◌, length, Option, Some, None, Result, Ok, Err, refl, sym, ap, subst, ◌∙◌, append_assoc, arith, ◌↔◌, ◌<◌}
+use Rattle.std.specs.Prelude.{IsTrue, IfSome, IfOk, OnOk, MatchOption, codes}
+use Rattle.std.specs.List.{concat}
+use Rattle.mls_label.specs.declared.label.Label.{Label}
+use Rattle.mls_label.specs.Label.{Dominates}
+use Rattle.ip_headers.specs.Packet.{ParsedPacket}
+use Rattle.packet_label.specs.declared.fault.CarryFault.{CarryFault}
+use Rattle.packet_label.specs.declared.fault.CarryFault.TheVariants as carry
+use Rattle.packet_label.specs.declared.packet.Wire.{Wire}
+use Rattle.packet_label.specs.declared.packet.Mark.{Mark}
+use Rattle.packet_label.specs.declared.packet.Mark.TheVariants.{Cipso, Calipso}
+use Rattle.packet_label.specs.Wire.{label_said, wire_with}
+use Rattle.packet_label.specs.Written.{IsReadAs}
+use Rattle.packet_label.proofs.Law.{octets_are_a_packet_or_have_one_fault}
+use Rattle.pcap_frames.specs.Record.{Frame}
+use Rattle.pcap_frames.specs.Ip.{ip_part_of}
+use Rattle.netlabel_run.specs.Verdict.{Verdict, wire_verdict, verdict_of, IsVerdict}
+use Rattle.netlabel_run.specs.Line.{packet_text, shown_line}
+use Rattle.netlabel_run.specs.Show.{IsShown, AreShown}
+
+answer_once : (octets : List ℕ) (a b : Result (ParsedPacket Wire) CarryFault) → IsReadAs octets a → IsReadAs octets b → a ≡ b
+answer_once octets (Ok p) (Ok q) a b = ap Ok ((octets_are_a_packet_or_have_one_fault octets).one_packet p q a b)
+answer_once octets (Ok p) (Err g) a b = absurd ((octets_are_a_packet_or_have_one_fault octets).not_both p g a b)
+answer_once octets (Err f) (Ok q) a b = absurd ((octets_are_a_packet_or_have_one_fault octets).not_both q f b a)
+answer_once octets (Err f) (Err g) a b = ap Err ((octets_are_a_packet_or_have_one_fault octets).one_fault f g a b)
+
+-- ---- verdicts
+
+-- what a test decides has one answer
+test_once : (P : Type 0) (a b : Bool) → (IsTrue a ↔ P) → (IsTrue b ↔ P) → a ≡ b
+test_once P true true a b = refl
+test_once P true false a b = absurd (let no : false ≡ true = b.1 (a.0 refl) in cc)
+test_once P false true a b = absurd (let no : false ≡ true = a.1 (b.0 refl) in cc)
+test_once P false false a b = refl
+
+-- a test of a lent label is one of the label of what is carried
+pub mark_decides : (level label : Label) (mark : Option Mark) (d : Bool) → (IsTrue d ↔ Dominates level label) → IfSome (wire_with mark label) (λ w. IsTrue d ↔ Dominates level (label_said w))
+mark_decides level label None d is = tt
+mark_decides level label (Some (Cipso at doi tag)) d is = is
+mark_decides level label (Some (Calipso at doi)) d is = is
+
+wire_verdict_once : (known : ℕ) (level : Label) (wire : Option Wire) (a b : Bool) → IfSome wire (λ w. IsTrue a ↔ Dominates level (label_said w)) → IfSome wire (λ w. IsTrue b ↔ Dominates level (label_said w))
+    → wire_verdict known a wire ≡ wire_verdict known b wire
+wire_verdict_once known level None a b x y = refl
+wire_verdict_once known level (Some wire) a b x y = ap (λ d. wire_verdict known d (Some wire)) (test_once (Dominates level (label_said wire)) a b x y)
+
+abbrev Decides : Label → Bool → Result (ParsedPacket Wire) CarryFault → Type 0
+Decides level d answer = IfOk answer (λ packet. IfSome packet.label (λ w. IsTrue d ↔ Dominates level (label_said w)))
+
+verdict_of_once : (known : ℕ) (level : Label) (answer : Result (ParsedPacket Wire) CarryFault) (a b : Bool) → Decides level a answer → Decides level b answer → verdict_of known a answer ≡ verdict_of known b answer
+verdict_of_once known level (Ok packet) a b x y = wire_verdict_once known level packet.label a b x y
+verdict_of_once known level (Err (carry.Header octet)) a b x y = refl
+verdict_of_once known level (Err (carry.Option octet)) a b x y = refl
+
+pub verdict_once : (known : ℕ) (level : Label) (octets : List ℕ) (v w : Verdict) → IsVerdict known level octets v → IsVerdict known level octets w → v ≡ w
+verdict_once known level octets v w a b =
+    let same = answer_once octets b.answer a.answer b.reads a.reads in
+    a.is
+    ∙ verdict_of_once known level a.answer a.dominates b.dominates a.decides (subst (Decides level b.dominates) same b.decides)
+    ∙ ap (verdict_of known b.dominates) (sym same)
+    ∙ sym b.is
+
+-- ---- lines of frames
+
+abbrev IsShownOf : Option (List ℕ) → List ℕ → Type 0
+IsShownOf packet text = MatchOption packet (text ≡ codes "NotIp") (λ octets. (answer : Result (ParsedPacket Wire) CarryFault) × IsReadAs octets answer × (text ≡ packet_text answer))
+
+some_text : (packet : Option (List ℕ)) → (text : List ℕ) × IsShownOf packet text
+some_text None = (codes "NotIp", refl)
+some_text (Some octets) = let a = (octets_are_a_packet_or_have_one_fault octets).some in (packet_text a.0, (a.0, a.1, refl))
+
+text_once : (packet : Option (List ℕ)) (s t : List ℕ) → IsShownOf packet s → IsShownOf packet t → s ≡ t
+text_once None s t a b = a ∙ sym b
+text_once (Some octets) s t a b = a.2 ∙ ap packet_text (answer_once octets a.0 b.0 a.1 b.1) ∙ sym b.2
+
+pub frame_text : (link : ℕ) (octets : List ℕ) → (text : List ℕ) × IsShown link octets text
+frame_text link octets = some_text (ip_part_of link octets)
+
+-- what was appended of a frame's packet is the frame's text
+pub shows_packet : {T E : Type 0} (result : Result T E) (link : ℕ) (frame packet old new : List ℕ) (answer : Result (ParsedPacket Wire) CarryFault) → Some packet ≡ ip_part_of link frame → IsReadAs packet answer
+    → OnOk result (new ≡ old ++ packet_text answer) → OnOk result ((text : List ℕ) × IsShown link frame text × (new ≡ old ++ text))
+shows_packet (Ok x) link frame packet old new answer is reads written = (packet_text answer, subst (λ p. IsShownOf p (packet_text answer)) is (answer, reads, refl), written)
+shows_packet (Err e) link frame packet old new answer is reads written = tt
+
+pub line_some : (number : ℕ) (text : List ℕ) → 0 < length (shown_line number text)
+unfolding shown_line
+line_some number text = omega arith
+
+pub some_lines : (link number : ℕ) (frames : List Frame) → (lines : List (List ℕ)) × AreShown link number frames lines
+some_lines link number [] = ([], tt)
+some_lines link number (frame ∷ frames) =
+    let text = frame_text link frame.octets in
+    let rest = some_lines link (number + 1) frames in
+    (shown_line number text.0 ∷ rest.0, (text.0, text.1, refl, rest.1))
+
+pub lines_once : (link number : ℕ) (frames : List Frame) (xs ys : List (List ℕ)) → AreShown link number frames xs → AreShown link number frames ys → xs ≡ ys
+lines_once link number [] [] [] a b = refl
+lines_once link number [] [] (y ∷ ys) a b = absurd b
+lines_once link number [] (x ∷ xs) ys a b = absurd a
+lines_once link number (frame ∷ frames) [] ys a b = absurd a
+lines_once link number (frame ∷ frames) (x ∷ xs) [] a b = absurd b
+lines_once link number (frame ∷ frames) (x ∷ xs) (y ∷ ys) a b =
+    let text : a.0 ≡ b.0 = text_once (ip_part_of link frame.octets) a.0 b.0 a.1 b.1 in
+    let first : x ≡ y = a.2 ∙ ap (shown_line number) text ∙ sym b.2 in
+    λ i. first i ∷ lines_once link (number + 1) frames xs ys a.3 b.3 i
+
+pub lines_count : (link number : ℕ) (frames : List Frame) (lines : List (List ℕ)) → AreShown link number frames lines → length lines ≡ length frames
+lines_count link number [] [] are = refl
+lines_count link number [] (line ∷ lines) are = absurd are
+lines_count link number (frame ∷ frames) [] are = absurd are
+lines_count link number (frame ∷ frames) (line ∷ lines) are = ap suc (lines_count link (number + 1) frames lines are.3)
+
+pub lines_join : (link number : ℕ) (xs ys : List Frame) (ls ms : List (List ℕ)) → AreShown link number xs ls → AreShown link (number + length xs) ys ms → AreShown link number (xs ++ ys) (ls ++ ms)
+lines_join link number [] ys [] ms first second = let same : number + 0 ≡ number = omega arith in subst (λ (n : ℕ). AreShown link n ys ms) same second
+lines_join link number [] ys (l ∷ ls) ms first second = absurd first
+lines_join link number (x ∷ xs) ys [] ms first second = absurd first
+lines_join link number (x ∷ xs) ys (l ∷ ls) ms first second =
+    let same : number + suc (length xs) ≡ number + 1 + length xs = omega arith in
+    (first.0, first.1, first.2, lines_join link (number + 1) xs ys ls ms first.3 (subst (λ (n : ℕ). AreShown link n ys ms) same second))
+
+pub concat-append : (xs ys : List (List ℕ)) → concat (xs ++ ys) ≡ concat xs ++ concat ys
+concat-append [] ys = refl
+concat-append (x ∷ xs) ys = ap (λ t. x ++ t) (concat-append xs ys) ∙ sym (append_assoc x (concat xs) (concat ys))

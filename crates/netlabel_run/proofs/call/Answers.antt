@@ -1,5 +1,0 @@
-use Rattle.std.proofs.Common.{inl}
-use Rattle.netlabel_run.proofs.call.Goals as goal
-
-pub returns : goal.returns
-returns c = inl (c.netlabel.ensures.0, _, _, _, c.netlabel.ensures.2)

@@ -1,0 +1,18 @@
+use Rattle.std.proofs.Common.{◌-◌}
+use Rattle.pcap_frames.specs.Reader.{IsReady}
+use Rattle.netlabel_run.specs.Outside.{Outside}
+use Rattle.netlabel_run.proofs.Shown.{IsShowing}
+use Rattle.netlabel_run.proofs.show.show.Given as goal
+
+abbrev pub decreases-loop-head : goal.decreases-loop-head
+decreases-loop-head g l = 1048577 - l.shown
+
+-- so many packets were shown, and the reader stands in front of the next
+abbrev pub invariant-loop-head : goal.invariant-loop-head
+invariant-loop-head g l =
+    let before : Outside = record { folder = g.D.Depot.state l.fn.depot; stream = g.S.Sink.state l.fn.out } in
+    let now : Outside = record { folder = g.D.Depot.state l.depot; stream = g.S.Sink.state l.out } in
+    record {
+      showing : IsShowing l.fn.file before now l.frames l.report.waiting.items l.shown;
+      ready : IsReady now.folder l.frames;
+    }

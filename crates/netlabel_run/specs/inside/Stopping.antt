@@ -1,0 +1,18 @@
+-- How a call ends whose reader has stopped.
+use Rattle.std.specs.Prelude.{ℕ, List, []}
+use Rattle.pcap_frames.specs.declared.fault.FrameStop.{FrameStop}
+use Rattle.pcap_frames.specs.declared.fault.FrameStop.TheVariants as stop
+use Rattle.netlabel_run.specs.declared.status.Status.{Status}
+use Rattle.netlabel_run.specs.declared.status.Status.TheVariants.{WrongCapture, ReadFault, OutOfMemory}
+use Rattle.netlabel_run.specs.Line.{capture_line}
+
+abbrev pub stop_status : FrameStop → Status
+stop_status (stop.Capture fault) = WrongCapture
+stop_status stop.ReadFault = ReadFault
+stop_status stop.OutOfMemory = OutOfMemory
+
+-- the line of the event, where it is one
+abbrev pub stop_line : FrameStop → List ℕ
+stop_line (stop.Capture fault) = capture_line 1 fault
+stop_line stop.ReadFault = []
+stop_line stop.OutOfMemory = []

@@ -1,0 +1,20 @@
+//! The program's one call: words of a command line, a folder of named files and a stream out go in; a status and a report
+//! come out. All that the program does is `netlabel`, and its contract says what.
+#![tactic(auto)]
+
+mod command;
+mod judge;
+pub mod laws;
+mod lines;
+mod outcome;
+mod report;
+mod show;
+mod status;
+#[cfg(test)]
+mod tests;
+mod top;
+mod verdict;
+mod words;
+
+pub use outcome::{Outcome, Seen};
+pub use top::netlabel;

@@ -1,0 +1,109 @@
+//! `show`: what each packet of a capture carries, a line for each.
+
+ghost use Rattle.std.specs.Prelude.{◌≡◌, ◌++◌, ◌≤◌, ◌^◌, List, ℕ, [], Some, IfOk};
+ghost use Rattle.netlabel_run.specs.declared.command.Command.TheVariants.{Show};
+ghost use Rattle.netlabel_run.specs.Line.{shown_line, shown_end_line, capture_line};
+ghost use Rattle.netlabel_run.specs.Show.{IsShown};
+ghost use Rattle.netlabel_run.specs.Outside.{Outside};
+ghost use Rattle.netlabel_run.specs.CallEnds.{CallEnds};
+ghost use Rattle.netlabel_run.specs.inside.Numbers.{number_of};
+ghost use Rattle.netlabel_run.specs.inside.Printing.{HandsOn, Printed};
+ghost use Rattle.netlabel_run.specs.inside.Stopping.{stop_line, stop_status};
+
+use crate::lines::{packets_limit, write_capture, write_packet, write_packets_end};
+use crate::report::Report;
+use crate::status::Status;
+use mls_label::{Label, OutOfMemory};
+use net_io::{Depot, IoFault, Sink};
+use pcap_frames::{CaptureFault, FrameStop, Frames};
+use std::alloc::Global;
+
+/// The most packets that one call reads.
+const PACKETS_LIMIT: u64 = 1_048_576;
+
+/// Prints what each packet of a capture carries. One record is held at a time, in memory that is kept from record to record.
+pub(crate) fn show<D: Depot, S: Sink>(
+    alloc: Global,
+    file: &str,
+    depot: &mut D,
+    out: &mut S,
+) -> Status
+    ensures { CallEnds (Some (Show file.now))
+        (record { folder = D.state depot.old; stream = S.state out.old })
+        (record { folder = D.state depot.new; stream = S.state out.new }) (number_of result) [] }
+{
+    let mut report = Report::new(alloc);
+    let mut frames = match Frames::begin(alloc, depot, file) {
+        Ok(frames) => frames,
+        Err(stop) => return end_stopped(alloc, report, stop, out),
+    };
+    let mut octets = Vec::new(alloc);
+    let mut label = Label::lowest();
+    let mut shown: u64 = 0;
+    loop {
+        match frames.next(depot, &mut octets) {
+            Ok(Some(_head)) => {}
+            Ok(None) => return end_whole(report, shown, out),
+            Err(stop) => return end_stopped(alloc, report, stop, out),
+        }
+        if shown == PACKETS_LIMIT {
+            return report.end(out, packets_limit(), Status::Limit);
+        }
+        shown += 1;
+        match add_packet(&mut report, shown, frames.link(), &octets, &mut label, out) {
+            Ok(()) => {}
+            Err(fault) => return Status::after_write(fault),
+        }
+    }
+}
+
+/// Adds the line of a packet, and hands on what waits where that is a piece.
+fn add_packet<S: Sink>(
+    report: &mut Report,
+    number: u64,
+    link: u32,
+    frame: &[u8],
+    label: &mut Label,
+    out: &mut S,
+) -> Result<(), IoFault>
+    ensures { (text : List ℕ) × IsShown link frame.now text
+        × HandsOn (shown_line number text) report.old.waiting.items report.new.waiting.items result (S.state out.old) (S.state out.new) }
+{
+    match write_packet(number, link, frame, label, &mut report.waiting) {
+        Ok(()) => report.pass(out),
+        Err(OutOfMemory) => Err(IoFault::OutOfMemory),
+    }
+}
+
+/// Ends the report of a capture that was read to its end, with the number of its packets.
+fn end_whole<S: Sink>(report: Report, count: u64, out: &mut S) -> Status
+    ensures { Printed (report.waiting.items ++ shown_end_line count) [] Status.Done result (S.state out.old) (S.state out.new) }
+{
+    let mut report = report;
+    match write_packets_end(count, &mut report.waiting) {
+        Ok(()) => report.end(out, b"", Status::Done),
+        Err(OutOfMemory) => Status::OutOfMemory,
+    }
+}
+
+/// Ends the report of a capture whose reader has stopped.
+fn end_stopped<S: Sink>(alloc: Global, report: Report, stop: FrameStop, out: &mut S) -> Status
+    ensures { Printed report.waiting.items (stop_line stop) (stop_status stop) result (S.state out.old) (S.state out.new) }
+{
+    match stop {
+        FrameStop::Capture(fault) => end_broken(alloc, report, fault, out),
+        FrameStop::ReadFault => report.end(out, b"", Status::ReadFault),
+        FrameStop::OutOfMemory => report.end(out, b"", Status::OutOfMemory),
+    }
+}
+
+/// Ends the report of a capture that is broken, with its fault.
+fn end_broken<S: Sink>(alloc: Global, report: Report, fault: CaptureFault, out: &mut S) -> Status
+    ensures { Printed report.waiting.items (capture_line 1 fault) Status.WrongCapture result (S.state out.old) (S.state out.new) }
+{
+    let mut line = Vec::new(alloc);
+    match write_capture(1, fault, &mut line) {
+        Ok(()) => report.end(out, &line, Status::WrongCapture),
+        Err(OutOfMemory) => Status::OutOfMemory,
+    }
+}
