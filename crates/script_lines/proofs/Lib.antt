@@ -1,0 +1,4 @@
+pub mod Splits
+pub mod TextLines
+pub mod LineWords
+pub mod Law

@@ -1,0 +1,5 @@
+use Rattle.script_lines.proofs.Law.{lines_have_no_line_feed}
+use Rattle.script_lines.proofs.laws.lines_have_no_line_feed.Goals as goal
+
+pub returns : goal.returns
+returns c = lines_have_no_line_feed
