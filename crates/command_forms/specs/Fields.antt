@@ -1,0 +1,141 @@
+-- The values of a line's parameters: how they are read and written.
+use Rattle.std.specs.Prelude.{ℕ, ◌<◌, ◌≤◌, ◌^◌, Bool, true, false, List, [], ◌++◌, length, codes, Option, Some, None, option_map, is_some, IsTrue, IfSome, if◌then◌else◌}
+use Rattle.std.specs.Fmt.{decimal}
+use Rattle.std.specs.Option.{option_map_or}
+use Rattle.std.specs.Str.{bytes_eq}
+use Rattle.mls_range.specs.Range.{LabelRange}
+use Rattle.mls_range.specs.RangeText.{range_text}
+use Rattle.mls_range.specs.Computed.{label_of_text, lone_range, range_of_text}
+use Rattle.domain_map.specs.declared.protocol.Protocol.TheVariants as Map
+use Rattle.address_text.specs.declared.address.Address.TheVariants.{V4, V6}
+use Rattle.address_text.specs.Address.{address_of_text, address_text}
+use Rattle.address_text.specs.Name.{name_of_text}
+use Rattle.address_text.specs.Prefix.{block_of_text, prefix_text}
+use Rattle.command_values.specs.Doi.{doi_of_text}
+use Rattle.command_values.specs.List.{list_of_text, list_text}
+use Rattle.command_values.specs.Pairs.{pair_of_text, pair_text}
+use Rattle.command_values.specs.Tags.{tags_of_text, tag_number_text}
+use Rattle.command_values.specs.MapProtocol.{map_protocol_of_text, map_protocol_text}
+use Rattle.command_values.specs.Ranges.{in_context, static_range_of_text, range_below, receiver_range_of_text, receiver_range_text}
+use Rattle.command_values.specs.Addresses.{four_of_text, sixteen_of_text}
+use Rattle.command_forms.specs.declared.form.Parameter.{Parameter}
+use Rattle.command_forms.specs.declared.form.Parameter.TheVariants.{Doi, Tags, Levels, Categories, Domain, Interface, Prefix, Protocol, Label, Address, Home, Level, Range, Four, Six, ReadingLevels, ReadingCategories}
+use Rattle.command_forms.specs.declared.fields.Fields.{Fields}
+use Rattle.command_forms.specs.Form.{Edition, with_labels, key_text}
+
+abbrev pub no_fields : Fields
+no_fields = record {
+  doi = None;
+  tags = None;
+  levels = None;
+  categories = None;
+  domain = None;
+  interface = None;
+  prefix = None;
+  protocol = None;
+  label = None;
+  address = None;
+  home = None;
+  level = None;
+  range = None;
+  four = None;
+  six = None;
+  reading_levels = None;
+  reading_categories = None;
+}
+
+-- the parameter came
+abbrev pub is_given : Parameter → Fields → Bool
+is_given Doi fields = is_some fields.doi
+is_given Tags fields = is_some fields.tags
+is_given Levels fields = is_some fields.levels
+is_given Categories fields = is_some fields.categories
+is_given Domain fields = is_some fields.domain
+is_given Interface fields = is_some fields.interface
+is_given Prefix fields = is_some fields.prefix
+is_given Protocol fields = is_some fields.protocol
+is_given Label fields = is_some fields.label
+is_given Address fields = is_some fields.address
+is_given Home fields = is_some fields.home
+is_given Level fields = is_some fields.level
+is_given Range fields = is_some fields.range
+is_given Four fields = is_some fields.four
+is_given Six fields = is_some fields.six
+is_given ReadingLevels fields = is_some fields.reading_levels
+is_given ReadingCategories fields = is_some fields.reading_categories
+
+-- none for the word `default`, else a name
+abbrev pub named_or_default : List ℕ → List ℕ → Option (Option (List ℕ))
+named_or_default key text = if bytes_eq key (codes "default") then Some None else option_map (λ name. Some name) (name_of_text text)
+
+-- the value of `label:` and of `level:`, which the first edition reads as one label
+abbrev pub static_by : Edition → List ℕ → Option LabelRange
+static_by with_labels text = in_context (λ t. option_map lone_range (label_of_text t)) text
+static_by edition text = static_range_of_text text
+
+abbrev pub receiver_by : Edition → List ℕ → Option LabelRange
+receiver_by with_labels text = option_map range_below (label_of_text text)
+receiver_by edition text = receiver_range_of_text text
+
+-- the fields with a value in its place, if there is one
+abbrev pub put : {X : Type 0} → Option X → (Option X → Fields) → Option Fields
+put value place = if is_some value then Some (place value) else None
+
+-- the fields with what a parameter's word says behind its key, if that is in the parameter's form
+abbrev pub with_value : Edition → Parameter → List ℕ → List ℕ → Fields → Option Fields
+with_value edition Doi key text fields = put (doi_of_text text) (λ v. record fields { doi = v })
+with_value edition Tags key text fields = put (tags_of_text text) (λ v. record fields { tags = v })
+with_value edition Levels key text fields = put (list_of_text (pair_of_text 255 255) text) (λ v. record fields { levels = v })
+with_value edition Categories key text fields = put (list_of_text (pair_of_text 65534 65534) text) (λ v. record fields { categories = v })
+with_value edition Domain key text fields = put (named_or_default key text) (λ v. record fields { domain = v })
+with_value edition Interface key text fields = put (named_or_default key text) (λ v. record fields { interface = v })
+with_value edition Prefix key text fields = put (block_of_text text) (λ v. record fields { prefix = v })
+with_value edition Protocol key text fields = put (map_protocol_of_text text) (λ v. record fields { protocol = v })
+with_value edition Label key text fields = put (static_by edition text) (λ v. record fields { label = v })
+with_value edition Address key text fields = put (address_of_text text) (λ v. record fields { address = v })
+with_value edition Home key text fields = put (name_of_text text) (λ v. record fields { home = v })
+with_value edition Level key text fields = put (receiver_by edition text) (λ v. record fields { level = v })
+with_value edition Range key text fields = put (range_of_text text) (λ v. record fields { range = v })
+with_value edition Four key text fields = put (four_of_text text) (λ v. record fields { four = v })
+with_value edition Six key text fields = put (sixteen_of_text text) (λ v. record fields { six = v })
+with_value edition ReadingLevels key text fields = put (list_of_text (pair_of_text 255 4294967295) text) (λ v. record fields { reading_levels = v })
+with_value edition ReadingCategories key text fields = put (list_of_text (pair_of_text 65534 4294967295) text) (λ v. record fields { reading_categories = v })
+
+-- the text of a value, or nothing where there is none
+abbrev pub text_or_none : {X : Type 0} → (X → List ℕ) → Option X → List ℕ
+text_or_none text_of value = option_map_or text_of value []
+
+-- the written form of a parameter's value
+abbrev pub value_text : Parameter → Fields → List ℕ
+value_text Doi fields = text_or_none decimal fields.doi
+value_text Tags fields = text_or_none (list_text tag_number_text) fields.tags
+value_text Levels fields = text_or_none (list_text pair_text) fields.levels
+value_text Categories fields = text_or_none (list_text pair_text) fields.categories
+value_text Domain fields = text_or_none (text_or_none (λ name. name)) fields.domain
+value_text Interface fields = text_or_none (text_or_none (λ name. name)) fields.interface
+value_text Prefix fields = text_or_none prefix_text fields.prefix
+value_text Protocol fields = text_or_none map_protocol_text fields.protocol
+value_text Label fields = text_or_none range_text fields.label
+value_text Address fields = text_or_none address_text fields.address
+value_text Home fields = text_or_none (λ name. name) fields.home
+value_text Level fields = text_or_none receiver_range_text fields.level
+value_text Range fields = text_or_none range_text fields.range
+value_text Four fields = text_or_none (λ octets. address_text (V4 octets)) fields.four
+value_text Six fields = text_or_none (λ octets. address_text (V6 octets)) fields.six
+value_text ReadingLevels fields = text_or_none (list_text pair_text) fields.reading_levels
+value_text ReadingCategories fields = text_or_none (list_text pair_text) fields.reading_categories
+
+-- given, and without a name
+abbrev pub is_default : {X : Type 0} → Option (Option X) → Bool
+is_default (Some None) = true
+is_default value = false
+
+-- how the parameter's word begins: the default domain and the default interface are the word `default`
+abbrev pub key_by : Parameter → Fields → List ℕ
+key_by Domain fields = if is_default fields.domain then codes "default" else key_text Domain
+key_by Interface fields = if is_default fields.interface then codes "default" else key_text Interface
+key_by parameter fields = key_text parameter
+
+-- the written form of a parameter's word, where it is given
+abbrev pub word_of : Parameter → Fields → Option (List ℕ)
+word_of parameter fields = if is_given parameter fields then Some (key_by parameter fields ++ value_text parameter fields) else None

@@ -1,0 +1,5 @@
+pub mod Form
+pub mod Fields
+pub mod Said
+pub mod Command
+pub mod inside
