@@ -1,0 +1,11 @@
+pub mod Stops
+pub mod Commas
+pub mod HopParts
+pub mod Routes
+pub mod FileTexts
+pub mod NameSets
+pub mod FlowParts
+pub mod NameRule
+pub mod Faults
+pub mod Law
+pub mod Rows
