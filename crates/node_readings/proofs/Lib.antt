@@ -1,0 +1,6 @@
+pub mod Pairs
+pub mod Distinct
+pub mod Increasing
+pub mod Dominance
+pub mod Starts
+pub mod Law

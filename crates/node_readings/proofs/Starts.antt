@@ -1,0 +1,54 @@
+-- The readings that are made.
+use Rattle.std.proofs.Common.{◌≡◌, ℕ, ◌<◌, Bool, true, false, ◌&&◌, not, List, [], Option, Some, None, IsTrue, ◌↔◌, if◌then◌else◌, refl, sym, ap, subst, arith}
+use Rattle.std.specs.List.{All}
+use Rattle.std.proofs.lemmas.List.Elements.{All-nil}
+use Rattle.node_readings.specs.declared.fault.ReadingFault.{ReadingFault}
+use Rattle.node_readings.specs.declared.fault.ReadingFault.TheVariants.{NotIncreasing, NotDistinct}
+use Rattle.node_readings.specs.Reading.{names_once, is_increasing, is_distinct, reading_fault, IsReading}
+use Rattle.node_readings.specs.inside.Namings.{AreNamings}
+use Rattle.node_readings.proofs.Increasing.{Climbs, steps_increasing, increasing_is}
+
+pub nothing_named : (levels cats : List (ℕ × ℕ)) → levels ≡ [] → cats ≡ [] → IsReading (record { levels = levels; cats = cats })
+nothing_named levels cats no_levels no_cats =
+    subst (λ xs. IsReading (record { levels = xs; cats = cats })) (sym no_levels) (subst (λ xs. IsReading (record { levels = []; cats = xs })) (sym no_cats) (record {
+      increasing = steps_increasing [] (λ n lt. omega arith);
+      levels_once = refl;
+      distinct = refl;
+      categories = All-nil (λ (p : ℕ × ℕ). p.0 < 65535);
+    }))
+
+pub is_made : (levels cats by_level by_category : List (ℕ × ℕ)) → by_level ≡ levels → by_category ≡ cats → is_increasing levels ≡ true → names_once levels ≡ true → is_distinct cats ≡ true → All (λ (p : ℕ × ℕ). p.0 < 65535) cats
+    → IsReading (record { levels = by_level; cats = by_category })
+is_made levels cats by_level by_category same_levels same_cats increasing once distinct below =
+    subst (λ xs. IsReading (record { levels = xs; cats = by_category })) (sym same_levels) (subst (λ xs. IsReading (record { levels = levels; cats = xs })) (sym same_cats) (record {
+      increasing = increasing;
+      levels_once = once;
+      distinct = distinct;
+      categories = below;
+    }))
+
+-- ---- what the code learns of the levels
+
+pub record LevelsRead (levels first : List (ℕ × ℕ)) (increasing once : Bool) : Type 0 where
+  pub increasing_is : is_increasing levels ≡ increasing
+  pub once_is : names_once levels ≡ once
+  pub whole : once ≡ true → first ≡ levels
+
+pub levels_read : (levels seen first : List (ℕ × ℕ)) (increasing once : Bool) → seen ≡ levels → AreNamings seen first once → (IsTrue increasing ↔ ((n : ℕ) → n < 255 → Climbs first n)) → LevelsRead levels first increasing once
+levels_read levels seen first increasing once same are tells = subst (λ xs. LevelsRead xs first increasing once) same (record {
+  increasing_is = increasing_is seen first increasing are.same tells;
+  once_is = sym are.once_is;
+  whole = are.whole;
+})
+
+-- ---- why pairs are no reading
+
+pub not_increasing : (levels cats : List (ℕ × ℕ)) → is_increasing levels ≡ false → reading_fault levels cats ≡ Some NotIncreasing
+not_increasing levels cats h =
+    let other : Option ReadingFault = if names_once levels && is_distinct cats then None else Some NotDistinct in
+    ap (λ b. if not b then Some NotIncreasing else other) h
+
+pub increasing_or : (levels cats : List (ℕ × ℕ)) (once distinct : Bool) → is_increasing levels ≡ true → names_once levels ≡ once → is_distinct cats ≡ distinct → reading_fault levels cats ≡ (if once && distinct then None else Some NotDistinct)
+increasing_or levels cats once distinct h o d =
+    let none : Option ReadingFault = None in
+    (λ i. if not (h i) then Some NotIncreasing else (if o i && d i then none else Some NotDistinct))
