@@ -1,0 +1,11 @@
+pub mod Results
+pub mod Adds
+pub mod Walk
+pub mod Fine
+pub mod Within
+pub mod Faults
+pub mod Texts
+pub mod Editions
+pub mod Written
+pub mod Law
+pub mod Rows

@@ -1,0 +1,5 @@
+pub mod Above
+pub mod Line
+pub mod Script
+pub mod Sound
+pub mod inside
