@@ -1,0 +1,9 @@
+pub mod Lines
+pub mod Entries
+pub mod Mirrored
+pub mod Addresses
+pub mod Listings
+pub mod Names
+pub mod Defined
+pub mod Stepping
+pub mod Law
