@@ -63,7 +63,8 @@ pub fn read_file_name(alloc: Global, text: &[u8]) -> Result<Option<FileName>, Ou
     Ok(Some(FileName { name }))
 }
 
-fn is_file_name(text: &[u8]) -> bool
+/// Whether a whole text is a file name.
+pub fn is_file_name(text: &[u8]) -> bool
     ensures { result ≡ is_file_name text.now }
 {
     match text {

@@ -13,7 +13,7 @@ mod node_names;
 mod route;
 
 pub use address_text::{Name, read_name};
-pub use file_name::{FileName, read_file_name};
+pub use file_name::{FileName, is_file_name, read_file_name};
 pub use flow::{FlowLine, read_flow};
 pub use flows::Flows;
 pub use hop::Hop;
