@@ -23,3 +23,6 @@ pub use network::Network;
 pub use receiver::Receiver;
 pub use reply::{Refusal, Reply};
 pub use tables::Tables;
+
+#[cfg(test)]
+mod tests;
