@@ -1,0 +1,4 @@
+pub mod Meanings
+pub mod Agreement
+pub mod First
+pub mod inside
