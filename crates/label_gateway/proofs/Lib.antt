@@ -1,0 +1,4 @@
+pub mod Crossed
+pub mod Going
+pub mod Written
+pub mod Law

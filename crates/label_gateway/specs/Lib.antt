@@ -1,0 +1,5 @@
+pub mod Crossing
+pub mod Forward
+pub mod Answer
+pub mod Laws
+pub mod inside

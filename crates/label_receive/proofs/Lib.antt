@@ -1,0 +1,4 @@
+pub mod Orders
+pub mod Due
+pub mod Lowest
+pub mod Law

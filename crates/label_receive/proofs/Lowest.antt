@@ -1,0 +1,118 @@
+-- Nothing is below the lowest label.
+use Rattle.std.proofs.Common.{arith, ◌≡◌, ℕ, Bool, true, false, List, [], Option, Some, None, Result, Ok, Err, sym, ap, ◌∙◌}
+use Rattle.std.specs.Prelude.{◌+◌, IfSome, not, if◌then◌else◌}
+use Rattle.std.proofs.lemmas.Map.Entries.{All-lookup}
+use Rattle.std.proofs.lemmas.Bool.{false≢true, true≢false}
+use Rattle.mls_label.specs.declared.label.Label.{Label}
+use Rattle.mls_label.specs.declared.label.Proto.TheVariants as Of
+use Rattle.mls_label.specs.declared.label.Tag.{Tag}
+use Rattle.mls_range.specs.Computed.{dominates}
+use Rattle.mls_range.proofs.Law.{dominance_computes}
+use Rattle.ip_headers.specs.Packet.{ParsedPacket}
+use Rattle.doi_table.specs.declared.plan.DoiPlan.{DoiPlan}
+use Rattle.doi_table.specs.declared.unmapped.Unmapped.{Unmapped}
+use Rattle.doi_table.specs.declared.unmapped.Unmapped.TheVariants.{Level, Category}
+use Rattle.doi_table.specs.Table.{Entries, definition_of}
+use Rattle.doi_table.specs.Translation.{local_label}
+use Rattle.packet_label.specs.declared.denial.Carrier.{Carrier}
+use Rattle.packet_label.specs.declared.denial.Carrier.TheVariants as carried
+use Rattle.packet_label.specs.declared.denial.Denial.{Denial}
+use Rattle.packet_label.specs.declared.denial.Denial.TheVariants.{Unlabelled, NoStatic, UnknownDoi, TagNotAllowed, OutsideRange, BelowRange}
+use Rattle.packet_label.specs.declared.packet.Wire.{Wire}
+use Rattle.packet_label.specs.declared.packet.Wire.TheVariants.{Cipso, Calipso}
+use Rattle.address_text.specs.declared.address.Address.{Address}
+use Rattle.address_text.specs.Address.{same_address}
+use Rattle.domain_map.specs.Domains.{Domains}
+use Rattle.domain_map.specs.Statics.{find_static_of}
+use Rattle.node_tables.specs.declared.receiver.Receiver.{Receiver}
+use Rattle.node_tables.specs.Tables.{TableState, find_receiver_of}
+use Rattle.label_receive.specs.Incoming.{Incoming, address_in, static_labels, translated, lists_tag, option_labels, label_of}
+use Rattle.label_receive.specs.Range.{is_outside}
+use Rattle.label_receive.specs.Receive.{map_refuses, refusal_of, delivered_unless, delivered_to, received, receive_of}
+use Rattle.label_receive.specs.Laws.{HaveLowestEnds}
+use Rattle.label_receive.proofs.Due.{below, by_receiver}
+
+-- ---- no labels are denied so
+
+abbrev IsOther : Result Incoming Denial → Type 0
+IsOther r = r ≡ Err BelowRange → ⊥
+
+set_other : (o : Option (Label × Label)) → IsOther (elim o as (λ _. Result Incoming Denial) [ None ↦ Err NoStatic | Some labels ↦ Ok (record { carrier = carried.Unlabelled; low = labels.0; high = labels.1 }) ])
+set_other None h = absurd (cc)
+set_other (Some labels) h = absurd (cc)
+
+static_other : (b : Bool) (o : Option (Label × Label)) → IsOther (if not b then Err Unlabelled else elim o as (λ _. Result Incoming Denial) [ None ↦ Err NoStatic | Some labels ↦ Ok (record { carrier = carried.Unlabelled; low = labels.0; high = labels.1 }) ])
+static_other true o h = set_other o h
+static_other false o h = absurd (cc)
+
+translated_other : (carrier : Carrier) (r : Result Label Unmapped) → IsOther (translated carrier r)
+translated_other carrier (Ok label) h = absurd (cc)
+translated_other carrier (Err Level) h = absurd (cc)
+translated_other carrier (Err (Category c)) h = absurd (cc)
+
+tagged_other : (at : ℕ) (b : Bool) (carrier : Carrier) (r : Result Label Unmapped) → IsOther (if not b then Err (TagNotAllowed at) else translated carrier r)
+tagged_other at true carrier r h = translated_other carrier r h
+tagged_other at false carrier r h = absurd (cc)
+
+cipso_other : (at doi : ℕ) (tag : Tag) (label : Label) (o : Option DoiPlan) → IsOther (elim o as (λ _. Result Incoming Denial) [
+  | None ↦ Err (UnknownDoi (at + 2))
+  | Some plan ↦ if not (lists_tag plan.tags tag) then Err (TagNotAllowed (at + 6)) else translated (carried.Cipso doi) (local_label plan label)
+])
+cipso_other at doi tag label None h = absurd (cc)
+cipso_other at doi tag label (Some plan) h = tagged_other (at + 6) (lists_tag plan.tags tag) (carried.Cipso doi) (local_label plan label) h
+
+calipso_other : (at doi : ℕ) (label : Label) (o : Option DoiPlan) → IsOther (elim o as (λ _. Result Incoming Denial) [
+  | None ↦ Err (UnknownDoi (at + 2))
+  | Some plan ↦ translated (carried.Calipso doi) (local_label plan label)
+])
+calipso_other at doi label None h = absurd (cc)
+calipso_other at doi label (Some plan) h = translated_other (carried.Calipso doi) (local_label plan label) h
+
+option_other : (definitions : Entries) (wire : Wire) → IsOther (option_labels definitions wire)
+option_other definitions (Cipso at doi tag label) h = cipso_other at doi tag label (definition_of definitions Of.Cipso doi) h
+option_other definitions (Calipso at doi label) h = calipso_other at doi label (definition_of definitions Of.Calipso doi) h
+
+labels_other : (t : TableState) (interface : List ℕ) (p : ParsedPacket Wire) (o : Option Wire) → IsOther (elim o as (λ _. Result Incoming Denial) [
+  | None ↦ static_labels t interface (address_in p.version p.source)
+  | Some wire ↦ option_labels t.definitions wire
+])
+labels_other t interface p None h = static_other t.accepts (find_static_of t.statics interface (address_in p.version p.source)) h
+labels_other t interface p (Some wire) h = option_other t.definitions wire h
+
+label_other : (t : TableState) (interface : List ℕ) (p : ParsedPacket Wire) → IsOther (label_of t interface p)
+unfolding label_of
+label_other t interface p h = labels_other t interface p p.label h
+
+-- ---- no receiver denies so
+
+is_above : (label : Label) → dominates label (record { level = 0; cats = [] }) ≡ true
+is_above label = (dominance_computes label (record { level = 0; cats = [] })).1 (record { level = omega arith; cats = λ c h. absurd (false≢true h) })
+
+unless_below : (o : Option Denial) (address : Address) (label : Label) → delivered_unless o address label ≡ Err BelowRange → o ≡ Some BelowRange
+unless_below None address label h = absurd (cc)
+unless_below (Some why) address label h = let same : why ≡ BelowRange = cc in ap Some same
+
+by_receiver_other : (domains : Domains) (source destination : Address) (incoming : Incoming) (o : Option Receiver) → IfSome o (λ r. r.low ≡ record { level = 0; cats = [] })
+    → by_receiver domains source destination incoming o ≡ Err BelowRange → ⊥
+by_receiver_other domains source destination incoming None lowest h = absurd (cc)
+by_receiver_other domains source destination incoming (Some receiver) lowest h =
+    let low = below (map_refuses domains receiver.domain source incoming.carrier) (dominates receiver.level incoming.high) (dominates incoming.low receiver.low)
+    (unless_below (refusal_of domains receiver source incoming) destination incoming.high h) in
+    true≢false (sym (is_above incoming.low) ∙ ap (dominates incoming.low) (sym lowest) ∙ low)
+
+inside_other : (t : TableState) (b : Bool) (source destination : Address) (incoming : Incoming) → HaveLowestEnds t.receivers
+    → (if b then Err OutsideRange else delivered_to t source destination incoming) ≡ Err BelowRange → ⊥
+inside_other t true source destination incoming lowest h = absurd (cc)
+inside_other t false source destination incoming lowest h =
+    by_receiver_other t.domains source destination incoming (find_receiver_of t.receivers destination)
+    (All-lookup (λ (r : Receiver). r.low ≡ record { level = 0; cats = [] }) (same_address destination) t.receivers lowest) h
+
+received_other : (t : TableState) (interface : List ℕ) (source destination : Address) (r : Result Incoming Denial) → HaveLowestEnds t.receivers → IsOther r
+    → received t interface source destination r ≡ Err BelowRange → ⊥
+received_other t interface source destination (Err why) lowest other h = let same : why ≡ BelowRange = cc in other (ap Err same)
+received_other t interface source destination (Ok incoming) lowest other h = inside_other t (is_outside t.ranges interface incoming.low incoming.high) source destination incoming lowest h
+
+pub none_below : (t : TableState) (interface : List ℕ) (p : ParsedPacket Wire) → HaveLowestEnds t.receivers → receive_of t interface p ≡ Err BelowRange → ⊥
+unfolding receive_of
+none_below t interface p lowest h =
+    received_other t interface (address_in p.version p.source) (address_in p.version p.destination) (label_of t interface p) lowest (label_other t interface p) h

@@ -1,0 +1,34 @@
+-- The laws of src/laws.rt under their names, for the crates above.
+use Rattle.std.proofs.Common.{◌≡◌, ℕ, List, Some, None, Ok, Err}
+use Rattle.std.specs.Prelude.{IsTrue}
+use Rattle.mls_label.specs.declared.label.Label.{Label}
+use Rattle.doi_table.specs.Table.{Entries}
+use Rattle.address_text.specs.declared.address.Address.{Address}
+use Rattle.domain_map.specs.declared.protocol.Protocol.{Protocol}
+use Rattle.domain_map.specs.Domains.{Domains, find_of}
+use Rattle.ip_headers.specs.declared.version.Version.{Version}
+use Rattle.ip_headers.specs.Packet.{ParsedPacket}
+use Rattle.ip_headers.specs.Written.{IsParsed, rewritten}
+use Rattle.packet_label.specs.declared.packet.Wire.{Wire}
+use Rattle.packet_label.specs.declared.denial.Denial.{Denial}
+use Rattle.packet_label.specs.declared.denial.Denial.TheVariants.{Inexpressible}
+use Rattle.packet_label.specs.Written.{IsLabel}
+use Rattle.node_tables.specs.Coherence.{NamesDefined}
+use Rattle.label_send.specs.Outgoing.{CanGoOut, outgoing, suits}
+use Rattle.label_send.specs.Room.{sent_under}
+use Rattle.label_send.specs.Laws.{AreDefinitions, IsInRoom, IsInexpressible}
+use Rattle.label_send.proofs.Stays.{stays}
+use Rattle.label_send.proofs.Writable.{can_go_out, may_be_written}
+
+pub labels_that_stay_are_inexpressible : (definitions : Entries) (domains : Domains) (domain : List ℕ) (address : Address) (protocol : Protocol) (label : Label) (why : Denial)
+    → NamesDefined definitions domains → find_of domains domain address ≡ Some protocol → outgoing definitions protocol label ≡ Err why → (why ≡ Inexpressible) × IsInexpressible definitions protocol label
+labels_that_stay_are_inexpressible = stays
+
+pub outgoing_labels_can_be_said : (definitions : Entries) (protocol : Protocol) (label : Label) (version : Version) → AreDefinitions definitions → IsLabel label → IsTrue (suits version protocol)
+    → CanGoOut version (outgoing definitions protocol label)
+outgoing_labels_can_be_said = can_go_out
+
+-- of packets and of headers alike
+pub sent_packets_may_be_written : (L : Type 0) (definitions : Entries) (protocol : Protocol) (label : Label) (p : ParsedPacket L) (new : ParsedPacket Wire) (hops : ℕ)
+    → IsParsed (rewritten p None hops) → CanGoOut p.version (outgoing definitions protocol label) → sent_under definitions protocol label p hops ≡ Ok new → IsInRoom new
+sent_packets_may_be_written = may_be_written

@@ -1,0 +1,5 @@
+pub mod Law
+pub mod Options
+pub mod Sent
+pub mod Stays
+pub mod Writable

@@ -1,0 +1,6 @@
+pub mod Outgoing
+pub mod Room
+pub mod Send
+pub mod Answer
+pub mod Laws
+pub mod inside

@@ -1,0 +1,45 @@
+//! What the definitions are worth, whatever the code does.
+
+ghost use Rattle.std.specs.Prelude.{◌≡◌, ℕ, ◌<◌, List, None, Some, Ok, Err, IsTrue};
+ghost use Rattle.mls_label.specs.declared.label.Label.{Label};
+ghost use Rattle.doi_table.specs.Table.{Entries};
+ghost use Rattle.address_text.specs.declared.address.Address.{Address};
+ghost use Rattle.domain_map.specs.declared.protocol.Protocol.{Protocol};
+ghost use Rattle.domain_map.specs.Domains.{Domains, find_of};
+ghost use Rattle.ip_headers.specs.declared.version.Version.{Version};
+ghost use Rattle.ip_headers.specs.Packet.{Headers, ParsedPacket};
+ghost use Rattle.ip_headers.specs.Written.{IsParsed, rewritten};
+ghost use Rattle.packet_label.specs.declared.packet.Wire.{Wire};
+ghost use Rattle.packet_label.specs.declared.denial.Denial.{Denial};
+ghost use Rattle.packet_label.specs.declared.denial.Denial.TheVariants.{Inexpressible};
+ghost use Rattle.packet_label.specs.Written.{IsLabel};
+ghost use Rattle.node_tables.specs.Coherence.{NamesDefined};
+ghost use Rattle.label_send.specs.Outgoing.{CanGoOut, outgoing, suits};
+ghost use Rattle.label_send.specs.Room.{sent_under};
+ghost use Rattle.label_send.specs.Laws.{AreDefinitions, IsInRoom, IsInexpressible};
+
+/// Under a protocol that a node's map gives, a label that doesn't go out is one that no option of the DOI's definition can say; that the
+/// DOI isn't defined never comes.
+pub fn labels_that_stay_are_inexpressible()
+    ensures { (definitions : Entries) (domains : Domains) (domain : List ℕ) (address : Address) (protocol : Protocol)
+        (label : Label) (why : Denial) → NamesDefined definitions domains
+        → find_of domains domain address ≡ Some protocol
+        → outgoing definitions protocol label ≡ Err why → (why ≡ Inexpressible) × IsInexpressible definitions protocol label }
+{}
+
+/// What goes out under a protocol that suits a version can be said in an option of this version.
+pub fn outgoing_labels_can_be_said()
+    ensures { (definitions : Entries) (protocol : Protocol) (label : Label) (version : Version) → AreDefinitions definitions
+        → IsLabel label → IsTrue (suits version protocol) → CanGoOut version (outgoing definitions protocol label) }
+{}
+
+/// A packet that is sent may be written, within its room and its length, so it is read as itself (`written_packet_reads_back` in
+/// `packet_label`), where its old values fit their fields and an option can say what goes out.
+pub fn sent_packets_may_be_written()
+    ensures packets { (definitions : Entries) (protocol : Protocol) (label : Label) (p new : ParsedPacket Wire) (hops : ℕ)
+        → IsParsed (rewritten p None hops) → CanGoOut p.version (outgoing definitions protocol label)
+        → sent_under definitions protocol label p hops ≡ Ok new → IsInRoom new }
+    ensures fronts { (definitions : Entries) (protocol : Protocol) (label : Label) (h : Headers) (new : ParsedPacket Wire) (hops : ℕ)
+        → IsParsed (rewritten h None hops) → CanGoOut h.version (outgoing definitions protocol label)
+        → sent_under definitions protocol label h hops ≡ Ok new → IsInRoom new }
+{}
