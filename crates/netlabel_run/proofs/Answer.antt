@@ -15,7 +15,8 @@ use Rattle.packet_label.specs.Written.{IsReadAs}
 use Rattle.packet_label.proofs.Law.{octets_are_a_packet_or_have_one_fault}
 use Rattle.pcap_frames.specs.Record.{Frame}
 use Rattle.pcap_frames.specs.Ip.{ip_part_of}
-use Rattle.netlabel_run.specs.Verdict.{Verdict, wire_verdict, verdict_of, IsVerdict}
+use Rattle.label_receive.proofs.Law.{verdicts_are_determined}
+use Rattle.netlabel_run.specs.Verdict.{Verdict, judge_rule, IsVerdict}
 use Rattle.netlabel_run.specs.Line.{packet_text, shown_line}
 use Rattle.netlabel_run.specs.Show.{IsShown, AreShown}
 
@@ -27,39 +28,8 @@ answer_once octets (Err f) (Err g) a b = ap Err ((octets_are_a_packet_or_have_on
 
 -- ---- verdicts
 
--- what a test decides has one answer
-test_once : (P : Type 0) (a b : Bool) → (IsTrue a ↔ P) → (IsTrue b ↔ P) → a ≡ b
-test_once P true true a b = refl
-test_once P true false a b = absurd (let no : false ≡ true = b.1 (a.0 refl) in cc)
-test_once P false true a b = absurd (let no : false ≡ true = a.1 (b.0 refl) in cc)
-test_once P false false a b = refl
-
--- a test of a lent label is one of the label of what is carried
-pub mark_decides : (level label : Label) (mark : Option Mark) (d : Bool) → (IsTrue d ↔ Dominates level label) → IfSome (wire_with mark label) (λ w. IsTrue d ↔ Dominates level (label_said w))
-mark_decides level label None d is = tt
-mark_decides level label (Some (Cipso at doi tag)) d is = is
-mark_decides level label (Some (Calipso at doi)) d is = is
-
-wire_verdict_once : (known : ℕ) (level : Label) (wire : Option Wire) (a b : Bool) → IfSome wire (λ w. IsTrue a ↔ Dominates level (label_said w)) → IfSome wire (λ w. IsTrue b ↔ Dominates level (label_said w))
-    → wire_verdict known a wire ≡ wire_verdict known b wire
-wire_verdict_once known level None a b x y = refl
-wire_verdict_once known level (Some wire) a b x y = ap (λ d. wire_verdict known d (Some wire)) (test_once (Dominates level (label_said wire)) a b x y)
-
-abbrev Decides : Label → Bool → Result (ParsedPacket Wire) CarryFault → Type 0
-Decides level d answer = IfOk answer (λ packet. IfSome packet.label (λ w. IsTrue d ↔ Dominates level (label_said w)))
-
-verdict_of_once : (known : ℕ) (level : Label) (answer : Result (ParsedPacket Wire) CarryFault) (a b : Bool) → Decides level a answer → Decides level b answer → verdict_of known a answer ≡ verdict_of known b answer
-verdict_of_once known level (Ok packet) a b x y = wire_verdict_once known level packet.label a b x y
-verdict_of_once known level (Err (carry.Header octet)) a b x y = refl
-verdict_of_once known level (Err (carry.Option octet)) a b x y = refl
-
-pub verdict_once : (known : ℕ) (level : Label) (octets : List ℕ) (v w : Verdict) → IsVerdict known level octets v → IsVerdict known level octets w → v ≡ w
-verdict_once known level octets v w a b =
-    let same = answer_once octets b.answer a.answer b.reads a.reads in
-    a.is
-    ∙ verdict_of_once known level a.answer a.dominates b.dominates a.decides (subst (Decides level b.dominates) same b.decides)
-    ∙ ap (verdict_of known b.dominates) (sym same)
-    ∙ sym b.is
+pub verdict_once : (doi : ℕ) (level : Label) (octets : List ℕ) (v w : Verdict) → IsVerdict doi level octets v → IsVerdict doi level octets w → v ≡ w
+verdict_once doi level octets v w a b = verdicts_are_determined octets (judge_rule doi level) v w a b
 
 -- ---- lines of frames
 

@@ -1,4 +1,6 @@
 pub mod Answer
+pub mod Judging
+pub mod Checking
 pub mod Commands
 pub mod Endings
 pub mod Handing

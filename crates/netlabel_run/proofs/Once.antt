@@ -1,18 +1,18 @@
 -- What was asked for has one report, one status and one list of stages, and words ask for one thing.
 use Rattle.std.proofs.Common.{◌≡◌, ℕ, List, [], get_or, take, Option, Some, None, Result, Ok, Err, refl, sym, ap, subst, ◌∙◌, arith, inl, inr}
-use Rattle.std.proofs.lemmas.Fmt.{decimal_injective}
 use Rattle.mls_label.specs.declared.label.Label.{Label}
 use Rattle.mls_range.specs.LabelText.{IsLabelText}
 use Rattle.mls_range.proofs.Law.{a_text_has_one_label}
+use Rattle.command_values.specs.Doi.{doi_of_text}
 use Rattle.pcap_frames.specs.declared.fault.CaptureFault.{CaptureFault}
 use Rattle.pcap_frames.specs.Capture.{Capture, capture_of}
 use Rattle.netlabel_run.specs.declared.command.Command.{Command}
-use Rattle.netlabel_run.specs.declared.command.Command.TheVariants.{Judge, Show}
+use Rattle.netlabel_run.specs.declared.command.Command.TheVariants.{Judge, Check, Show}
 use Rattle.netlabel_run.specs.Line.{verdict_line}
 use Rattle.netlabel_run.specs.Words.{IsAsked}
 use Rattle.netlabel_run.specs.Show.{packets_limit, capture_event}
-use Rattle.netlabel_run.specs.Report.{Folder, Versions, JudgeReport, absent, too_long, judged, late_report, lines_report, CaptureReport, ShowReport}
-use Rattle.netlabel_run.specs.Status.{JudgeStatus, ShowStatus}
+use Rattle.netlabel_run.specs.Report.{Folder, Versions, JudgeReport, absent, too_long, judged, late_report, lines_report, CaptureReport, ShowReport, CheckReport}
+use Rattle.netlabel_run.specs.Status.{JudgeStatus, ShowStatus, CheckStatus}
 use Rattle.netlabel_run.specs.Laws.{IsOne, IsDetermined}
 use Rattle.netlabel_run.proofs.Answer.{verdict_once, lines_once}
 
@@ -46,6 +46,14 @@ show_status_once : (file : Option (List ℕ)) → IsOne (ShowStatus file)
 show_status_once None a b x y = absurd x
 show_status_once (Some octets) a b x y = x ∙ sym y
 
+check_report_once : (name : List ℕ) (file : Option (List ℕ)) → IsOne (CheckReport name file)
+check_report_once name None a b x y = x ∙ sym y
+check_report_once name (Some text) a b x y = x ∙ sym y
+
+check_status_once : (name : List ℕ) (file : Option (List ℕ)) → IsOne (CheckStatus name file)
+check_status_once name None a b x y = absurd x
+check_status_once name (Some text) a b x y = x ∙ sym y
+
 pub determined : (request : Option Command) (held : Folder) (seen : Versions) → IsDetermined request held seen
 determined None held seen = record {
   status = λ a b x y. x ∙ sym y;
@@ -55,6 +63,11 @@ determined None held seen = record {
 determined (Some (Judge doi level file)) held seen = record {
   status = judge_status_once (held file);
   report = judge_report_once doi level (held file);
+  stages = λ a b x y. x ∙ sym y;
+}
+determined (Some (Check file)) held seen = record {
+  status = check_status_once file (held file);
+  report = check_report_once file (held file);
   stages = λ a b x y. x ∙ sym y;
 }
 determined (Some (Show file)) held seen = record {
@@ -73,9 +86,15 @@ asked_once words (Some (Judge doi level file)) (Some (Judge doi' level' file')) 
     let d : a.doi_text ≡ b.doi_text = ap (λ ws. get_or ws 1 []) same in
     let l : a.level_text ≡ b.level_text = ap (λ ws. get_or ws 2 []) same in
     let f : file ≡ file' = ap (λ ws. get_or ws 3 []) same in
-    let doi_same : doi ≡ doi' = decimal_injective doi doi' (omega (arith, a.is_doi.fits)) (omega (arith, b.is_doi.fits)) (sym a.is_doi.is ∙ d ∙ b.is_doi.is) in
+    let some_same : Some doi ≡ Some doi' = sym a.is_doi ∙ ap doi_of_text d ∙ b.is_doi in
+    let doi_same : doi ≡ doi' = cc in
     let level_same : level ≡ level' = a_text_has_one_label b.level_text level level' (subst (λ t. IsLabelText t level) l a.is_level.reads) b.is_level.reads in
     cc
 asked_once words (Some (Show file)) (Some (Show file')) a b = ap (λ ws. Some (Show (get_or ws 1 []))) (sym a.are ∙ b.are)
 asked_once words (Some (Judge doi level file)) (Some (Show file')) a b = absurd (let same = sym a.are ∙ b.are in cc)
 asked_once words (Some (Show file)) (Some (Judge doi level file')) a b = absurd (let same = sym a.are ∙ b.are in cc)
+asked_once words (Some (Check file)) (Some (Check file')) a b = ap (λ ws. Some (Check (get_or ws 1 []))) (sym a.are ∙ b.are)
+asked_once words (Some (Judge doi level file)) (Some (Check file')) a b = absurd (let same = sym a.are ∙ b.are in cc)
+asked_once words (Some (Check file)) (Some (Judge doi level file')) a b = absurd (let same = sym a.are ∙ b.are in cc)
+asked_once words (Some (Show file)) (Some (Check file')) a b = absurd (let same = sym a.are ∙ b.are in cc)
+asked_once words (Some (Check file)) (Some (Show file')) a b = absurd (let same = sym a.are ∙ b.are in cc)

@@ -1,6 +1,7 @@
 pub mod Words
 pub mod Verdict
 pub mod Line
+pub mod Check
 pub mod Show
 pub mod Report
 pub mod Status

@@ -1,5 +1,5 @@
 -- The printed lines.
-use Rattle.std.specs.Prelude.{ℕ, List, [], ◌∷◌, ◌++◌, codes, Option, Some, None, Result, Ok, Err}
+use Rattle.std.specs.Prelude.{ℕ, List, [], ◌++◌, codes, Option, Some, None, Result, Ok, Err}
 use Rattle.std.specs.Fmt.{decimal}
 use Rattle.mls_label.specs.declared.label.Label.{Label}
 use Rattle.mls_range.specs.LabelText.{label_text}
@@ -15,11 +15,13 @@ use Rattle.packet_label.specs.declared.fault.CarryFault.TheVariants as carry
 use Rattle.pcap_frames.specs.declared.fault.CaptureFault.{CaptureFault}
 use Rattle.pcap_frames.specs.declared.fault.CaptureKind.{CaptureKind}
 use Rattle.pcap_frames.specs.declared.fault.CaptureKind.TheVariants.{Magic, Version, LinkType, Captured, SnapCut, Short}
+use Rattle.script_lines.specs.declared.stop.ScriptKind.{ScriptKind}
+use Rattle.script_lines.specs.declared.stop.ScriptKind.TheVariants.{Octet, Word, NoNode, Value, UnknownNode, HopOrder, NameTwice, Extra, Missing, ReadingTwice, NotIncreasing, NotDistinct}
+use Rattle.script_lines.specs.declared.stop.LimitName.{LimitName}
+use Rattle.script_lines.specs.declared.stop.LimitName.TheVariants as most
+use Rattle.label_commands.specs.declared.stop.ScriptFault.{ScriptFault}
+use Rattle.reply_lines.specs.Reply.{line_of}
 use Rattle.netlabel_run.specs.Verdict.{Verdict}
-
--- a text and the end of its line
-abbrev pub line_of : List ℕ → List ℕ
-line_of text = text ++ 10 ∷ []
 
 abbrev pub octet_detail : ℕ → List ℕ
 octet_detail octet = codes " octet " ++ decimal octet
@@ -79,3 +81,36 @@ capture_line number fault = line_of (codes "capture " ++ decimal number ++ octet
 
 unfoldable pub packets_limit_line : List ℕ
 packets_limit_line = line_of (codes "limit packets 1048576")
+
+abbrev pub script_kind_name : ScriptKind → List ℕ
+script_kind_name Octet = codes "Octet"
+script_kind_name Word = codes "Word"
+script_kind_name NoNode = codes "NoNode"
+script_kind_name Value = codes "Value"
+script_kind_name UnknownNode = codes "UnknownNode"
+script_kind_name HopOrder = codes "HopOrder"
+script_kind_name NameTwice = codes "NameTwice"
+script_kind_name Extra = codes "Extra"
+script_kind_name Missing = codes "Missing"
+script_kind_name ReadingTwice = codes "ReadingTwice"
+script_kind_name NotIncreasing = codes "NotIncreasing"
+script_kind_name NotDistinct = codes "NotDistinct"
+
+-- the first fault of a script
+unfoldable pub script_line : ScriptFault → List ℕ
+script_line fault = line_of (codes "script line " ++ decimal fault.line ++ octet_detail fault.octet ++ codes " " ++ script_kind_name fault.kind)
+
+abbrev pub limit_name : LimitName → List ℕ
+limit_name most.Octets = codes "octets"
+limit_name most.Lines = codes "lines"
+limit_name most.Nodes = codes "nodes"
+limit_name most.Flows = codes "flows"
+limit_name most.Hops = codes "hops"
+
+-- a limit of scripts that is passed, and its number
+unfoldable pub limit_line : LimitName → ℕ → List ℕ
+limit_line what number = line_of (codes "limit " ++ limit_name what ++ codes " " ++ decimal number)
+
+-- how many nodes, commands and flows a script has
+unfoldable pub ok_line : ℕ → ℕ → ℕ → List ℕ
+ok_line nodes commands flows = line_of (codes "ok " ++ decimal nodes ++ codes " nodes " ++ decimal commands ++ codes " commands " ++ decimal flows ++ codes " flows")

@@ -3,11 +3,15 @@ use Rattle.std.specs.Prelude.{ℕ, ◌+◌, ◌<◌, ◌≤◌, ◌≡◌, List,
 use Rattle.std.specs.List.{concat, range_with_len}
 use Rattle.mls_label.specs.declared.label.Label.{Label}
 use Rattle.netlabel_run.specs.declared.command.Command.{Command}
-use Rattle.netlabel_run.specs.declared.command.Command.TheVariants.{Judge, Show}
+use Rattle.netlabel_run.specs.declared.command.Command.TheVariants.{Judge, Check, Show}
 use Rattle.pcap_frames.specs.declared.fault.CaptureFault.{CaptureFault}
 use Rattle.pcap_frames.specs.Capture.{Capture, capture_of}
 use Rattle.netlabel_run.specs.Verdict.{Verdict, IsVerdict}
-use Rattle.netlabel_run.specs.Line.{line_of, verdict_line, shown_end_line, capture_line}
+use Rattle.label_commands.specs.declared.script.Script.{Script}
+use Rattle.label_commands.specs.declared.stop.ScriptStop.{ScriptStop}
+use Rattle.reply_lines.specs.Reply.{line_of}
+use Rattle.netlabel_run.specs.Line.{verdict_line, shown_end_line, capture_line}
+use Rattle.netlabel_run.specs.Check.{script_read, check_text, script_stop_line}
 use Rattle.netlabel_run.specs.Show.{AreShown, Event, packets_limit, capture_event}
 
 -- what each name of the folder holds
@@ -66,10 +70,21 @@ abbrev pub ShowReport : Option (List ℕ) → Report → Type 0
 ShowReport None report = report ≡ late_report [] []
 ShowReport (Some octets) report = CaptureReport (capture_of octets) report
 
+-- nothing is printed before the script is known to be right
+abbrev pub script_report : Result Script ScriptStop → Report
+script_report (Ok script) = late_report (check_text script) []
+script_report (Err stop) = late_report [] (script_stop_line stop)
+
+-- `check`, by what its file holds: nothing of an absent one
+abbrev pub CheckReport : List ℕ → Option (List ℕ) → Report → Type 0
+CheckReport file None report = report ≡ late_report [] []
+CheckReport file (Some text) report = report ≡ script_report (script_read file text)
+
 -- the report of what was asked for
 abbrev pub HasReport : Option Command → Folder → Versions → Report → Type 0
 HasReport None held seen report = report ≡ late_report [] usage_line
 HasReport (Some (Judge doi level file)) held seen report = JudgeReport doi level (held file) report
+HasReport (Some (Check file)) held seen report = CheckReport file (held file) report
 HasReport (Some (Show file)) held seen report = ShowReport (held file) report
 
 -- whatever the folder may hold, nothing is printed before a read

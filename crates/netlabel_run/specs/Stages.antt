@@ -1,7 +1,7 @@
 -- The files that a call reads and makes, stage by stage. The first stage reads the file that the words name; behind it each flow has one. The last stage that was begun is in hand.
 use Rattle.std.specs.Prelude.{ℕ, ◌≡◌, List, [], ◌∷◌, Option, Some, None}
 use Rattle.netlabel_run.specs.declared.command.Command.{Command}
-use Rattle.netlabel_run.specs.declared.command.Command.TheVariants.{Judge, Show}
+use Rattle.netlabel_run.specs.declared.command.Command.TheVariants.{Judge, Check, Show}
 use Rattle.netlabel_run.specs.Report.{Folder, Versions}
 
 -- A file that a call makes, and all octets that it is to hold at the end, the stage's output capture. It has none, and isn't made, where the stage's input can't be begun.
@@ -20,6 +20,7 @@ reading_stage file = record { input = Some file; output = None }
 abbrev pub HasStages : Option Command → Folder → Versions → List Stage → Type 0
 HasStages None held seen stages = stages ≡ []
 HasStages (Some (Judge doi level file)) held seen stages = stages ≡ reading_stage file ∷ []
+HasStages (Some (Check file)) held seen stages = stages ≡ reading_stage file ∷ []
 HasStages (Some (Show file)) held seen stages = stages ≡ reading_stage file ∷ []
 
 abbrev pub named_input : List Stage → Option (List ℕ)

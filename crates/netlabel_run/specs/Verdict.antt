@@ -1,40 +1,56 @@
--- What is decided of the octets of a file: `judge` receives one packet on a node that knows one DOI, with CIPSO's tags 1,
--- 2 and 5, and accepts no packet without a label option.
-use Rattle.std.specs.Prelude.{ℕ, ◌≡◌, ◌↔◌, ◌+◌, ◌==◌, Bool, not, if◌then◌else◌, IsTrue, IfSome, IfOk, List, Option, Some, None, Result, Ok, Err}
+-- What is decided of the octets of a file: `judge` sets up a node for the packet that they hold, which receives it.
+use Rattle.std.specs.Prelude.{ℕ, List, [], ◌∷◌, codes, fold, None, Result, Ok, Err}
 use Rattle.mls_label.specs.declared.label.Label.{Label}
-use Rattle.mls_label.specs.Label.{Dominates}
+use Rattle.mls_label.specs.declared.label.Tag.TheVariants.{One, Two, Five}
+use Rattle.ip_headers.specs.declared.version.Version.{Version}
+use Rattle.ip_headers.specs.declared.version.Version.TheVariants.{V4, V6}
 use Rattle.ip_headers.specs.Packet.{ParsedPacket}
 use Rattle.packet_label.specs.declared.denial.Denial.{Denial}
-use Rattle.packet_label.specs.declared.denial.Denial.TheVariants.{BadHeader, BadOption, Unlabelled, UnknownDoi, NotDominated}
-use Rattle.packet_label.specs.declared.fault.CarryFault.{CarryFault}
-use Rattle.packet_label.specs.declared.fault.CarryFault.TheVariants as carry
 use Rattle.packet_label.specs.declared.packet.Wire.{Wire}
-use Rattle.packet_label.specs.Wire.{wire_place, wire_doi, label_said}
-use Rattle.packet_label.specs.Written.{IsReadAs}
+use Rattle.domain_map.specs.declared.protocol.Protocol.{Protocol}
+use Rattle.domain_map.specs.declared.protocol.Protocol.TheVariants.{Cipso, Calipso}
+use Rattle.command_values.specs.Ranges.{range_below}
+use Rattle.command_forms.specs.declared.command.Command.{Command}
+use Rattle.command_forms.specs.declared.command.Command.TheVariants.{CipsoAddPass, CalipsoAddPass, MapAdd, ReceiverAdd}
+use Rattle.node_tables.specs.Tables.{TableState, fresh}
+use Rattle.node_tables.specs.Effect.{applied}
+use Rattle.label_receive.specs.declared.receiving.Delivered.{Delivered}
+use Rattle.label_receive.specs.Incoming.{address_in}
+use Rattle.label_receive.specs.Receive.{receive_of}
+use Rattle.label_receive.specs.Judged.{IsJudged}
 
 -- A verdict is the label of a packet that is delivered, or why it isn't.
 abbrev pub Verdict : Type 0
 Verdict = Result Label Denial
 
--- on a label option at this place, for a receiver whose level dominates its label, or doesn't
-abbrev pub option_verdict : ℕ → Bool → ℕ → ℕ → Label → Verdict
-option_verdict known dominates at doi label =
-    if not (doi == known) then Err (UnknownDoi (at + 2)) else (if dominates then Ok label else Err NotDominated)
+-- the protocol whose option a packet of this version has
+abbrev pub protocol_in : Version → ℕ → Protocol
+protocol_in V4 doi = Cipso doi
+protocol_in V6 doi = Calipso doi
 
-abbrev pub wire_verdict : ℕ → Bool → Option Wire → Verdict
-wire_verdict known dominates None = Err Unlabelled
-wire_verdict known dominates (Some wire) = option_verdict known dominates (wire_place wire) (wire_doi wire) (label_said wire)
+-- The node defines the DOI for both protocols as one that passes all numbers, every domain speaks the packet's protocol under it
+-- with everybody, and at the packet's destination somebody receives whose level this is.
+abbrev pub judge_commands : ℕ → Label → Version → List ℕ → List Command
+judge_commands doi level version destination =
+    CipsoAddPass doi (One ∷ Two ∷ Five ∷ [])
+    ∷ CalipsoAddPass doi
+    ∷ MapAdd None None (protocol_in version doi)
+    ∷ ReceiverAdd (address_in version destination) (codes "receiver") (range_below level)
+    ∷ []
 
--- on what is read of octets
-abbrev pub verdict_of : ℕ → Bool → Result (ParsedPacket Wire) CarryFault → Verdict
-verdict_of known dominates (Ok packet) = wire_verdict known dominates packet.label
-verdict_of known dominates (Err (carry.Header octet)) = Err (BadHeader octet)
-verdict_of known dominates (Err (carry.Option octet)) = Err (BadOption octet)
+-- its tables, which have no range and accept no packet without a label option
+unfoldable pub judge_node : ℕ → Label → Version → List ℕ → TableState
+judge_node doi level version destination = fold applied fresh (judge_commands doi level version destination)
+
+-- the label alone
+abbrev pub label_alone : Result Delivered Denial → Verdict
+label_alone (Ok delivered) = Ok delivered.label
+label_alone (Err why) = Err why
+
+-- what the node does with a packet that comes in
+abbrev pub judge_rule : ℕ → Label → ParsedPacket Wire → Verdict
+judge_rule doi level p = label_alone (receive_of (judge_node doi level p.version p.destination) (codes "interface") p)
 
 -- on the octets of a file, for a receiver of this level
-pub record IsVerdict (known : ℕ) (level : Label) (octets : List ℕ) (verdict : Verdict) : Type 0 where
-  pub answer : Result (ParsedPacket Wire) CarryFault
-  pub reads : IsReadAs octets answer
-  pub dominates : Bool
-  pub decides : IfOk answer (λ packet. IfSome packet.label (λ wire. IsTrue dominates ↔ Dominates level (label_said wire)))
-  pub is : verdict ≡ verdict_of known dominates answer
+abbrev pub IsVerdict : ℕ → Label → List ℕ → Verdict → Type 0
+IsVerdict doi level octets verdict = IsJudged octets (judge_rule doi level) verdict

@@ -1,5 +1,6 @@
 //! What the words of the command line ask for.
 
+use command_values::Doi;
 use mls_label::Label;
 use std::marker::Model;
 
@@ -8,14 +9,50 @@ use std::marker::Model;
 pub(crate) enum Command<'a> {
     /// `judge`: one raw packet, received by a receiver of this level whose node knows this DOI alone.
     Judge {
-        doi: u32,
+        doi: NamedDoi,
         level: Level<'a>,
+        file: FileName<'a>,
+    },
+    /// `check`: what a script's commands answer.
+    Check {
         file: FileName<'a>,
     },
     /// `show`: what each packet of a capture carries.
     Show {
         file: FileName<'a>,
     },
+}
+
+/// A DOI, which isn't 0.
+#[derive(Debug, Drop)]
+pub(crate) struct NamedDoi {
+    number: u32,
+}
+
+impl Model for NamedDoi {
+    ghost use Rattle.std.specs.Prelude.{ℕ, ◌<◌};
+
+    ghost Value = { ℕ };
+
+    ghost view = { λ d. d.number };
+
+    ghost invariant = { λ d. 0 < d.number };
+}
+
+impl NamedDoi {
+    ghost use Rattle.std.specs.Prelude.{◌≡◌};
+
+    pub(crate) fn new(doi: Doi) -> NamedDoi
+        ensures { result ≡ doi }
+    {
+        NamedDoi { number: doi.get() }
+    }
+
+    pub(crate) fn doi(&self) -> Doi
+        ensures { result ≡ self.now }
+    {
+        Doi::of(self.number)
+    }
 }
 
 /// The name of a file, as its octets.

@@ -12,6 +12,8 @@ use crate::lines::{packet_limit, write_verdict};
 use crate::report::Report;
 use crate::status::Status;
 use crate::verdict::judge_packet;
+use command_values::Doi;
+use label_receive::Room;
 use mls_label::{Label, OutOfMemory};
 use net_io::{Depot, Sink, WholeFault, read_whole};
 use std::alloc::Global;
@@ -22,7 +24,7 @@ const PACKET_LIMIT: usize = 65575;
 /// Judges the packet in a file and prints the verdict.
 pub(crate) fn judge<D: Depot, S: Sink>(
     alloc: Global,
-    doi: u32,
+    doi: Doi,
     level: &Label,
     file: &str,
     depot: &mut D,
@@ -51,16 +53,16 @@ pub(crate) fn judge<D: Depot, S: Sink>(
 /// The report that says whether a receiver of this level may have the packet, and why not.
 fn verdict_report(
     alloc: Global,
-    doi: u32,
+    doi: Doi,
     level: &Label,
     octets: &[u8],
 ) -> Result<Report, OutOfMemory>
     ensures { IfOk result (λ report. (verdict : Verdict) × IsVerdict doi level.now octets.now verdict
         × (report.waiting.items ≡ verdict_line verdict)) }
 {
-    let mut label = Label::lowest();
-    let verdict = judge_packet(doi, level, octets, &mut label);
+    let mut room = Room::lowest();
+    let verdict = judge_packet(alloc, doi, level, octets, &mut room)?;
     let mut report = Report::new(alloc);
-    write_verdict(&verdict, &label, &mut report.waiting)?;
+    write_verdict(&verdict, &room.local, &mut report.waiting)?;
     Ok(report)
 }

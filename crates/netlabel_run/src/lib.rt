@@ -2,6 +2,7 @@
 //! come out. All that the program does is `netlabel`, and its contract says what.
 #![tactic(auto)]
 
+mod check;
 mod command;
 mod judge;
 pub mod laws;

@@ -1,8 +1,9 @@
 //! Worked words and failing calls, over a folder and a stream in memory; packets stand in `packets`, captures in
-//! `captures`.
+//! `captures`, scripts in `scripts`.
 
 mod captures;
 mod packets;
+mod scripts;
 
 use crate::outcome::Outcome;
 use crate::top::netlabel;
@@ -76,7 +77,13 @@ fn answers_words(rt: HostRuntime) -> Result<(), Fail> {
         ("show", 1, USAGE),
         ("show -p.bin", 1, USAGE),
         ("show p.bin p.bin", 1, USAGE),
-        ("check p.bin", 1, USAGE),
+        ("check p.bin", 2, "script line 1 octet 1 Octet\n"),
+        ("check empty.bin", 0, "ok 0 nodes 0 commands 0 flows\n"),
+        ("check absent.bin", 3, ""),
+        ("check", 1, USAGE),
+        ("check -p.bin", 1, USAGE),
+        ("check p.bin p.bin", 1, USAGE),
+        ("run p.bin", 1, USAGE),
         ("", 1, USAGE),
     ];
     for (line, status, text) in cases {

@@ -8,6 +8,7 @@ ghost use Rattle.netlabel_run.specs.Report.{usage_line};
 ghost use Rattle.netlabel_run.specs.CallEnds.{CallEnds};
 ghost use Rattle.netlabel_run.specs.inside.Printing.{Printed};
 
+use crate::check::check;
 use crate::command::Command;
 use crate::judge::judge;
 use crate::lines::usage;
@@ -53,8 +54,9 @@ fn carry_out<D: Depot, S: Sink>(
 {
     match asked {
         Some(Command::Judge { doi, level, file }) => {
-            judge(alloc, doi, level.label(), file.as_str(), depot, out).outcome(alloc)
+            judge(alloc, doi.doi(), level.label(), file.as_str(), depot, out).outcome(alloc)
         }
+        Some(Command::Check { file }) => { check(alloc, file.as_str(), depot, out).outcome(alloc) }
         Some(Command::Show { file }) => { show(alloc, file.as_str(), depot, out).outcome(alloc) }
         None => print_usage(alloc, out).outcome(alloc),
     }

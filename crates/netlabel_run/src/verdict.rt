@@ -1,53 +1,125 @@
-//! What is decided of one packet, for a receiver whose node knows one DOI alone.
+//! What is decided of one packet: a node is set up for it, which receives it.
 
-ghost use Rattle.std.specs.Prelude.{◌≡◌, ◌+◌, ◌<◌, ◌^◌, IfSome};
-ghost use Rattle.mls_label.specs.declared.label.Label.{Label as LabelValue};
-ghost use Rattle.packet_label.specs.Wire.{wire_with};
-ghost use Rattle.netlabel_run.specs.Verdict.{option_verdict, wire_verdict, IsVerdict};
-ghost use Rattle.netlabel_run.specs.inside.Judged.{with_label, mark_place};
+ghost use Rattle.std.specs.Prelude.{◌≡◌, [], ◌∷◌, Some, length, map, IfOk, OnOk};
+ghost use Rattle.address_text.specs.Name.{name_of_text};
+ghost use Rattle.packet_label.specs.Packet.{IsOfItsVersion, headers_of};
+ghost use Rattle.command_values.specs.Ranges.{range_below};
+ghost use Rattle.node_tables.specs.Effect.{applied};
+ghost use Rattle.netlabel_run.specs.Verdict.{protocol_in, judge_node, IsVerdict};
+ghost use Rattle.netlabel_run.specs.inside.Judged.{with_label};
 
-use mls_label::Label;
-use packet_label::{CarryFault, Denial, Mark, carried_into};
+use address_text::{Name, read_name};
+use command_forms::{Command, Step};
+use command_values::{Doi, MapProtocol, Tags};
+use label_receive::{Room, destination_of, fault_denial, receive_marked};
+use mls_label::{Label, OutOfMemory, Tag};
+use mls_range::{KeptRange, Range};
+use node_tables::Network;
+use packet_label::{Denial, Packet, carried_into};
+use std::alloc::Global;
 
-/// Judges the packet at the front of the octets for a receiver of this level. The label that is lent takes the packet's,
-/// which is the verdict's where the receiver may have it.
+/// Judges the packet at the front of the octets for a receiver of this level, by a node that is set up for it. Of the room that is
+/// lent, `local` takes the label that the receiver may have.
 pub(crate) fn judge_packet(
-    known: u32,
+    alloc: Global,
+    doi: Doi,
     level: &Label,
     octets: &[u8],
-    label: &mut Label,
-) -> Result<(), Denial>
-    ensures { IsVerdict known level.now octets.now (with_label result label.new) }
+    room: &mut Room,
+) -> Result<Result<(), Denial>, OutOfMemory>
+    ensures { IfOk result (λ verdict. IsVerdict doi level.now octets.now (with_label verdict room.new.local)) }
 {
-    match carried_into(octets, label) {
-        Ok(marked) => judge_mark(known, level.dominates(label), marked.mark),
-        Err(CarryFault::Header { octet }) => Err(Denial::BadHeader { octet }),
-        Err(CarryFault::Option { octet }) => Err(Denial::BadOption { octet }),
+    let marked = match carried_into(octets, &mut room.wire) {
+        Ok(marked) => marked,
+        Err(fault) => return Ok(Err(fault_denial(fault))),
+    };
+    let network = node_for(alloc, doi, level, &marked.packet)?;
+    let interface = fixed_name(b"interface");
+    let received = receive_marked(
+        network.node(0),
+        &interface,
+        &marked,
+        &room.wire,
+        &mut room.local,
+    );
+    match received {
+        Ok(_receiver) => Ok(Ok(())),
+        Err(denial) => Ok(Err(denial)),
     }
 }
 
-/// The same of what its label option says, where it has one, for a level that dominates its label, or doesn't.
-fn judge_mark(known: u32, dominates: bool, mark: Option<Mark>) -> Result<(), Denial>
-    requires { IfSome mark (λ m. mark_place m + 2 < 2 ^ 64) }
-    ensures { (label : LabelValue) → with_label result label ≡ wire_verdict known dominates (wire_with mark label) }
+/// The node that is set up for a packet, as the one of a network.
+#[tactic(auto, unfolding(crate::specs::Verdict::judge_node))]
+fn node_for(
+    alloc: Global,
+    doi: Doi,
+    level: &Label,
+    packet: &Packet<'_>,
+) -> Result<Network, OutOfMemory>
+    requires { IsOfItsVersion packet.now }
+    ensures { IfOk result (λ network. network ≡ judge_node doi level.now (headers_of packet.now).version (headers_of packet.now).destination ∷ []) }
 {
-    match mark {
-        None => Err(Denial::Unlabelled),
-        Some(Mark::Cipso { at, doi, tag: _ }) => judge_option(known, dominates, at, doi),
-        Some(Mark::Calipso { at, doi }) => judge_option(known, dominates, at, doi),
-    }
+    let tags = Tags::of(alloc, &[Tag::One, Tag::Two, Tag::Five])?;
+    let range = range_below(alloc, level)?;
+    let mut network = Network::fresh(alloc, 1)?;
+    obey(&mut network, Command::CipsoAddPass { doi, tags })?;
+    obey(&mut network, Command::CalipsoAddPass { doi })?;
+    obey(
+        &mut network,
+        Command::MapAdd {
+            domain: None,
+            prefix: None,
+            protocol: protocol_in(packet, doi),
+        },
+    )?;
+    obey(
+        &mut network,
+        Command::ReceiverAdd {
+            address: destination_of(packet),
+            domain: fixed_name(b"receiver"),
+            range,
+        },
+    )?;
+    Ok(network)
 }
 
-/// The same of an option at a place, with its DOI.
-fn judge_option(known: u32, dominates: bool, at: usize, doi: u32) -> Result<(), Denial>
-    requires { at + 2 < 2 ^ 64 }
-    ensures { (label : LabelValue) → with_label result label ≡ option_verdict known dominates at doi label }
+/// Has the one node carry out a command.
+fn obey(network: &mut Network, command: Command) -> Result<(), OutOfMemory>
+    requires { length network.old ≡ 1 }
+    ensures one { length network.new ≡ 1 }
+    ensures ok { OnOk result (network.new ≡ map (λ t. applied t command) network.old) }
 {
-    if doi != known {
-        return Err(Denial::UnknownDoi { octet: at + 2 });
-    }
-    if !dominates {
-        return Err(Denial::NotDominated);
-    }
+    let _reply = network.apply(&Step { node: 0, command })?;
     Ok(())
+}
+
+/// The protocol whose option a packet of its version has.
+fn protocol_in(packet: &Packet<'_>, doi: Doi) -> MapProtocol
+    requires { IsOfItsVersion packet.now }
+    ensures { result ≡ protocol_in (headers_of packet.now).version doi }
+{
+    match packet {
+        Packet::V4(_) => MapProtocol::cipso(doi),
+        Packet::V6(_) => MapProtocol::calipso(doi),
+    }
+}
+
+/// All labels that a label dominates.
+fn range_below(alloc: Global, level: &Label) -> Result<KeptRange, OutOfMemory>
+    ensures { IfOk result (λ range. range ≡ range_below level.now) }
+{
+    let mut range = Range::lowest();
+    range.assign_ends(&Label::lowest(), level);
+    KeptRange::of(alloc, &range)
+}
+
+/// A text that is a name.
+fn fixed_name(text: &[u8]) -> Name
+    requires { name_of_text text.now ≡ Some text.now }
+    ensures { result ≡ text.now }
+{
+    match read_name(text) {
+        Some(name) => name,
+        None => unreachable!(),
+    }
 }

@@ -1,12 +1,12 @@
 //! The words of the command line.
 
-ghost use Rattle.std.specs.Prelude.{◌≡◌, ◌≢◌, ◌<◌, ◌≤◌, ◌↔◌, ℕ, [], ◌∷◌, codes, IsTrue, IfSome, IfNone, length, slice_index, All};
-ghost use Rattle.std.specs.Fmt.{decimal};
+ghost use Rattle.std.specs.Prelude.{[], ◌∷◌, codes, IsTrue};
 ghost use Rattle.mls_label.specs.declared.label.Label.{Label as LabelValue};
-ghost use Rattle.netlabel_run.specs.Words.{texts_of, IsAsked, IsFileName, IsDoi, IsLevel};
+ghost use Rattle.netlabel_run.specs.Words.{texts_of, IsAsked, IsLevel};
 
-use crate::command::{Command, FileName, Level};
-use decimal_text::read_decimal;
+use crate::command::{Command, FileName, Level, NamedDoi};
+use command_values::read_doi;
+use flow_lines::is_file_name;
 use mls_label::Label;
 use mls_range::read_label_into;
 
@@ -25,12 +25,20 @@ pub(crate) fn read_words<'a>(words: &'a [String], label: &'a mut Label) -> Optio
 fn read_two<'a>(command: &str, file: &'a str) -> Option<Command<'a>>
     ensures { IsAsked (command.now ∷ file.now ∷ []) result }
 {
-    if command != "show" || !is_file_name(file) {
+    if !is_file_name(file.as_bytes()) {
         return None;
     }
-    Some(Command::Show {
-        file: FileName::new(file),
-    })
+    if command == "show" {
+        return Some(Command::Show {
+            file: FileName::new(file),
+        });
+    }
+    if command == "check" {
+        return Some(Command::Check {
+            file: FileName::new(file),
+        });
+    }
+    None
 }
 
 /// Reads four words.
@@ -58,15 +66,15 @@ fn read_judge<'a>(
 ) -> Option<Command<'a>>
     ensures { IsAsked (codes "judge" ∷ doi.now ∷ level.now ∷ file.now ∷ []) result }
 {
-    let doi = read_doi(doi)?;
-    if !is_file_name(file) {
+    let doi = read_doi(doi.as_bytes())?;
+    if !is_file_name(file.as_bytes()) {
         return None;
     }
     if !read_level(level, label) {
         return None;
     }
     Some(Command::Judge {
-        doi,
+        doi: NamedDoi::new(doi),
         level: Level::new(label),
         file: FileName::new(file),
     })
@@ -81,35 +89,4 @@ fn read_level(text: &str, label: &mut Label) -> bool
         Ok(()) => true,
         Err(_fault) => false,
     }
-}
-
-/// A DOI, from 1 to 4294967295.
-fn read_doi(text: &str) -> Option<u32>
-    ensures some { IfSome result (λ doi. IsDoi text.now doi) }
-    ensures none { IfNone result ((doi : ℕ) → IsDoi text.now doi → ⊥) }
-{
-    let number = read_decimal(text.as_bytes())?;
-    if number == 0 || number > u64::from(u32::MAX) {
-        return None;
-    }
-    Some(number as u32)
-}
-
-/// Whether a text names a file: 1 to 127 octets from 0x21 to 0x7E, and neither `-` nor `#` in front.
-fn is_file_name(name: &str) -> bool
-    ensures { IsTrue result ↔ IsFileName name.now }
-{
-    let octets = name.as_bytes();
-    !octets.is_empty()
-        && octets.len() <= 127
-        && octets[0] != b'-'
-        && octets[0] != b'#'
-        && is_printable(octets)
-}
-
-/// Whether each octet is from 0x21 to 0x7E.
-fn is_printable(octets: &[u8]) -> bool
-    ensures { IsTrue result ↔ All (λ octet. (33 ≤ octet) × (octet ≤ 126)) octets.now }
-{
-    octets.iter().all(|octet| 33 <= *octet && *octet <= 126)
 }

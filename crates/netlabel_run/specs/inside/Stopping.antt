@@ -3,7 +3,9 @@ use Rattle.std.specs.Prelude.{ℕ, List, []}
 use Rattle.pcap_frames.specs.declared.fault.FrameStop.{FrameStop}
 use Rattle.pcap_frames.specs.declared.fault.FrameStop.TheVariants as stop
 use Rattle.netlabel_run.specs.declared.status.Status.{Status}
-use Rattle.netlabel_run.specs.declared.status.Status.TheVariants.{WrongCapture, ReadFault, OutOfMemory}
+use Rattle.netlabel_run.specs.declared.status.Status.TheVariants.{WrongScript, WrongCapture, ReadFault, OutOfMemory, Limit}
+use Rattle.label_commands.specs.declared.stop.ScriptStop.{ScriptStop}
+use Rattle.label_commands.specs.declared.stop.ScriptStop.TheVariants as script
 use Rattle.netlabel_run.specs.Line.{capture_line}
 
 abbrev pub stop_status : FrameStop → Status
@@ -16,3 +18,9 @@ abbrev pub stop_line : FrameStop → List ℕ
 stop_line (stop.Capture fault) = capture_line 1 fault
 stop_line stop.ReadFault = []
 stop_line stop.OutOfMemory = []
+
+-- where a text is no script
+abbrev pub script_due : ScriptStop → Status
+script_due (script.Fault fault) = WrongScript
+script_due (script.Limit what number) = Limit
+script_due script.OutOfMemory = OutOfMemory
