@@ -1,0 +1,584 @@
+/* What a node does with a packet that comes in, goes through or goes out, as a plain C program: bench/judging.py compares what
+   comes of each packet, and times.
+
+   It knows CIPSO in IPv4 alone, and definitions that pass all numbers. A node's tables are read from the same commands; they are
+   arrays, and an entry is found by going over them from the front. The checks are those of the product, in the same order. */
+#include <stdint.h>
+#include <stdio.h>
+#include <stdlib.h>
+#include <string.h>
+#include <time.h>
+
+enum { MOST_RUNS = 1952, MOST_ENTRIES = 256, MOST_ADDRESSES = 16, MOST_OCTETS = 65535 };
+
+/* --- denials ------------------------------------------------------------------------------------------------------------ */
+
+enum why {
+    NONE, HEADER, OPTION, UNLABELLED, STATIC, DOI, TAG, RANGE, RECEIVER, REFUSES,
+    DOMINATED, BELOW, EXPIRED, MAP, LABELLED, EXPRESS, ROOM, LONG
+};
+
+static const char *const names[] = {
+    "", "BadHeader", "BadOption", "Unlabelled", "NoStatic", "UnknownDoi", "TagNotAllowed", "OutsideRange", "NoReceiver", "MapRefuses",
+    "NotDominated", "BelowRange", "Expired", "NoMap", "AlreadyLabelled", "Inexpressible", "NoRoom", "TooLong"};
+
+/* Why a packet is denied; NONE where it isn't. The octet is -1 where nothing stands at one. */
+struct denial { enum why why; int octet; };
+
+static struct denial at_octet(enum why why, int octet) {
+    struct denial denial = {why, octet};
+    return denial;
+}
+
+static struct denial because(enum why why) { return at_octet(why, -1); }
+
+/* --- labels ------------------------------------------------------------------------------------------------------------- */
+
+struct run { uint16_t first, last; };
+struct label { uint8_t level; int runs; struct run run[MOST_RUNS]; };
+
+static void add_last(struct label *label, unsigned first, unsigned last) {
+    if (label->runs && label->run[label->runs - 1].last + 1u >= first) {
+        if (label->run[label->runs - 1].last < last) label->run[label->runs - 1].last = last;
+    } else {
+        label->run[label->runs].first = first;
+        label->run[label->runs++].last = last;
+    }
+}
+
+static void assign(struct label *to, const struct label *from) {
+    to->level = from->level;
+    to->runs = from->runs;
+    memcpy(to->run, from->run, from->runs * sizeof from->run[0]);
+}
+
+static int dominates(const struct label *a, const struct label *b) {
+    if (b->level > a->level) return 0;
+    for (int i = 0, k = 0; k < b->runs;) {
+        if (i == a->runs) return 0;
+        if (a->run[i].last < b->run[k].first) i++;
+        else if (a->run[i].first <= b->run[k].first && b->run[k].last <= a->run[i].last) k++;
+        else return 0;
+    }
+    return 1;
+}
+
+/* --- tables ------------------------------------------------------------------------------------------------------------- */
+
+struct protocol { int is_cipso; uint32_t doi; };
+struct definition { uint32_t doi; int tags, tag[3]; };
+struct prefix { uint32_t address, mask; struct protocol protocol; };
+struct domain { char name[64]; int prefixes; struct protocol plain; struct prefix prefix[MOST_ADDRESSES]; };
+struct receiver { uint32_t address; char domain[64]; struct label *low, *level; };
+struct range { char interface[64]; struct label *low, *high; };
+struct statics { char interface[64]; uint32_t address, mask; struct label *low, *high; };
+
+static struct definition definition[MOST_ENTRIES];
+static struct domain domain[MOST_ENTRIES];
+static struct receiver receiver[MOST_ENTRIES];
+static struct range range[MOST_ENTRIES];
+static struct statics statics[MOST_ENTRIES];
+static int definitions, domains, receivers, ranges, static_entries, accepts;
+
+static const struct definition *find_definition(uint32_t doi) {
+    for (int i = 0; i < definitions; i++) {
+        if (definition[i].doi == doi) return &definition[i];
+    }
+    return NULL;
+}
+
+/* The protocol of a domain, or else of the default one, which has no name, towards an address; the prefixes stand by falling length. */
+static const struct protocol *find_protocol(const char *name, uint32_t address) {
+    const struct domain *found = NULL;
+    for (int i = 0; i < domains; i++) {
+        if (!domain[i].name[0]) found = &domain[i];
+        else if (strcmp(domain[i].name, name) == 0) {
+            found = &domain[i];
+            break;
+        }
+    }
+    if (!found) return NULL;
+    if (!found->prefixes) return &found->plain;
+    for (int i = 0; i < found->prefixes; i++) {
+        if ((address & found->prefix[i].mask) == found->prefix[i].address) return &found->prefix[i].protocol;
+    }
+    return NULL;
+}
+
+static const struct receiver *find_receiver(uint32_t address) {
+    for (int i = 0; i < receivers; i++) {
+        if (receiver[i].address == address) return &receiver[i];
+    }
+    return NULL;
+}
+
+static const struct range *find_range(const char *interface) {
+    const struct range *found = NULL;
+    for (int i = 0; i < ranges; i++) {
+        if (!range[i].interface[0]) found = &range[i];
+        else if (strcmp(range[i].interface, interface) == 0) return &range[i];
+    }
+    return found;
+}
+
+/* The labels of an interface for a source: of the longest prefix, where they stand by falling length. */
+static const struct statics *find_static(const char *interface, uint32_t source) {
+    for (int i = 0; i < static_entries; i++) {
+        if (strcmp(statics[i].interface, interface) == 0 && (source & statics[i].mask) == statics[i].address) return &statics[i];
+    }
+    return NULL;
+}
+
+/* The interface has a range that doesn't hold both labels; one label is tested once. */
+static int is_outside(const char *interface, const struct label *low, const struct label *high) {
+    const struct range *found = find_range(interface);
+    if (!found) return 0;
+    if (!dominates(low, found->low) || !dominates(found->high, low)) return 1;
+    return low != high && (!dominates(high, found->low) || !dominates(found->high, high));
+}
+
+/* --- packets ------------------------------------------------------------------------------------------------------------ */
+
+struct packet { const uint8_t *octets; int header, total, place, length, second; };
+
+static unsigned u16_at(const uint8_t *s) { return s[0] << 8 | s[1]; }
+static uint32_t u32_at(const uint8_t *s) { return (uint32_t)u16_at(s) << 16 | u16_at(s + 2); }
+
+static unsigned sum_of(const uint8_t *s, int length) {
+    uint32_t sum = 0;
+    for (int i = 0; i < length; i += 2) sum += u16_at(s + i);
+    while (sum >> 16) sum = (sum & 0xffff) + (sum >> 16);
+    return sum;
+}
+
+static struct denial read_header(const uint8_t *s, int length, struct packet *packet) {
+    if (length == 0) return at_octet(HEADER, 0);
+    if (s[0] >> 4 != 4) return at_octet(HEADER, 0);
+    if (length < 20) return at_octet(HEADER, length);
+    int header = (s[0] & 15) * 4, total = u16_at(s + 2);
+    if (header < 20) return at_octet(HEADER, 0);
+    if (total < header || total > length) return at_octet(HEADER, 2);
+    if (sum_of(s, header) != 0xffff) return at_octet(HEADER, 10);
+    *packet = (struct packet){s, header, total, 0, 0, 0};
+    for (int at = 20; at < header;) {
+        int size = 1;
+        if (s[at] == 0) break;
+        if (s[at] != 1) {
+            if (at + 1 >= header) return at_octet(HEADER, header);
+            size = s[at + 1];
+            if (size < 2 || at + size > header) return at_octet(HEADER, at + 1);
+            if (s[at] == 134) {
+                if (!packet->place) packet->place = at, packet->length = size;
+                else if (!packet->second) packet->second = at;
+            }
+        }
+        at += size;
+    }
+    return because(NONE);
+}
+
+static void read_bitmap(const uint8_t *bitmap, int octets, struct label *label) {
+    for (int i = 0; i < octets; i++) {
+        for (unsigned bits = bitmap[i]; bits;) {
+            int bit = __builtin_clz(bits) - 24;
+            add_last(label, 8 * i + bit, 8 * i + bit);
+            bits &= ~(0x80u >> bit);
+        }
+    }
+}
+
+/* A number of two octets from low to high: -1, or the octet at fault. */
+static int number_at(const uint8_t *s, int at, int low, int high) {
+    int h = s[at], n = u16_at(s + at);
+    if (low > 256 * h + 255 || 256 * h > high) return at;
+    return low <= n && n <= high ? -1 : at + 1;
+}
+
+static int read_categories(const uint8_t *s, int at, int count, struct label *label) {
+    int low = 0;
+    for (int i = 1; i <= count; i++, at += 2) {
+        int fault = number_at(s, at, low, 65534 - (count - i));
+        if (fault >= 0) return fault;
+        add_last(label, u16_at(s + at), u16_at(s + at));
+        low = u16_at(s + at) + 1;
+    }
+    return -1;
+}
+
+static int read_ranges(const uint8_t *s, int at, int count, struct label *label) {
+    struct run down[7];
+    int upper = 65535, some = (count + 1) / 2;
+    for (int i = 0; i < some; i++, at += 4) {
+        int later = some - 1 - i, fault = number_at(s, at, later, upper - 1);
+        if (fault >= 0) return fault;
+        down[i].last = u16_at(s + at);
+        down[i].first = 0;
+        if (2 * i + 1 < count) {
+            fault = number_at(s, at + 2, later, down[i].last);
+            if (fault >= 0) return fault;
+            down[i].first = u16_at(s + at + 2);
+        }
+        upper = down[i].first;
+    }
+    while (some--) add_last(label, down[some].first, down[some].last);
+    return -1;
+}
+
+/* The label of an option: -1, or its octet at fault. */
+static int read_option(const uint8_t *s, int length, struct label *label, uint32_t *doi, int *tag) {
+    label->runs = 0;
+    if (length < 10 || length > 40) return 1;
+    *doi = u32_at(s + 2);
+    if (*doi == 0) return 5;
+    *tag = s[6];
+    int size = length - 10, even = size % 2 == 0;
+    if (!(*tag == 1 || (*tag == 2 && even) || (*tag == 5 && even && size <= 28))) return 6;
+    if (s[7] != length - 6) return 7;
+    if (s[8] != 0) return 8;
+    label->level = s[9];
+    if (*tag == 1) {
+        read_bitmap(s + 10, size, label);
+        return -1;
+    }
+    return *tag == 2 ? read_categories(s, 10, size / 2, label) : read_ranges(s, 10, size / 2, label);
+}
+
+/* --- the labels of a packet that comes in --------------------------------------------------------------------------------- */
+
+/* Two labels that are lent for each packet: in the numbers of the wire, and in the node's own. */
+struct room { struct label wire, local; };
+
+struct incoming { struct protocol carrier; const struct label *low; };
+
+static struct denial read_label_of(
+    const char *interface, const struct packet *packet, struct room *room, struct incoming *incoming) {
+    incoming->low = &room->local;
+    incoming->carrier = (struct protocol){0, 0};
+    if (!packet->place) {
+        if (!accepts) return because(UNLABELLED);
+        const struct statics *found = find_static(interface, u32_at(packet->octets + 12));
+        if (!found) return because(STATIC);
+        assign(&room->local, found->high);
+        incoming->low = found->low;
+        return because(NONE);
+    }
+    uint32_t doi;
+    int tag, listed = 0, fault = read_option(packet->octets + packet->place, packet->length, &room->wire, &doi, &tag);
+    if (fault >= 0) return at_octet(OPTION, packet->place + fault);
+    const struct definition *found = find_definition(doi);
+    if (!found) return at_octet(DOI, packet->place + 2);
+    for (int i = 0; i < found->tags; i++) listed |= found->tag[i] == tag;
+    if (!listed) return at_octet(TAG, packet->place + 6);
+    assign(&room->local, &room->wire);
+    incoming->carrier = (struct protocol){1, doi};
+    return because(NONE);
+}
+
+static struct denial read_packet(
+    const char *interface, const uint8_t *s, int length, struct packet *packet, struct room *room, struct incoming *incoming) {
+    struct denial denial = read_header(s, length, packet);
+    if (denial.why) return denial;
+    if (packet->second) return at_octet(OPTION, packet->second);
+    return read_label_of(interface, packet, room, incoming);
+}
+
+/* --- receiving ------------------------------------------------------------------------------------------------------------ */
+
+static struct denial receive(const char *interface, const uint8_t *s, int length, struct room *room, uint32_t *to) {
+    struct packet packet;
+    struct incoming incoming;
+    struct denial denial = read_packet(interface, s, length, &packet, room, &incoming);
+    if (denial.why) return denial;
+    if (is_outside(interface, incoming.low, &room->local)) return because(RANGE);
+    *to = u32_at(s + 16);
+    const struct receiver *found = find_receiver(*to);
+    if (!found) return because(RECEIVER);
+    const struct protocol *protocol = find_protocol(found->domain, u32_at(s + 12));
+    if (!protocol || protocol->is_cipso != incoming.carrier.is_cipso || protocol->doi != incoming.carrier.doi) return because(REFUSES);
+    if (!dominates(found->level, &room->local)) return because(DOMINATED);
+    if (!dominates(incoming.low, found->low)) return because(BELOW);
+    return because(NONE);
+}
+
+/* --- a packet written under a protocol ------------------------------------------------------------------------------------- */
+
+static int can_express(int tag, const struct label *label) {
+    int count = 0;
+    if (tag == 1) return !label->runs || label->run[label->runs - 1].last < 240;
+    if (tag == 5) return label->runs <= 7;
+    for (int i = 0; i < label->runs; i++) count += label->run[i].last - label->run[i].first + 1;
+    return count <= 15;
+}
+
+static int put_u16(uint8_t *s, unsigned n) {
+    s[0] = n >> 8;
+    s[1] = n;
+    return 2;
+}
+
+/* The option of a label in a tag that can express it, and its length. */
+static int write_option(uint32_t doi, int tag, const struct label *label, uint8_t *s) {
+    int length = 10;
+    s[0] = 134;
+    put_u16(s + 2, doi >> 16);
+    put_u16(s + 4, doi);
+    s[6] = tag;
+    s[8] = 0;
+    s[9] = label->level;
+    if (tag == 1 && label->runs) {
+        length += label->run[label->runs - 1].last / 8 + 1;
+        memset(s + 10, 0, length - 10);
+        for (int i = 0; i < label->runs; i++) {
+            for (int c = label->run[i].first; c <= label->run[i].last; c++) s[10 + c / 8] |= 0x80 >> c % 8;
+        }
+    }
+    for (int i = 0; tag == 2 && i < label->runs; i++) {
+        for (int c = label->run[i].first; c <= label->run[i].last; c++) length += put_u16(s + length, c);
+    }
+    for (int i = label->runs - 1; tag == 5 && i >= 0; i--) {
+        length += put_u16(s + length, label->run[i].last);
+        if (label->run[i].first) length += put_u16(s + length, label->run[i].first);
+    }
+    s[1] = length;
+    s[7] = length - 6;
+    return length;
+}
+
+/* A packet that was written, and what carries its label. */
+struct written { uint8_t octets[MOST_OCTETS]; int length; struct protocol carrier; };
+
+/* The packet with this label under a protocol: its option first, then the old options but padding and labels. */
+static struct denial write_under(
+    const struct protocol *protocol, const struct packet *packet, const struct label *label, struct label *wire, int hops,
+    struct written *out) {
+    const uint8_t *s = packet->octets;
+    uint8_t option[40];
+    int size = 0, tag = 0;
+    if (protocol->is_cipso) {
+        const struct definition *found = find_definition(protocol->doi);
+        if (!found) return because(EXPRESS);
+        assign(wire, label);
+        for (int i = 0; i < found->tags && !tag; i++) {
+            if (can_express(found->tag[i], wire)) tag = found->tag[i];
+        }
+        if (!tag) return because(EXPRESS);
+        size = write_option(protocol->doi, tag, wire, option);
+    }
+    int kept = size;
+    for (int at = 20; at < packet->header && s[at] != 0; at += s[at] == 1 ? 1 : s[at + 1]) {
+        if (s[at] != 1 && s[at] != 134) kept += s[at + 1];
+    }
+    if (kept > 40) return because(ROOM);
+    int header = 20 + (kept + 3) / 4 * 4, payload = packet->total - packet->header, end = 20 + size;
+    if (payload > 65535 - header) return because(LONG);
+    uint8_t *to = out->octets;
+    memcpy(to, s, 20);
+    to[0] = 64 + header / 4;
+    put_u16(to + 2, header + payload);
+    to[8] = hops;
+    put_u16(to + 10, 0);
+    memcpy(to + 20, option, size);
+    for (int at = 20; at < packet->header && s[at] != 0; at += s[at] == 1 ? 1 : s[at + 1]) {
+        if (s[at] == 1 || s[at] == 134) continue;
+        memcpy(to + end, s + at, s[at + 1]);
+        end += s[at + 1];
+    }
+    memset(to + end, 0, header - end);
+    put_u16(to + 10, 0xffff - sum_of(to, header));
+    memcpy(to + header, s + packet->header, payload);
+    out->length = header + payload;
+    out->carrier = *protocol;
+    return because(NONE);
+}
+
+/* --- forwarding and sending ----------------------------------------------------------------------------------------------- */
+
+static struct denial forward(
+    const char *from, const char *to, const char *name, const uint8_t *s, int length, struct room *room, struct written *out) {
+    struct packet packet;
+    struct incoming incoming;
+    struct denial denial = read_packet(from, s, length, &packet, room, &incoming);
+    if (denial.why) return denial;
+    if (is_outside(from, incoming.low, &room->local)) return because(RANGE);
+    if (s[8] <= 1) return because(EXPIRED);
+    if (is_outside(to, incoming.low, &room->local)) return because(RANGE);
+    const struct protocol *protocol = find_protocol(name, u32_at(s + 16));
+    if (!protocol) return because(MAP);
+    return write_under(protocol, &packet, &room->local, &room->wire, s[8] - 1, out);
+}
+
+static struct denial send(
+    const char *name, const char *interface, const struct label *label, const uint8_t *s, int length, struct label *wire,
+    struct written *out) {
+    struct packet packet;
+    struct denial denial = read_header(s, length, &packet);
+    if (denial.why) return denial;
+    if (packet.place) return at_octet(LABELLED, packet.place);
+    if (is_outside(interface, label, label)) return because(RANGE);
+    const struct protocol *protocol = find_protocol(name, u32_at(s + 16));
+    if (!protocol) return because(MAP);
+    return write_under(protocol, &packet, label, wire, s[8], out);
+}
+
+/* --- commands that set the tables ------------------------------------------------------------------------------------------ */
+
+static void wrong(const char *what) {
+    fprintf(stderr, "not understood: %s\n", what);
+    exit(2);
+}
+
+/* A label as text, its categories ascending. */
+static struct label *read_label(const char *text) {
+    struct label *label = calloc(1, sizeof *label);
+    char *end;
+    if (!label || *text != 's') wrong(text);
+    label->level = strtoul(text + 1, &end, 10);
+    while (*end == ':' || *end == ',') {
+        unsigned first = strtoul(end + 2, &end, 10), last = first;
+        if (*end == '.') last = strtoul(end + 2, &end, 10);
+        add_last(label, first, last);
+    }
+    return label;
+}
+
+static void read_both(char *text, struct label **low, struct label **high) {
+    char *dash = strchr(text, '-');
+    if (dash) *dash = 0;
+    *low = read_label(text);
+    *high = read_label(dash ? dash + 1 : text);
+}
+
+static uint32_t read_prefix(const char *text, uint32_t *mask) {
+    unsigned a, b, c, d, bits = 32;
+    if (sscanf(text, "%u.%u.%u.%u/%u", &a, &b, &c, &d, &bits) < 4) wrong(text);
+    *mask = bits ? 0xffffffffu << (32 - bits) : 0;
+    return (a << 24 | b << 16 | c << 8 | d) & *mask;
+}
+
+static struct protocol read_protocol(const char *text) {
+    struct protocol protocol = {0, 0};
+    if (sscanf(text, "cipsov4,%u", &protocol.doi) == 1) protocol.is_cipso = 1;
+    else if (strcmp(text, "unlbl") != 0) wrong(text);
+    return protocol;
+}
+
+static void add_prefix(struct domain *entry, const char *address, struct protocol protocol) {
+    struct prefix prefix;
+    int at = entry->prefixes++;
+    prefix.address = read_prefix(address, &prefix.mask);
+    prefix.protocol = protocol;
+    for (; at > 0 && entry->prefix[at - 1].mask < prefix.mask; at--) entry->prefix[at] = entry->prefix[at - 1];
+    entry->prefix[at] = prefix;
+}
+
+static void add_map(const char *name, const char *address, const char *protocol) {
+    struct domain *entry = NULL;
+    for (int i = 0; i < domains; i++) {
+        if (strcmp(domain[i].name, name) == 0) entry = &domain[i];
+    }
+    if (!entry) {
+        entry = &domain[domains++];
+        strcpy(entry->name, name);
+    }
+    if (*address) add_prefix(entry, address, read_protocol(protocol));
+    else entry->plain = read_protocol(protocol);
+}
+
+static void obey(const char *line) {
+    char a[64], b[64], c[999];
+    uint32_t doi, mask;
+    if (sscanf(line, "cipsov4 add pass doi:%u tags:%63s", &doi, a) == 2) {
+        struct definition *entry = &definition[definitions++];
+        entry->doi = doi;
+        for (char *tag = strtok(a, ","); tag; tag = strtok(NULL, ",")) entry->tag[entry->tags++] = atoi(tag);
+    } else if (sscanf(line, "map add domain:%63s address:%63s protocol:%63s", a, b, c) == 3) add_map(a, b, c);
+    else if (sscanf(line, "map add domain:%63s protocol:%63s", a, c) == 2) add_map(a, "", c);
+    else if (sscanf(line, "map add default protocol:%63s", c) == 1) add_map("", "", c);
+    else if (strcmp(line, "unlbl accept on\n") == 0) accepts = 1;
+    else if (sscanf(line, "unlbl add interface:%63s address:%63s label:%998s", a, b, c) == 3) {
+        struct statics *entry = &statics[static_entries++];
+        strcpy(entry->interface, a);
+        entry->address = read_prefix(b, &entry->mask);
+        read_both(c, &entry->low, &entry->high);
+    } else if (sscanf(line, "receiver add address:%63s domain:%63s level:%998s", b, a, c) == 3) {
+        struct receiver *entry = &receiver[receivers++];
+        strcpy(entry->domain, a);
+        entry->address = read_prefix(b, &mask);
+        if (strchr(c, '-')) read_both(c, &entry->low, &entry->level);
+        else entry->low = read_label("s0"), entry->level = read_label(c);
+    } else if (sscanf(line, "range add interface:%63s range:%998s", a, c) == 2) {
+        struct range *entry = &range[ranges++];
+        strcpy(entry->interface, a);
+        read_both(c, &entry->low, &entry->high);
+    } else wrong(line);
+}
+
+/* --- what came of a packet -------------------------------------------------------------------------------------------------- */
+
+static struct room room;
+static struct label *label;
+static struct written out;
+static uint32_t to;
+
+static struct denial judge(int what, const uint8_t *s, int size) {
+    if (what == 'r') return receive("eth0", s, size, &room, &to);
+    if (what == 'f') return forward("eth0", "eth1", "gate_t", s, size, &room, &out);
+    return send("web_t", "eth1", label, s, size, &room.wire, &out);
+}
+
+static void show_label(const struct label *label) {
+    printf("Label { level: %d, cats: CatSet { runs: [", label->level);
+    for (int i = 0; i < label->runs; i++) printf("%sRun { first: %d, last: %d }", i ? ", " : "", label->run[i].first, label->run[i].last);
+    printf("] } }");
+}
+
+static void show_carrier(void) {
+    if (out.carrier.is_cipso) printf("Cipso { doi: %u } ", out.carrier.doi);
+    else printf("Unlabelled ");
+}
+
+static void show(int what, struct denial denial) {
+    if (denial.why) {
+        printf("Denied(%s", names[denial.why]);
+        printf(denial.octet < 0 ? ")\n" : " { octet: %d })\n", denial.octet);
+        return;
+    }
+    if (what == 'r') printf("V4([%d, %d, %d, %d]) ", to >> 24, to >> 16 & 255, to >> 8 & 255, to & 255);
+    else show_carrier();
+    if (what != 's') show_label(&room.local);
+    if (what == 'f') printf(" ");
+    for (int i = 0; what != 'r' && i < out.length; i++) printf("%s%d", i ? ", " : "[", out.octets[i]);
+    printf(what == 'r' ? "\n" : "]\n");
+}
+
+static uint64_t judge_all(int what, const uint8_t *octets, int length, int size, unsigned long rounds) {
+    uint64_t sum = 0;
+    for (unsigned long n = 0; n < rounds; n++) {
+        for (int at = 0; at + size <= length; at += size) {
+            if (judge(what, octets + at, size).why) continue;
+            sum += what == 'r' ? room.local.level : out.length;
+        }
+    }
+    return sum;
+}
+
+/* judging WHAT LABEL COMMANDS PACKETS SIZE ROUNDS; with 0 rounds it prints what comes of each packet. */
+int main(int argc, char **argv) {
+    static uint8_t octets[1 << 22];
+    char line[1100];
+    struct timespec start, end;
+    if (argc != 7) return 2;
+    FILE *commands = fopen(argv[3], "r"), *packets = fopen(argv[4], "rb");
+    if (!commands || !packets) return 3;
+    label = read_label(argv[2]);
+    while (fgets(line, sizeof line, commands)) obey(line);
+    int what = *argv[1], length = fread(octets, 1, sizeof octets, packets), size = atoi(argv[5]);
+    unsigned long rounds = strtoul(argv[6], NULL, 10);
+    for (int at = 0; !rounds && at + size <= length; at += size) show(what, judge(what, octets + at, size));
+    if (!rounds) return 0;
+    clock_gettime(CLOCK_MONOTONIC, &start);
+    uint64_t sum = judge_all(what, octets, length, size, rounds);
+    clock_gettime(CLOCK_MONOTONIC, &end);
+    printf("%lld %llu\n", (end.tv_sec - start.tv_sec) * 1000000000LL + end.tv_nsec - start.tv_nsec, (unsigned long long)sum);
+    return 0;
+}
