@@ -1,0 +1,6 @@
+pub mod Works
+pub mod Handing
+pub mod Batches
+pub mod Schedules
+pub mod Lawful
+pub mod Law

@@ -1,0 +1,77 @@
+-- Some order of the publisher's steps and the workers' looks, and the versions that it gives.
+use Rattle.std.specs.Prelude.{◌≡◌, ℕ, suc, zero, ◌+◌, ◌<◌, ◌≤◌, List, [], ◌∷◌, ◌++◌, length, map, nat_eq, cond, replicate}
+use Rattle.flow_lines.specs.declared.hop.Hop.{Hop}
+use Rattle.shared_tables.specs.Plan.{PlanState}
+use Rattle.packet_walk.specs.declared.packet.PacketIn.{PacketIn}
+use Rattle.packet_walk.specs.declared.walked.End.{End}
+use Rattle.packet_walk.specs.Walk.{IsWalkOf, Rises}
+use Rattle.label_flow.specs.Pair.{PairState}
+use Rattle.label_flow.specs.Round.{pick}
+
+-- the next step is published, or a worker looks for the next hop of its packet
+pub data FlowEvent : Type 0 where
+  step : FlowEvent
+  look : ℕ → FlowEvent
+
+-- the versions that worker k finds, from version v on
+abbrev pub looks_of : ℕ → ℕ → List FlowEvent → List ℕ
+looks_of k v [] = []
+looks_of k v (step ∷ events) = looks_of k (v + 1) events
+looks_of k v (look worker ∷ events) = cond (nat_eq worker k) (v ∷ looks_of k v events) (looks_of k v events)
+
+abbrev pub steps_in : List FlowEvent → ℕ
+steps_in [] = 0
+steps_in (step ∷ events) = suc (steps_in events)
+steps_in (look worker ∷ events) = steps_in events
+
+-- under these versions a packet's hops judged it, up to its walk's end
+abbrev pub IsSeen : PlanState → List Hop → PacketIn → List ℕ → Type 0
+IsSeen plan hops packet versions = (end : End) × (out : List ℕ) × IsWalkOf plan hops packet versions end out
+
+abbrev pub AreSeen : PlanState → List Hop → List PacketIn → List (List ℕ) → Type 0
+AreSeen plan hops [] [] = Unit {0}
+AreSeen plan hops (packet ∷ packets) (versions ∷ seen) = IsSeen plan hops packet versions × AreSeen plan hops packets seen
+AreSeen plan hops packets seen = ⊥
+
+abbrev pub in_a_row : List (List ℕ) → List ℕ
+in_a_row [] = []
+in_a_row (versions ∷ seen) = versions ++ in_a_row seen
+
+-- A flow's packets and the versions of their hops, with w workers from version `before` to version `after`: each packet has as many
+-- versions as its walk under them judges hops, and along a worker's packets none falls.
+pub record AreLawful (plan : PlanState) (hops : List Hop) (w before after : ℕ) (packets : List PacketIn) (seen : List (List ℕ)) : Type 0 where
+  pub count : length seen ≡ length packets
+  pub walks : (k : ℕ) → k < w → AreSeen plan hops (pick k w 0 packets) (pick k w 0 seen)
+  pub rises : (k : ℕ) → k < w → Rises before after (in_a_row (pick k w 0 seen))
+
+-- A schedule gives these versions: it has as many steps as lead from `before` to `after`, and each worker has exactly the looks that its
+-- packets need.
+pub record IsPlay (plan : PlanState) (hops : List Hop) (w before after : ℕ) (packets : List PacketIn) (events : List FlowEvent) (seen : List (List ℕ)) : Type 0 where
+  pub count : length seen ≡ length packets
+  pub walks : (k : ℕ) → k < w → AreSeen plan hops (pick k w 0 packets) (pick k w 0 seen)
+  pub steps : before + steps_in events ≡ after
+  pub looks : (k : ℕ) → k < w → looks_of k before events ≡ in_a_row (pick k w 0 seen)
+  pub others : (k : ℕ) → w ≤ k → looks_of k before events ≡ []
+
+-- how often a version stands in a list
+abbrev pub times : ℕ → List ℕ → ℕ
+times v [] = 0
+times v (x ∷ xs) = cond (nat_eq x v) (suc (times v xs)) (times v xs)
+
+-- the looks of the first workers at version v, where `rows` has the versions of each
+abbrev pub looks_at : (ℕ → List ℕ) → ℕ → ℕ → List FlowEvent
+looks_at rows zero v = []
+looks_at rows (suc k) v = looks_at rows k v ++ replicate (times v (rows k)) (look k)
+
+-- all looks in the order of their versions, with so many steps from version v on
+abbrev pub by_version : (ℕ → List ℕ) → ℕ → ℕ → ℕ → List FlowEvent
+by_version rows w v zero = looks_at rows w v
+by_version rows w v (suc steps) = looks_at rows w v ++ step ∷ by_version rows w (v + 1) steps
+
+-- the versions of each worker's packets, in a row
+abbrev pub rows_by : ℕ → List (List ℕ) → ℕ → List ℕ
+rows_by w seen k = in_a_row (pick k w 0 seen)
+
+-- the versions of what became of packets
+abbrev pub versions_in : List PairState → List (List ℕ)
+versions_in pairs = map (λ pair. pair.walked.versions) pairs

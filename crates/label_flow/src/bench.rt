@@ -1,0 +1,129 @@
+//! What a worker owns.
+
+ghost use Rattle.std.specs.Prelude.{◌≡◌, ◌+◌, ◌<◌, ◌≤◌, [], ◌∷◌, ◌++◌, length, take, slice_get, All, Some, OnOk};
+ghost use Rattle.flow_lines.specs.Hop.{node_of};
+ghost use Rattle.packet_walk.specs.Walk.{IsWalked};
+ghost use Rattle.label_flow.specs.Pair.{PairState};
+ghost use Rattle.label_flow.specs.Round.{IsLater};
+
+use crate::pair::PairSlot;
+use flow_lines::FlowLine;
+use mls_label::OutOfMemory;
+use packet_walk::{Gate, PacketIn, WalkRoom};
+use shared_tables::Viewer;
+use std::alloc::Global;
+use std::marker::Model;
+
+/// What a worker needs for its walks, and what it made of the packets of a batch: the places are filled again for the next batch.
+/// Contracts see it as the list of what it made.
+#[derive(Drop)]
+pub struct Bench {
+    room: WalkRoom,
+    places: Vec<PairSlot>,
+    filled: usize,
+}
+
+impl Model for Bench {
+    ghost use Rattle.std.specs.Prelude.{List, ◌≤◌, length, take};
+    ghost use Rattle.label_flow.specs.Pair.{PairState};
+
+    ghost Value = { List PairState };
+
+    ghost view = { λ bench. take bench.filled bench.places.items };
+
+    ghost invariant = { λ bench. bench.filled ≤ length bench.places.items };
+}
+
+impl Bench {
+    /// Takes no memory.
+    pub fn new(alloc: Global) -> Bench
+        ensures { result ≡ [] }
+    {
+        Bench {
+            room: WalkRoom::new(alloc),
+            places: Vec::new(alloc),
+            filled: 0,
+        }
+    }
+
+    /// Forgets what was made.
+    pub fn clear(&mut self)
+        ensures { self.new ≡ [] }
+    {
+        self.filled = 0;
+    }
+
+    /// What was made of a packet.
+    pub fn get(&self, i: usize) -> &PairSlot
+        requires { i < length self.now }
+        ensures { slice_get self.now i ≡ Some result.now }
+    {
+        &self.places[i]
+    }
+
+    /// Walks a packet, and keeps what became of it behind the others.
+    pub fn walk<G: Gate>(
+        &mut self,
+        viewer: &mut Viewer,
+        flow: &FlowLine,
+        worker: u32,
+        number: u64,
+        packet: &PacketIn,
+        gate: &G,
+    ) -> Result<(), OutOfMemory>
+        requires nodes { All (λ hop. node_of hop < viewer.old.plan.nodes) flow.now.hops }
+        ensures later { IsLater viewer.old viewer.new }
+        ensures ok { OnOk result ((pair : PairState) × (self.new ≡ self.old ++ pair ∷ []) × IsWalked viewer.old.plan flow.now.hops viewer.old.seen viewer.new.seen packet.now pair.walked pair.octets) }
+    {
+        let filled = self.filled;
+        walk_into_place(
+            &mut self.places,
+            filled,
+            viewer,
+            flow,
+            worker,
+            number,
+            packet,
+            &mut self.room,
+            gate,
+        )?;
+        self.filled = filled + 1;
+        Ok(())
+    }
+}
+
+// A packet in the place behind those that are filled, which is made where there is none.
+fn walk_into_place<G: Gate>(
+    places: &mut Vec<PairSlot>,
+    filled: usize,
+    viewer: &mut Viewer,
+    flow: &FlowLine,
+    worker: u32,
+    number: u64,
+    packet: &PacketIn,
+    room: &mut WalkRoom,
+    gate: &G,
+) -> Result<(), OutOfMemory>
+    requires filled { filled ≤ length places.old.items }
+    requires nodes { All (λ hop. node_of hop < viewer.old.plan.nodes) flow.now.hops }
+    ensures later { IsLater viewer.old viewer.new }
+    ensures long { length places.old.items ≤ length places.new.items }
+    ensures more { OnOk result (filled < length places.new.items) }
+    ensures ok { OnOk result ((pair : PairState) × (take (filled + 1) places.new.items ≡ take filled places.old.items ++ pair ∷ []) × IsWalked viewer.old.plan flow.now.hops viewer.old.seen viewer.new.seen packet.now pair.walked pair.octets) }
+{
+    make_place(places, filled)?;
+    places[filled].walk(viewer, flow, worker, number, packet, room, gate)
+}
+
+fn make_place(places: &mut Vec<PairSlot>, filled: usize) -> Result<(), OutOfMemory>
+    requires { filled ≤ length places.old.items }
+    ensures long { length places.old.items ≤ length places.new.items }
+    ensures ok { OnOk result (filled < length places.new.items) }
+    ensures same { take filled places.new.items ≡ take filled places.old.items }
+{
+    if filled < places.len() {
+        return Ok(());
+    }
+    let alloc = *places.allocator();
+    places.push(PairSlot::new(alloc)).map_err(|_| OutOfMemory)
+}

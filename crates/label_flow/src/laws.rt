@@ -1,0 +1,31 @@
+//! What the definitions are worth, whatever the code does.
+
+ghost use Rattle.std.specs.Prelude.{◌≡◌, ℕ, ◌+◌, ◌≤◌, List, All, length};
+ghost use Rattle.flow_lines.specs.declared.hop.Hop.{Hop};
+ghost use Rattle.shared_tables.specs.Plan.{PlanState};
+ghost use Rattle.shared_tables.specs.Board.{ViewerState};
+ghost use Rattle.packet_walk.specs.declared.packet.PacketIn.{PacketIn};
+ghost use Rattle.label_flow.specs.Pair.{PairState};
+ghost use Rattle.label_flow.specs.Round.{IsRound};
+ghost use Rattle.label_flow.specs.Schedule.{FlowEvent, AreLawful, IsPlay, by_version, rows_by, versions_in};
+
+/// What a complete schedule gives is lawful: versions don't fall along a worker's packets.
+pub fn plays_are_lawful()
+    ensures { (plan : PlanState) (hops : List Hop) (w before after : ℕ) (packets : List PacketIn) (events : List FlowEvent)
+        (seen : List (List ℕ)) → IsPlay plan hops w before after packets events seen → AreLawful plan hops w before after packets seen }
+{}
+
+/// Lawful versions are what the complete schedule gives that orders its looks by version.
+pub fn lawful_versions_are_played()
+    ensures { (plan : PlanState) (hops : List Hop) (w before steps : ℕ) (packets : List PacketIn) (seen : List (List ℕ))
+        → AreLawful plan hops w before (before + steps) packets seen
+        → IsPlay plan hops w before (before + steps) packets (by_version (rows_by w seen) w before steps) seen }
+{}
+
+/// The versions of a round are lawful, from the one that all viewers had seen before it to the plan's last.
+pub fn rounds_are_lawful()
+    ensures { (plan : PlanState) (hops : List Hop) (before : ℕ) (packets : List PacketIn) (pairs : List PairState) (olds news : List ViewerState)
+        → before ≤ length plan.steps → All (λ (v : ViewerState). (v.plan ≡ plan) × (v.seen ≡ before)) olds
+        → IsRound hops 0 packets pairs olds news
+        → AreLawful plan hops (length olds) before (length plan.steps) packets (versions_in pairs) }
+{}

@@ -1,0 +1,18 @@
+//! A round of packets of a flow beside the steps of a plan. One side of a join publishes the steps; the other judges the packets that a
+//! feed gives, with a worker for each viewer. Packet n, counted from 1, goes to worker (n - 1) mod workers, which takes its packets one
+//! after the other. What became of them goes back to the feed in their order.
+#![tactic(auto)]
+
+mod bench;
+mod feed;
+pub mod laws;
+mod pair;
+mod rounds;
+mod work;
+
+pub use feed::Feed;
+pub use packet_walk::{End, Gate, Octets, OpenGate, PacketIn, Versions, Walked, walk};
+pub use rounds::{RoundStop, round};
+
+#[cfg(test)]
+mod tests;

@@ -1,0 +1,314 @@
+//! A round: the steps beside the packets, and the workers beside each other.
+
+ghost use Rattle.std.specs.Prelude.{◌≡◌, ℕ, take, ◌+◌, ◌<◌, ◌≤◌, ◌^◌, List, [], ◌∷◌, ◌++◌, length, All, IfOk, IfErr, OnOk, None, true, false};
+ghost use Rattle.flow_lines.specs.Hop.{node_of};
+ghost use Rattle.packet_walk.specs.declared.packet.PacketIn.{PacketIn};
+ghost use Rattle.label_flow.specs.Pair.{PairState};
+ghost use Rattle.label_flow.specs.Feed.{AreFetched, IsOver, AreBegun, AreWhole};
+ghost use Rattle.label_flow.specs.Round.{AreReplies, AreLater, IsRound};
+ghost use Rattle.label_flow.specs.Stops.{IsStop};
+ghost use Rattle.label_flow.specs.inside.Work.{AreFirst, HasRoom, AllFit, HasNodes, zeros};
+
+use crate::bench::Bench;
+use crate::feed::Feed;
+use crate::work::{Turn, spread};
+use flow_lines::FlowLine;
+use mls_label::OutOfMemory;
+use node_tables::Reply;
+use packet_walk::{Gate, PacketIn, ShownWalks};
+use shared_tables::{Publisher, Viewer};
+use std::alloc::Global;
+use std::sync::Wait;
+use std::thread::{Threads, join_mut};
+
+/// Why a round stopped.
+#[derive(Drop)]
+pub enum RoundStop<E> {
+    Feed(E),
+    OutOfMemory,
+}
+
+// The steps up to a version, with their replies.
+fn step_to<G: Gate, R: Wait>(
+    rt: &R,
+    alloc: Global,
+    upto: u32,
+    gate: &G,
+    publisher: &mut Publisher,
+) -> Result<Vec<Reply>, OutOfMemory>
+    requires { upto ≡ length publisher.old.plan.steps }
+    ensures kept { (publisher.new.board ≡ publisher.old.board) × (publisher.new.plan ≡ publisher.old.plan) }
+    ensures between { (publisher.old.version ≤ publisher.new.version) × (publisher.new.version ≤ upto) }
+    ensures ok { IfOk result (λ rs. (publisher.new.version ≡ upto) × (publisher.old.version + length rs.items ≡ upto) × AreReplies publisher.old.plan publisher.old.version rs.items) }
+{
+    let _from = publisher.version();
+    let mut replies = Vec::new(alloc);
+    while publisher.version() < upto {
+        if replies.reserve(1).is_err() {
+            return Err(OutOfMemory);
+        }
+        let next = publisher.version() + 1;
+        gate.before_step(next);
+        let reply = publisher.step(rt)?;
+        gate.after_step(next);
+        replies.push_reserved(reply);
+    }
+    Ok(replies)
+}
+
+// Hands what the workers made to the feed, in the order of the packets.
+fn hand_over<Q: Feed>(
+    alloc: Global,
+    base: u64,
+    batch: &[PacketIn],
+    done: &[Bench],
+    feed: &mut Q,
+) -> Result<(), RoundStop<Q::Stop>>
+    requires some { 0 < length done.now }
+    requires numbers { base + length batch.now < 2 ^ 63 }
+    requires ready { Q.ready feed.old }
+    requires due { Q.due feed.old ≡ length batch.now }
+    requires room { HasRoom (length done.now) base batch.now done.now }
+    requires fits { AllFit (Q.hops feed.old) done.now }
+    ensures hops { Q.hops feed.new ≡ Q.hops feed.old }
+    ensures left { Q.left feed.new ≡ Q.left feed.old }
+    ensures ok { OnOk result ((Q.due feed.new ≡ 0) × (Q.stop feed.new ≡ Q.stop feed.old)) }
+    ensures err { IfErr result (λ e. IsStop e (Q.stop feed.old) (Q.stop feed.new)) }
+    ensures ready { Q.ready feed.new }
+    ensures took { (was : Q) (h : List PairState) → Q.took was feed.old h → (rs : List PairState) × AreFirst (length done.now) base done.now rs × (length rs ≤ length batch.now) × Q.took was feed.new (h ++ rs) × OnOk result (length rs ≡ length batch.now) }
+{
+    let Ok(mut places) = no_places(alloc, done.len()) else {
+        return Err(RoundStop::OutOfMemory);
+    };
+    let places = places.as_mut_slice();
+    let mut shown = ShownWalks::new();
+    let mut at = 0;
+    while at < batch.len() {
+        let worker = ((base + at as u64) % done.len() as u64) as usize;
+        let place = places[worker];
+        let judged = done[worker].get(place);
+        let walked = shown.show(judged.walked());
+        if let Err(stop) = feed.accept(walked, judged.octets()) {
+            return Err(RoundStop::Feed(stop));
+        }
+        places[worker] = place + 1;
+        at += 1;
+    }
+    Ok(())
+}
+
+// A place for each worker, at its first pair.
+fn no_places(alloc: Global, workers: usize) -> Result<Vec<usize>, OutOfMemory>
+    ensures { IfOk result (λ places. places.items ≡ zeros workers) }
+{
+    Vec::from_elem(alloc, 0usize, workers).map_err(|_| OutOfMemory)
+}
+
+// Judges a batch that was fetched, with a worker for each viewer, and hands it over.
+fn judge_batch<Q: Feed, G: Gate + Sync, R: Threads + Sync>(
+    rt: &R,
+    alloc: Global,
+    flow: &FlowLine,
+    gate: &G,
+    base: u64,
+    batch: &[PacketIn],
+    feed: &mut Q,
+    viewers: &mut [Viewer],
+    benches: &mut [Bench],
+) -> Result<(), RoundStop<Q::Stop>>
+    requires benches { length benches.old ≡ length viewers.old }
+    requires viewers { (0 < length viewers.old) × (length viewers.old ≤ 16) }
+    requires nodes { All (HasNodes flow.now.hops) viewers.old }
+    requires numbers { base + length batch.now < 2 ^ 63 }
+    requires ready { Q.ready feed.old }
+    requires due { Q.due feed.old ≡ length batch.now }
+    requires short { All (λ p. length p.bytes ≤ 262144) batch.now }
+    requires hops { Q.hops feed.old ≡ length flow.now.hops }
+    ensures benches { length benches.new ≡ length benches.old }
+    ensures later { AreLater viewers.old viewers.new }
+    ensures hops { Q.hops feed.new ≡ Q.hops feed.old }
+    ensures left { Q.left feed.new ≡ Q.left feed.old }
+    ensures ok { OnOk result ((Q.due feed.new ≡ 0) × (Q.stop feed.new ≡ Q.stop feed.old)) }
+    ensures err { IfErr result (λ e. IsStop e (Q.stop feed.old) (Q.stop feed.new)) }
+    ensures ready { Q.ready feed.new }
+    ensures took { (was : Q) (h : List PairState) → Q.took was feed.old h → (m : ℕ) × (pairs : List PairState) × IsRound flow.now.hops base (take m batch.now) pairs viewers.old viewers.new × Q.took was feed.new (h ++ pairs) × OnOk result (m ≡ length batch.now) }
+{
+    let turn = Turn {
+        worker: 0,
+        workers: viewers.len() as u32,
+        base,
+    };
+    let Ok(()) = spread(rt, flow, gate, turn, batch, viewers, benches) else {
+        return Err(RoundStop::OutOfMemory);
+    };
+    hand_over(alloc, base, batch, benches, feed)
+}
+
+// One batch: true if there was one.
+fn batch_round<Q: Feed, G: Gate + Sync, R: Threads + Sync>(
+    rt: &R,
+    alloc: Global,
+    flow: &FlowLine,
+    gate: &G,
+    base: u64,
+    batch: &mut Vec<PacketIn>,
+    feed: &mut Q,
+    viewers: &mut [Viewer],
+    benches: &mut [Bench],
+) -> Result<bool, RoundStop<Q::Stop>>
+    requires benches { length benches.old ≡ length viewers.old }
+    requires viewers { (0 < length viewers.old) × (length viewers.old ≤ 16) }
+    requires nodes { All (HasNodes flow.now.hops) viewers.old }
+    requires numbers { base < 2 ^ 62 }
+    requires ready { Q.ready feed.old }
+    requires due { Q.due feed.old ≡ 0 }
+    requires hops { Q.hops feed.old ≡ length flow.now.hops }
+    ensures benches { length benches.new ≡ length benches.old }
+    ensures later { AreLater viewers.old viewers.new }
+    ensures hops { Q.hops feed.new ≡ Q.hops feed.old }
+    ensures ok { OnOk result ((Q.due feed.new ≡ 0) × (Q.stop feed.new ≡ Q.stop feed.old) × (length batch.new.items ≤ 1024) × AreFetched (Q.left feed.old) batch.new.items (Q.left feed.new)) }
+    ensures none { IfOk result (λ more. more ≡ false → (batch.new.items ≡ []) × IsOver (Q.left feed.new) × (Q.ended feed.new ≡ true)) }
+    ensures err { IfErr result (λ e. IsStop e (Q.stop feed.old) (Q.stop feed.new)) }
+    ensures ready { Q.ready feed.new }
+    ensures took { (was : Q) (h : List PairState) → Q.took was feed.old h → (packets : List PacketIn) × (pairs : List PairState) × IsRound flow.now.hops base packets pairs viewers.old viewers.new × AreBegun (Q.left feed.old) packets × Q.took was feed.new (h ++ pairs) × OnOk result (packets ≡ batch.new.items) }
+{
+    match feed.fetch(batch) {
+        Ok(true) => {
+            match judge_batch(
+                rt,
+                alloc,
+                flow,
+                gate,
+                base,
+                batch.as_slice(),
+                feed,
+                viewers,
+                benches,
+            ) {
+                Ok(()) => Ok(true),
+                Err(stop) => Err(stop),
+            }
+        }
+        Ok(false) => Ok(false),
+        Err(stop) => Err(RoundStop::Feed(stop)),
+    }
+}
+
+const MOST: u64 = 1 << 62;
+
+// All batches, with these benches.
+fn each_batch<Q: Feed, G: Gate + Sync, R: Threads + Wait + Sync>(
+    rt: &R,
+    alloc: Global,
+    flow: &FlowLine,
+    gate: &G,
+    feed: &mut Q,
+    viewers: &mut [Viewer],
+    benches: &mut [Bench],
+) -> Result<(), RoundStop<Q::Stop>>
+    requires benches { length benches.old ≡ length viewers.old }
+    requires viewers { (0 < length viewers.old) × (length viewers.old ≤ 16) }
+    requires nodes { All (HasNodes flow.now.hops) viewers.old }
+    requires ready { Q.ready feed.old }
+    requires due { Q.due feed.old ≡ 0 }
+    requires hops { Q.hops feed.old ≡ length flow.now.hops }
+    ensures later { AreLater viewers.old viewers.new }
+    ensures ok { OnOk result ((Q.due feed.new ≡ 0) × (Q.stop feed.new ≡ Q.stop feed.old) × IsOver (Q.left feed.new) × (Q.ended feed.new ≡ true)) }
+    ensures err { IfErr result (λ e. IsStop e (Q.stop feed.old) (Q.stop feed.new)) }
+    ensures ready { Q.ready feed.new }
+    ensures took { (was : Q) (h : List PairState) → Q.took was feed.old h → (packets : List PacketIn) × (pairs : List PairState) × IsRound flow.now.hops 0 packets pairs viewers.old viewers.new × AreBegun (Q.left feed.old) packets × Q.took was feed.new (h ++ pairs) × OnOk result (AreWhole (Q.left feed.old) packets) }
+{
+    let mut batch = Vec::new(alloc);
+    let mut base = 0u64;
+    for _ in rt.forever() {
+        if base >= MOST {
+            return Err(RoundStop::OutOfMemory);
+        }
+        match batch_round(
+            rt, alloc, flow, gate, base, &mut batch, feed, viewers, benches,
+        ) {
+            Ok(true) => base += batch.len() as u64,
+            Ok(false) => return Ok(()),
+            Err(stop) => return Err(stop),
+        }
+    }
+    unreachable!()
+}
+
+// All batches.
+fn all_batches<Q: Feed, G: Gate + Sync, R: Threads + Wait + Sync>(
+    rt: &R,
+    alloc: Global,
+    flow: &FlowLine,
+    gate: &G,
+    feed: &mut Q,
+    viewers: &mut [Viewer],
+) -> Result<(), RoundStop<Q::Stop>>
+    requires viewers { (0 < length viewers.old) × (length viewers.old ≤ 16) }
+    requires nodes { All (HasNodes flow.now.hops) viewers.old }
+    requires ready { Q.ready feed.old }
+    requires due { Q.due feed.old ≡ 0 }
+    requires hops { Q.hops feed.old ≡ length flow.now.hops }
+    ensures later { AreLater viewers.old viewers.new }
+    ensures ok { OnOk result ((Q.due feed.new ≡ 0) × (Q.stop feed.new ≡ Q.stop feed.old) × IsOver (Q.left feed.new) × (Q.ended feed.new ≡ true)) }
+    ensures err { IfErr result (λ e. IsStop e (Q.stop feed.old) (Q.stop feed.new)) }
+    ensures ready { Q.ready feed.new }
+    ensures took { (was : Q) (h : List PairState) → Q.took was feed.old h → (packets : List PacketIn) × (pairs : List PairState) × IsRound flow.now.hops 0 packets pairs viewers.old viewers.new × AreBegun (Q.left feed.old) packets × Q.took was feed.new (h ++ pairs) × OnOk result (AreWhole (Q.left feed.old) packets) }
+{
+    match benches_for(alloc, viewers.len()) {
+        Ok(mut benches) => each_batch(rt, alloc, flow, gate, feed, viewers, benches.as_mut_slice()),
+        Err(_) => Err(RoundStop::OutOfMemory),
+    }
+}
+
+// A bench for each worker.
+fn benches_for(alloc: Global, workers: usize) -> Result<Vec<Bench>, OutOfMemory>
+    ensures { IfOk result (λ benches. length benches.items ≡ workers) }
+{
+    let mut benches = Vec::new(alloc);
+    for _ in 0..workers {
+        benches.push(Bench::new(alloc)).map_err(|_| OutOfMemory)?;
+    }
+    Ok(benches)
+}
+
+/// Makes the steps up to a version on one side, and judges the feed's packets on the other, with a worker for each viewer.
+pub fn round<Q: Feed + Send, G: Gate + Sync, R: Threads + Wait + Sync>(
+    rt: &R,
+    alloc: Global,
+    publisher: &mut Publisher,
+    viewers: &mut [Viewer],
+    upto: u32,
+    flow: &FlowLine,
+    feed: &mut Q,
+    gate: &G,
+) -> Result<Vec<Reply>, RoundStop<Q::Stop>>
+    requires upto { upto ≡ length publisher.old.plan.steps }
+    requires viewers { (0 < length viewers.old) × (length viewers.old ≤ 16) }
+    requires plan { All (λ v. (v.plan ≡ publisher.old.plan) × (v.board ≡ publisher.old.board)) viewers.old }
+    requires nodes { All (λ hop. node_of hop < publisher.old.plan.nodes) flow.now.hops }
+    requires hops { Q.hops feed.old ≡ length flow.now.hops }
+    requires ready { Q.ready feed.old }
+    requires due { Q.due feed.old ≡ 0 }
+    requires stop { Q.stop feed.old ≡ None }
+    ensures publisher { (publisher.new.board ≡ publisher.old.board) × (publisher.new.plan ≡ publisher.old.plan) × (publisher.old.version ≤ publisher.new.version) × (publisher.new.version ≤ upto) }
+    ensures viewers { AreLater viewers.old viewers.new }
+    ensures replies { IfOk result (λ rs. (publisher.new.version ≡ upto) × (publisher.old.version + length rs.items ≡ upto) × AreReplies publisher.old.plan publisher.old.version rs.items) }
+    ensures ended { OnOk result ((Q.due feed.new ≡ 0) × (Q.stop feed.new ≡ None) × IsOver (Q.left feed.new) × (Q.ended feed.new ≡ true)) }
+    ensures stop { IfErr result (λ e. IsStop e None (Q.stop feed.new)) }
+    ensures ready { Q.ready feed.new }
+    ensures took { (was : Q) (h : List PairState) → Q.took was feed.old h → (packets : List PacketIn) × (pairs : List PairState) × IsRound flow.now.hops 0 packets pairs viewers.old viewers.new × AreBegun (Q.left feed.old) packets × Q.took was feed.new (h ++ pairs) × OnOk result (AreWhole (Q.left feed.old) packets) }
+{
+    let mut steps = || step_to(rt, alloc, upto, gate, publisher);
+    let mut packets = ||
+        requires { (0 < length viewers.now) × (length viewers.now ≤ 16) × All (HasNodes flow.now.hops) viewers.now × Q.ready feed.now × (Q.due feed.now ≡ 0) × (Q.hops feed.now ≡ length flow.now.hops) }
+    { all_batches(rt, alloc, flow, gate, feed, viewers) };
+    let (replies, fed) = join_mut(rt, &mut steps, &mut packets);
+    match fed {
+        Ok(()) => match replies {
+            Ok(all) => Ok(all),
+            Err(_) => Err(RoundStop::OutOfMemory),
+        },
+        Err(stop) => Err(stop),
+    }
+}

@@ -1,0 +1,16 @@
+use Rattle.std.proofs.Common.{ap, sym, ◌∙◌}
+use Rattle.packet_walk.specs.Walk.{passes, forwarding}
+use Rattle.packet_walk.proofs.Lengths.{octets_short}
+use Rattle.packet_walk.proofs.Walks.{reads_back}
+use Rattle.packet_walk.proofs.hop.forward_at.Goals as goal
+
+pub returns-in-Ok : goal.returns-in-Ok
+returns-in-Ok c =
+    let v = c.in-Ok.ensures in
+    let is = sym v.judged.is ∙ v.answers.1 in
+    let room = rw v.answers.1 at v.in_room in
+    record {
+      read = v.judged.read;
+      reads = v.judged.reads;
+      answered = (v.answers.0, ap (passes forwarding) is, v.answers.2, reads_back v.answers.0 room, rw v.answers.2 (octets_short v.answers.0 room));
+    }

@@ -1,0 +1,8 @@
+use Rattle.packet_walk.proofs.Walks.{some_read}
+use Rattle.packet_walk.proofs.hop.hop_into.Goals as goal
+
+pub returns-in-Send : goal.returns-in-Send
+returns-in-Send c =
+    let some = some_read c.args.packet.now in
+    let answered = rw (c.tables_of-tables.ensures, c.label.ensures) at c.send_at.ensures in
+    rw c.in-Send.is (record { read = some.0; reads = some.1; answered = answered })

@@ -1,0 +1,3 @@
+pub mod Hop
+pub mod Way
+pub mod Slot

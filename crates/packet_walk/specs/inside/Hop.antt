@@ -1,0 +1,48 @@
+-- What the code answers at one hop.
+use Rattle.std.specs.Prelude.{◌≡◌, ℕ, ◌≤◌, List, [], length, Result, Ok, Err}
+use Rattle.mls_label.specs.declared.label.Label.{Label}
+use Rattle.ip_headers.specs.Packet.{ParsedPacket}
+use Rattle.ip_headers.specs.Written.{packet_octets}
+use Rattle.packet_label.specs.declared.denial.Denial.{Denial}
+use Rattle.packet_label.specs.declared.denial.Stop.{Stop}
+use Rattle.packet_label.specs.declared.denial.Stop.TheVariants as stop
+use Rattle.packet_label.specs.declared.fault.CarryFault.{CarryFault}
+use Rattle.packet_label.specs.declared.packet.Wire.{Wire}
+use Rattle.packet_label.specs.Written.{IsNext, IsReadAs, written}
+use Rattle.flow_lines.specs.declared.hop.Hop.{Hop}
+use Rattle.shared_tables.specs.Plan.{PlanState, network_after}
+use Rattle.packet_walk.specs.declared.hop.Given.{Given}
+use Rattle.packet_walk.specs.declared.hop.Given.TheVariants.{Goes, Arrives, Denied, OutOfMemory}
+use Rattle.packet_walk.specs.Walk.{Passage, goes_on, arrives, hop_verdict}
+
+-- the octets of a packet that was written are read as the packet that it then is
+abbrev pub ReadsBack : ParsedPacket Wire → Type 0
+ReadsBack packet = (read : Result (ParsedPacket Wire) CarryFault) → IsReadAs (packet_octets (written packet)) read → IsNext packet read
+
+-- a verdict, as it is answered with a label and octets; where the packet is delivered these are the ones that came
+abbrev pub Answered : Result Passage Denial → Given → Label → List ℕ → List ℕ → Type 0
+Answered verdict (Goes carrier) label came out =
+    (packet : ParsedPacket Wire) × (verdict ≡ Ok (goes_on carrier packet)) × (out ≡ packet_octets (written packet)) × ReadsBack packet × (length out ≤ 65575)
+Answered verdict (Arrives receiver) label came out = (verdict ≡ Ok (arrives (record { label = label; receiver = receiver }))) × (out ≡ came)
+Answered verdict (Denied why) label came out = (verdict ≡ Err why) × (out ≡ [])
+Answered verdict OutOfMemory label came out = out ≡ []
+
+-- the answer of a call that writes no packet
+abbrev pub stopped_as : Stop → Given
+stopped_as (stop.Denied why) = Denied why
+stopped_as stop.OutOfMemory = OutOfMemory
+
+-- the verdict on what is read of the octets, as it is answered
+pub record AnsweredOf (octets : List ℕ) (verdict : Result (ParsedPacket Wire) CarryFault → Result Passage Denial) (given : Given) (label : Label)
+    (came out : List ℕ) : Type 0 where
+  pub read : Result (ParsedPacket Wire) CarryFault
+  pub reads : IsReadAs octets read
+  pub answered : Answered (verdict read) given label came out
+
+-- one hop was judged under the version that was found
+pub record HasJudged (plan : PlanState) (seen now : ℕ) (hop : Hop) (octets : List ℕ) (version : ℕ) (given : Given) (label : Label)
+    (came out : List ℕ) : Type 0 where
+  pub later : seen ≤ version
+  pub found : now ≡ version
+  pub within : version ≤ length plan.steps
+  pub gave : AnsweredOf octets (hop_verdict (network_after plan version) hop octets) given label came out

@@ -1,0 +1,23 @@
+//! A packet's way over the hops of a flow. Each hop is judged under one look at the published tables, so under one version of
+//! them; what a hop writes is read by the next one. A walk ends at the first denial, or behind the last hop: the packet was
+//! delivered, or sent on. A worker owns the labels and octets that a walk needs, and lends them for each packet.
+#![tactic(auto)]
+
+mod gate;
+mod hop;
+mod look;
+mod packet;
+mod room;
+mod slot;
+mod walked;
+mod walking;
+
+pub use gate::{Gate, OpenGate};
+pub use packet::{Octets, PacketIn};
+pub use room::WalkRoom;
+pub use slot::{EndMark, ShownWalks, WalkedSlot};
+pub use walked::{End, Versions, Walked};
+pub use walking::{walk, walk_into};
+
+#[cfg(test)]
+mod tests;
