@@ -21,6 +21,9 @@ pub const MOST_PAIRS: usize = 1952;
 /// The most definitions of a protocol.
 pub const MOST_DOIS: usize = 64;
 
+/// So many definitions are gone over, which costs less than a hash.
+const FEW: usize = 8;
+
 /// Definitions by protocol and DOI, in order of insertion.
 #[derive(Drop)]
 pub struct DoiTable {
@@ -109,7 +112,11 @@ impl DoiTable {
     pub fn find(&self, proto: Proto, doi: u32) -> Option<&DoiDef>
         ensures { option_copied result ≡ definition_of self.now proto doi }
     {
-        self.definitions.get(&(proto, doi))
+        if self.definitions.len() <= FEW {
+            first_named(&self.definitions, proto, doi)
+        } else {
+            self.definitions.get(&(proto, doi))
+        }
     }
 
     /// How many definitions there are.
@@ -142,4 +149,37 @@ impl DoiTable {
         }
         Ok(copy)
     }
+}
+
+// What a DOI is defined as, found from the front.
+fn first_named(
+    definitions: &IndexMap<(Proto, u32), DoiDef>,
+    proto: Proto,
+    doi: u32,
+) -> Option<&DoiDef>
+    ensures { option_copied result ≡ definition_of definitions.now.entries proto doi }
+{
+    for place in 0..definitions.len() {
+        let (name, definition) = entry_at(definitions, place);
+        if is_named(name, proto, doi) {
+            return Some(definition);
+        }
+    }
+    None
+}
+
+fn entry_at(definitions: &IndexMap<(Proto, u32), DoiDef>, place: usize) -> (&(Proto, u32), &DoiDef)
+    requires { place < length definitions.now.entries }
+    ensures { slice_get definitions.now.entries place ≡ Some (result.0.now, result.1.now) }
+{
+    match definitions.get_index(place) {
+        Some(entry) => entry,
+        None => unreachable!(),
+    }
+}
+
+fn is_named(name: &(Proto, u32), proto: Proto, doi: u32) -> bool
+    ensures { result ≡ same_doi (proto, doi) name.now }
+{
+    proto == name.0 && doi == name.1
 }

@@ -6,6 +6,7 @@
 mod address_list;
 mod fault;
 mod map;
+mod named;
 mod order;
 mod protocol;
 mod rule;
@@ -16,6 +17,7 @@ pub use address_text::{
 };
 pub use fault::{MapFault, StaticFault, Unknown};
 pub use map::DomainMap;
+pub use named::value_of;
 pub use protocol::Protocol;
 pub use static_map::StaticMap;
 

@@ -7,6 +7,7 @@ ghost use Rattle.domain_map.specs.Addresses.{IsRefusedBy};
 ghost use Rattle.domain_map.specs.Domains.{Domain, same_domain, added, deleted, find_of, names_doi_of, lines_of};
 
 use crate::fault::{MapFault, Unknown};
+use crate::named::value_of;
 use crate::protocol::Protocol;
 use crate::rule::Rule;
 use address_text::{Address, Name, Prefix};
@@ -52,9 +53,9 @@ impl DomainMap {
     pub fn find(&self, domain: &Name, address: &Address) -> Option<Protocol>
         ensures { result ≡ find_of self.now domain.now address.now }
     {
-        match self.rules.get(&Some(domain.copy())) {
+        match value_of(&self.rules, Some(domain)) {
             Some(rule) => rule.find(address),
-            None => self.rules.get(&None)?.find(address),
+            None => value_of(&self.rules, None)?.find(address),
         }
     }
 
@@ -215,7 +216,7 @@ fn count_of(rules: &IndexMap<Option<Name>, Rule>) -> usize
 {
     let mut count = 0;
     for place in 0..rules.len() {
-        count += rule_at(rules, place).1.lines();
+        count += entry_at(rules, place).1.lines();
     }
     count
 }
@@ -230,7 +231,7 @@ fn line_of(
 {
     let mut left = i;
     for place in 0..rules.len() {
-        let (domain, rule) = rule_at(rules, place);
+        let (domain, rule) = entry_at(rules, place);
         let lines = rule.lines();
         if left < lines {
             let (prefix, protocol) = rule.line(left);
@@ -249,17 +250,18 @@ fn copy_of(
     let alloc = *rules.allocator();
     let mut copy = IndexMap::new(alloc);
     for place in 0..rules.len() {
-        let (domain, rule) = rule_at(rules, place);
+        let (domain, rule) = entry_at(rules, place);
         copy.insert(key_of(domain.as_ref()), rule.copy(alloc)?)?;
     }
     Ok(copy)
 }
 
-fn rule_at(rules: &IndexMap<Option<Name>, Rule>, place: usize) -> (&Option<Name>, &Rule)
-    requires { place < length rules.now.entries }
-    ensures { slice_get rules.now.entries place ≡ Some (result.0.now, result.1.now) }
+/// The entry at a place.
+pub fn entry_at<V>(entries: &IndexMap<Option<Name>, V>, place: usize) -> (&Option<Name>, &V)
+    requires { place < length entries.now.entries }
+    ensures { slice_get entries.now.entries place ≡ Some (result.0.now, result.1.now) }
 {
-    match rules.get_index(place) {
+    match entries.get_index(place) {
         Some(entry) => entry,
         None => unreachable!(),
     }

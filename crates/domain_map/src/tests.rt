@@ -113,6 +113,24 @@ fn finds_it_in_each_order(rt: HostRuntime) -> Result<(), Fail> {
     Ok(())
 }
 
+// A name is found, or the default entry, among entries that are gone over and among more.
+#[test]
+fn finds_names_among_few_and_many(rt: HostRuntime) -> Result<(), Fail> {
+    let mut map = DomainMap::empty(rt.alloc());
+    added(&rt, &mut map, "", "", SECOND)?;
+    for i in 0..12u8 {
+        let domain = read_name(&[b'a' + i]);
+        map.add(domain.as_ref(), None, FIRST)?;
+        let cases = [
+            ("a", "10.0.0.1", Some(FIRST)),
+            ("z", "10.0.0.1", Some(SECOND)),
+        ];
+        finds_all(&rt, &map, &cases);
+    }
+    assert_eq!(rt; found(&rt, &map, "l", "10.0.0.1"), Some(FIRST));
+    Ok(())
+}
+
 // Lines go by entries, and within an entry by addresses; refusals change none.
 #[test]
 fn refuses_and_lists(rt: HostRuntime) -> Result<(), Fail> {

@@ -17,7 +17,8 @@ use Rattle.ip_headers.specs.Header4.{version_number, header_length, total_length
 use Rattle.ip_headers.specs.Reading.{first_place, parsed, packet_of}
 use Rattle.ip_headers.specs.Written.{gap_to, padding, unit_of, kept_options, option_area, label_octets, header4, checksum4, head_octets, others_at, settled, IsParsed, FitsFields, rebuilt_room, room_of, rebuilt_length}
 use Rattle.ip_headers.proofs.Layouts.{length-padding}
-use Rattle.ip_headers.proofs.Sums.{modulo, sum_is, complement}
+use Rattle.ip_headers.specs.inside.Modulo.{modulo}
+use Rattle.ip_headers.proofs.Sums.{sum_is, complement}
 use Rattle.ip_headers.proofs.Back.{AreaBack, area_back, first_label, no_second, area_octets, reads_as}
 
 -- ---- the tests of the fixed fields

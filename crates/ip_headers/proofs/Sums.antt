@@ -1,16 +1,13 @@
 -- The one's complement sum.
-use Rattle.std.proofs.Common.{◌≡◌, ℕ, ◌+◌, ◌-◌, ◌%◌, ◌<◌, false, cond, eqb, List, [], ◌∷◌, All, sum, fold, ap, ◌∙◌, arith}
-use Rattle.std.specs.Int.{w16, from_be_bytes}
+use Rattle.std.proofs.Common.{◌≡◌, ℕ, zero, suc, ◌+◌, ◌-◌, ◌*◌, ◌%◌, ◌<◌, ◌≤◌, false, cond, eqb, List, [], ◌∷◌, All, length, get_or, drop, sum, fold, ap, sym, ◌∙◌, arith}
+use Rattle.std.specs.Int.{w16, w32, from_be_bytes}
 use Rattle.std.proofs.lemmas.Bool.Decides.{nat_tests}
 use Rattle.std.proofs.lemmas.List.Elements.{All-nil, All-cons, All-head, All-tail}
 use Rattle.std.proofs.lemmas.List.Sums.{sum_by-cons}
 use Rattle.octet_grammar.specs.Octets.{IsOctets}
 use Rattle.octet_grammar.proofs.Octets.{octets-drop}
 use Rattle.ip_headers.specs.Sum.{ones_add, words_of, ones_sum}
-
--- a number modulo 65535, counted from 1 to 65535 where it isn't 0
-unfoldable pub modulo : ℕ → ℕ
-modulo total = cond (eqb total 0) 0 (1 + (total - 1) % 65535)
+use Rattle.ip_headers.specs.inside.Modulo.{modulo}
 
 add_modulo : (total w : ℕ) → w < 65536 → ones_add (modulo total) w ≡ modulo (total + w)
 unfolding modulo
@@ -47,3 +44,34 @@ complement total some =
     let e2 : eqb m 0 ≡ false = grind (arith, nat_tests) in
     let r : 1 + (m - 1) % 65535 ≡ 65535 = omega arith in
     rw (e, e2) r
+
+-- a multiple of 65535 more changes nothing, and so nothing changes where it is less
+pub modulo_less : (m n k : ℕ) → n + k * 65535 ≡ m → 0 < n → modulo n ≡ modulo m
+unfolding modulo
+modulo_less m n k e some =
+    let e1 : eqb n 0 ≡ false = grind (arith, nat_tests) in
+    let e2 : eqb m 0 ≡ false = grind (arith, nat_tests) in
+    let r : 1 + (n - 1) % 65535 ≡ 1 + (m - 1) % 65535 = omega (arith, e, some) in
+    rw (e1, e2) r
+
+modulo_more : (n k : ℕ) → k ≤ n → modulo n ≡ modulo (n + k * 65535)
+modulo_more zero k le =
+    let e : 0 ≡ 0 + k * 65535 = omega (arith, le) in
+    ap modulo e
+modulo_more (suc n) k le = modulo_less (suc n + k * 65535) (suc n) k (omega arith) (omega arith)
+
+-- two words as one number of four octets
+pub four_words : (total : ℕ) (s : List ℕ) → 4 ≤ length s
+    → modulo (total + from_be_bytes w32 (get_or s 0 0 ∷ get_or s 1 0 ∷ get_or s 2 0 ∷ get_or s 3 0 ∷ []) + sum (words_of (drop 4 s))) ≡ modulo (total + sum (words_of s))
+four_words total (a ∷ b ∷ c ∷ d ∷ s) long =
+    let f : ℕ → ℕ = λ n. n in
+    let high = from_be_bytes w16 (a ∷ b ∷ []) in
+    let low = from_be_bytes w16 (c ∷ d ∷ []) in
+    let x = total + sum (words_of (a ∷ b ∷ c ∷ d ∷ s)) in
+    let e : x ≡ total + high + low + sum (words_of s) = omega (arith, sum_by-cons f high (low ∷ words_of s), sum_by-cons f low (words_of s)) in
+    let m : total + from_be_bytes w32 (a ∷ b ∷ c ∷ d ∷ []) + sum (words_of s) ≡ x + high * 65535 = omega (arith, e) in
+    ap modulo m ∙ sym (modulo_more x high (omega (arith, e)))
+four_words total [] long = absurd (omega arith)
+four_words total (a ∷ []) long = absurd (omega arith)
+four_words total (a ∷ b ∷ []) long = absurd (omega arith)
+four_words total (a ∷ b ∷ c ∷ []) long = absurd (omega arith)

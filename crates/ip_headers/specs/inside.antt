@@ -1,3 +1,4 @@
 pub mod Walk
 pub mod View
 pub mod Write
+pub mod Modulo

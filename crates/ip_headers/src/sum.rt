@@ -1,7 +1,11 @@
 // The one's complement sum over numbers of 16 bits (RFC 1071).
 
-ghost use Rattle.std.specs.Prelude.{◌≡◌};
-ghost use Rattle.ip_headers.specs.Sum.{ones_add, ones_sum};
+ghost use Rattle.std.specs.Prelude.{◌≡◌, ℕ, ◌+◌, ◌^◌, ◌<◌, ◌≤◌, length, sum};
+ghost use Rattle.ip_headers.specs.Sum.{ones_add, ones_sum, words_of};
+ghost use Rattle.ip_headers.specs.inside.Modulo.{modulo};
+
+/// A multiple of 65,535 that a number of 32 bits can be added to.
+const MULTIPLE: u64 = 0xffff_0000_0000;
 
 /// The one's complement sum of two numbers of 16 bits: a carry out of them comes in again below (RFC 791, section 3.1).
 pub fn ones_add(a: u16, b: u16) -> u16
@@ -15,19 +19,51 @@ pub fn ones_add(a: u16, b: u16) -> u16
 }
 
 /// The one's complement sum of the numbers of 16 bits, in network order, that these octets are. A last octet with no
-/// partner is followed by zero (RFC 1071).
-#[tactic(auto, unfolding(crate::specs::Sum::ones_sum))]
+/// partner is followed by zero (RFC 1071). Carries come in again at the end alone, since a sum is taken modulo 65,535.
 pub fn ones_sum(octets: &[u8]) -> u16
     ensures { result ≡ ones_sum octets.now }
 {
     let mut total = 0;
     let mut rest = octets;
-    while let [high, low, after @ ..] = rest {
-        total = ones_add(total, u16::from_be_bytes([*high, *low]));
+    while let [a, b, c, d, after @ ..] = rest {
+        total = with_four(total, u32::from_be_bytes([*a, *b, *c, *d]));
         rest = after;
     }
-    if let [high] = rest {
-        total = ones_add(total, u16::from_be_bytes([*high, 0]));
+    modulo(total + last_sum(rest))
+}
+
+/// A sum with a number of 32 bits more, or what it is modulo a multiple of 65,535, so that no sum is too large.
+fn with_four(total: u64, four: u32) -> u64
+    requires { total ≤ MULTIPLE }
+    ensures same { (more : ℕ) → modulo (result + more) ≡ modulo (total + four + more) }
+    ensures small { result ≤ MULTIPLE }
+{
+    let sum = total + u64::from(four);
+    if sum > MULTIPLE { sum - MULTIPLE } else { sum }
+}
+
+/// The sum of the numbers of 16 bits that fewer than four octets are.
+fn last_sum(octets: &[u8]) -> u64
+    requires { length octets.now < 4 }
+    ensures value { result ≡ sum (words_of octets.now) }
+    ensures small { result < 2 ^ 17 }
+{
+    match octets {
+        [a, b, c, ..] => u64::from(u16::from_be_bytes([*a, *b]))
+            + u64::from(u16::from_be_bytes([*c, 0])),
+        [a, b] => u64::from(u16::from_be_bytes([*a, *b])),
+        [a] => u64::from(u16::from_be_bytes([*a, 0])),
+        [] => 0,
     }
-    total
+}
+
+/// A sum modulo 65,535, from 1 to 65,535 where it isn't 0.
+#[tactic(auto, unfolding(crate::specs::inside::Modulo::modulo))]
+fn modulo(total: u64) -> u16
+    ensures { result ≡ modulo total }
+{
+    if total == 0 {
+        return 0;
+    }
+    (1 + (total - 1) % 65535) as u16
 }

@@ -480,6 +480,10 @@ fn sums_of_words(rt: HostRuntime) -> Result<(), Fail> {
         0xddf2
     );
     assert_eq!(rt; ones_sum(&[0x12]), 0x1200);
+    assert_eq!(rt; ones_sum(&[0x12, 0x34, 0x56]), 0x6834);
+    assert_eq!(rt; ones_sum(&[0xff, 0xff, 0, 1, 0xff, 0xff]), 1);
+    assert_eq!(rt; ones_sum(&[0xff; 7]), 0xff00);
+    assert_eq!(rt; ones_sum(&[0xff; 8]), 0xffff);
     assert_eq!(rt; ones_sum(&[]), 0);
     assert_eq!(rt; ones_add(0xffff, 1), 1);
     Ok(())

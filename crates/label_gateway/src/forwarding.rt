@@ -14,7 +14,7 @@ ghost use Rattle.label_gateway.specs.inside.Protocol.{forwarded_with};
 use crate::onward::{go_on, hops_of};
 use address_text::Name;
 use domain_map::Protocol;
-use label_receive::{Room, destination_of, fault_denial, is_outside, labels_into, low_label};
+use label_receive::{Room, arrival_is_outside, destination_of, fault_denial, labels_into};
 use label_send::carrier_of;
 use mls_label::Label;
 use node_tables::Tables;
@@ -136,14 +136,13 @@ fn protocol_for(
         Ok(arrival) => arrival,
         Err(why) => return Err(why),
     };
-    let low = low_label(&arrival, high);
-    if is_outside(tables, from, low, high) {
+    if arrival_is_outside(tables, from, &arrival, high) {
         return Err(Denial::OutsideRange);
     }
     if hops_of(&marked.packet) <= 1 {
         return Err(Denial::Expired);
     }
-    if is_outside(tables, to, low, high) {
+    if arrival_is_outside(tables, to, &arrival, high) {
         return Err(Denial::OutsideRange);
     }
     let destination = destination_of(&marked.packet);

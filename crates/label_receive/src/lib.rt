@@ -12,7 +12,7 @@ mod room;
 
 pub use incoming::{Arrival, destination_of, labels_into, low_label, source_of};
 pub use judged::fault_denial;
-pub use range::is_outside;
+pub use range::{arrival_is_outside, is_outside, label_is_outside};
 pub use receiving::{Delivered, receive, receive_into, receive_marked};
 pub use room::Room;
 

@@ -2,8 +2,10 @@
 
 ghost use Rattle.std.specs.Prelude.{◌≡◌};
 ghost use Rattle.mls_range.specs.Computed.{dominates};
+ghost use Rattle.label_receive.specs.Arrival.{incoming_with};
 ghost use Rattle.label_receive.specs.Range.{in_range, is_outside};
 
+use crate::incoming::Arrival;
 use address_text::Name;
 use mls_label::Label;
 use mls_range::Range;
@@ -17,6 +19,32 @@ pub fn is_outside(tables: &Tables, interface: &Name, low: &Label, high: &Label) 
     match tables.find_range(interface) {
         Some(range) => !(in_range(range, low) && in_range(range, high)),
         None => false,
+    }
+}
+
+/// The same of one label, which is tested once.
+#[tactic(auto, unfolding(crate::specs::Range::is_outside))]
+pub fn label_is_outside(tables: &Tables, interface: &Name, label: &Label) -> bool
+    ensures { result ≡ is_outside tables.now.ranges interface.now label.now label.now }
+{
+    match tables.find_range(interface) {
+        Some(range) => !in_range(range, label),
+        None => false,
+    }
+}
+
+/// The same of the labels of a packet that comes in, by what is told of it and its high one.
+pub fn arrival_is_outside(
+    tables: &Tables,
+    interface: &Name,
+    arrival: &Arrival<'_>,
+    high: &Label,
+) -> bool
+    ensures { result ≡ is_outside tables.now.ranges interface.now (incoming_with arrival.now high.now).low high.now }
+{
+    match arrival.low {
+        Some(low) => is_outside(tables, interface, low, high),
+        None => label_is_outside(tables, interface, high),
     }
 }
 

@@ -8,7 +8,7 @@ ghost use Rattle.label_receive.specs.Judged.{IsJudged};
 
 use crate::incoming::{destination_of, labels_into, low_label, source_of};
 use crate::judged::fault_denial;
-use crate::range::{dominates, is_outside};
+use crate::range::{arrival_is_outside, dominates};
 use crate::room::Room;
 use address_text::{Address, Name};
 use domain_map::{DomainMap, Protocol};
@@ -73,8 +73,7 @@ pub fn receive_marked(
         Ok(arrival) => arrival,
         Err(why) => return Err(why),
     };
-    let low = low_label(&arrival, high);
-    if is_outside(tables, interface, low, high) {
+    if arrival_is_outside(tables, interface, &arrival, high) {
         return Err(Denial::OutsideRange);
     }
     let destination = destination_of(&marked.packet);
@@ -82,6 +81,7 @@ pub fn receive_marked(
         return Err(Denial::NoReceiver);
     };
     let source = source_of(&marked.packet);
+    let low = low_label(&arrival, high);
     match refusal_of(tables.map(), receiver, &source, arrival.carrier, low, high) {
         Some(why) => Err(why),
         None => Ok(destination),

@@ -5,16 +5,14 @@ ghost use Rattle.domain_map.specs.declared.protocol.Protocol.TheVariants.{Calips
 ghost use Rattle.ip_headers.specs.declared.version.Version.TheVariants.{V4, V6};
 ghost use Rattle.packet_label.specs.Written.{IsLabel};
 ghost use Rattle.label_send.specs.Outgoing.{IsExpressed, outgoing};
-ghost use Rattle.label_send.specs.inside.Option.{IsOutgoing};
 
 use arrayvec::ArrayVec;
 use calipso_option::{can_express, write_calipso};
 use cipso_option::{first_tag, write_cipso};
 use doi_table::{Proto, to_wire_into};
-use domain_map::Protocol;
 use mls_label::Label;
 use node_tables::Tables;
-use packet_label::{Denial, WireOption};
+use packet_label::Denial;
 
 /// The CIPSO option (FIPS 188; CIPSO draft 2.2) that says the label under a DOI of the node, in the first of its tags that can
 /// express it on the wire. The label that is lent becomes any label.
@@ -71,27 +69,6 @@ pub fn calipso_for(
     let mut octets = ArrayVec::new();
     write_calipso(doi, wire, &mut octets);
     Ok(octets)
-}
-
-/// The option of the protocol that says the label, or none where the protocol has none.
-pub fn option_for(
-    tables: &Tables,
-    protocol: Protocol,
-    label: &Label,
-    wire: &mut Label,
-) -> Result<Option<WireOption>, Denial>
-    ensures ok { IfOk result (λ option. IsOutgoing protocol (outgoing tables.now.definitions protocol label.now) option) }
-    ensures err { IfErr result (λ why. outgoing tables.now.definitions protocol label.now ≡ Err why) }
-{
-    match protocol {
-        Protocol::Unlbl => Ok(None),
-        Protocol::Cipso { doi } => Ok(Some(WireOption::Cipso(cipso_for(
-            tables, doi, label, wire,
-        )?))),
-        Protocol::Calipso { doi } => {
-            Ok(Some(WireOption::Calipso(calipso_for(tables, doi, label, wire)?)))
-        }
-    }
 }
 
 // Has nothing to do: each label keeps what its clause says.

@@ -1,7 +1,6 @@
 //! Packets sent by a node's programs.
 
-ghost use Rattle.std.specs.Prelude.{◌≡◌, ◌<◌, [], IfOk, IsTrue, Ok};
-ghost use Rattle.packet_label.specs.declared.denial.Stop.TheVariants.{Denied};
+ghost use Rattle.std.specs.Prelude.{◌≡◌, ◌<◌, IfOk, IsTrue, Ok};
 ghost use Rattle.packet_label.specs.Packet.{IsOfItsVersion, headers_of, label_place, version_of};
 ghost use Rattle.label_send.specs.Outgoing.{CanGoOut, outgoing, suits};
 ghost use Rattle.label_send.specs.Send.{send_octets, send_protocol, sent_by, sent_with};
@@ -9,11 +8,11 @@ ghost use Rattle.label_send.specs.Answer.{Answers};
 ghost use Rattle.label_send.specs.Laws.{IsInRoom};
 
 use crate::protocol::{carrier_of, suits};
-use crate::under::send_under;
+use crate::under::{denied, send_under};
 use address_text::Name;
 use domain_map::Protocol;
 use ip_headers::Version;
-use label_receive::{destination_of, is_outside};
+use label_receive::{destination_of, label_is_outside};
 use mls_label::Label;
 use node_tables::Tables;
 use packet_label::{Carrier, Denial, Packet, Stop, label_at};
@@ -64,15 +63,6 @@ pub fn send_into(
     }
 }
 
-// Empties what was to be written.
-fn denied(why: Denial, out: &mut Vec<u8>) -> Stop
-    ensures stop { result ≡ Denied why }
-    ensures empty { out.new.items ≡ [] }
-{
-    out.clear();
-    Stop::Denied(why)
-}
-
 // The protocol under which the domain sends the packet, whose first label option stands at this octet.
 fn protocol_for(
     tables: &Tables,
@@ -89,7 +79,7 @@ fn protocol_for(
     if let Some(octet) = place {
         return Err(Denial::AlreadyLabelled { octet });
     }
-    if is_outside(tables, interface, label, label) {
+    if label_is_outside(tables, interface, label) {
         return Err(Denial::OutsideRange);
     }
     let Some(protocol) = tables.map().find(domain, &destination_of(packet)) else {

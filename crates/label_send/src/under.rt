@@ -1,7 +1,8 @@
 //! A packet with a label under a protocol: what sending and forwarding have in common.
 
-ghost use Rattle.std.specs.Prelude.{◌≡◌, IfSome, IsTrue};
+ghost use Rattle.std.specs.Prelude.{◌≡◌, [], IfSome, IsTrue};
 ghost use Rattle.std.specs.Option.{option_copied};
+ghost use Rattle.packet_label.specs.declared.denial.Stop.TheVariants.{Denied};
 ghost use Rattle.packet_label.specs.Option.{Suits, rebuilt};
 ghost use Rattle.packet_label.specs.Packet.{IsOfItsVersion, headers_of, version_of};
 ghost use Rattle.label_send.specs.Outgoing.{CanGoOut, outgoing, suits};
@@ -9,7 +10,7 @@ ghost use Rattle.label_send.specs.Room.{sent_under};
 ghost use Rattle.label_send.specs.Answer.{Answers, packet_alone};
 ghost use Rattle.label_send.specs.inside.Write.{Writes};
 
-use crate::option::option_for;
+use crate::option::{calipso_for, cipso_for};
 use domain_map::Protocol;
 use ip_headers::Rebuild;
 use mls_label::Label;
@@ -37,13 +38,27 @@ pub fn send_under(
         result out.new.items }
     ensures said { CanGoOut (version_of packet.now) (outgoing tables.now.definitions protocol label.now) }
 {
-    match option_for(tables, protocol, label, wire) {
-        Ok(option) => rewrite(packet, option.as_ref(), hops, out),
-        Err(why) => {
-            out.clear();
-            Err(Stop::Denied(why))
-        }
+    // Each option is made where it is lent: one that holds either protocol's would be 260 octets to move.
+    match protocol {
+        Protocol::Unlbl => rewrite(packet, None, hops, out),
+        Protocol::Cipso { doi } => match cipso_for(tables, doi, label, wire) {
+            Ok(octets) => rewrite(packet, Some(&WireOption::Cipso(octets)), hops, out),
+            Err(why) => Err(denied(why, out)),
+        },
+        Protocol::Calipso { doi } => match calipso_for(tables, doi, label, wire) {
+            Ok(octets) => rewrite(packet, Some(&WireOption::Calipso(octets)), hops, out),
+            Err(why) => Err(denied(why, out)),
+        },
     }
+}
+
+/// Empties what was to be written.
+pub(crate) fn denied(why: Denial, out: &mut Vec<u8>) -> Stop
+    ensures stop { result ≡ Denied why }
+    ensures empty { out.new.items ≡ [] }
+{
+    out.clear();
+    Stop::Denied(why)
 }
 
 // The packet with this option, or none, and these hops.

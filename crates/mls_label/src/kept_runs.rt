@@ -43,6 +43,17 @@ fn hull_with(runs: &[Run], run: Run) -> Run
     )
 }
 
+// Whether the run is behind all others and touches none.
+fn is_behind(runs: &[Run], run: Run) -> bool
+    requires { AreApart 0 runs.now }
+    ensures { IsTrue result → AllWithin (λ (r : Run). r.last + 1 < run.first) runs.now 0 (length runs.now) }
+{
+    match runs.last() {
+        Some(last) => last.last < run.first.saturating_sub(1),
+        None => true,
+    }
+}
+
 // Where the run belongs: it touches those from the first of the two places to the second.
 fn place_of(runs: &[Run], run: Run) -> (usize, usize)
     requires apart { AreApart 0 runs.now }
@@ -50,6 +61,10 @@ fn place_of(runs: &[Run], run: Run) -> (usize, usize)
     requires categories { run.last < 65535 }
     ensures { IsPlace runs.now run result.0 result.1 }
 {
+    // Mostly runs come in ascending order.
+    if is_behind(runs, run) {
+        return (runs.len(), runs.len());
+    }
     let start = end_below(runs, run.first.saturating_sub(1));
     let end = begin_by(runs, run.last + 1);
     (start, end)

@@ -9,6 +9,7 @@ use crate::key::{entry_at, key_of};
 use crate::reply::Refusal;
 use crate::stop::Stop;
 use address_text::Name;
+use domain_map::value_of;
 use indexmap::IndexMap;
 use mls_label::OutOfMemory;
 use mls_range::{KeptRange, Range};
@@ -23,9 +24,9 @@ pub fn find_range<'a>(
 ) -> Option<&'a KeptRange>
     ensures { option_copied result ≡ find_range_of ranges.now.entries interface.now }
 {
-    match ranges.get(&Some(interface.copy())) {
+    match value_of(ranges, Some(interface)) {
         Some(range) => Some(range),
-        None => ranges.get(&None),
+        None => value_of(ranges, None),
     }
 }
 

@@ -21,6 +21,9 @@ use std::marker::Model;
 /// The most receivers of a node.
 const MOST_RECEIVERS: usize = 256;
 
+/// So many receivers are gone over, which costs less than a hash.
+const FEW: usize = 8;
+
 /// A receiver on the heap, whose level dominates its low end: what is moved is a pointer, and not the 16 kB of its labels.
 #[derive(Drop)]
 pub struct KeptReceiver {
@@ -96,7 +99,27 @@ pub fn find_receiver<'a>(
 ) -> Option<&'a KeptReceiver>
     ensures { option_copied result ≡ find_receiver_of receivers.now.entries address.now }
 {
-    receivers.get(address)
+    if receivers.len() <= FEW {
+        first_at(receivers, address)
+    } else {
+        receivers.get(address)
+    }
+}
+
+// The same from the front.
+fn first_at<'a>(
+    receivers: &'a IndexMap<Address, KeptReceiver>,
+    address: &Address,
+) -> Option<&'a KeptReceiver>
+    ensures { option_copied result ≡ find_receiver_of receivers.now.entries address.now }
+{
+    for place in 0..receivers.len() {
+        let (own, receiver) = entry_at(receivers, place);
+        if address.same(own) {
+            return Some(receiver);
+        }
+    }
+    None
 }
 
 /// Adds a receiver at an address that has none.

@@ -7,7 +7,7 @@ pub loop-place-preserved : goal.loop-place-preserved
 loop-place-preserved c =
     let entries = c.args.rules.now.entries in
     let i = c.loop-place.place in
-    let more = lines_step entries i (c.rule_at.result.0.now, c.rule_at.result.1.now) c.rule_at.ensures in
+    let more = lines_step entries i (c.entry_at.result.0.now, c.entry_at.result.1.now) c.entry_at.ensures in
     record {
       counted = omega (arith, c.loop-place.invariant.counted, c.lines-count.ensures.lines, more, ap (λ n. length (lines_of (take n entries))) (add-one i));
       few = omega (arith, c.loop-place.invariant.few, c.lines-count.ensures.few);

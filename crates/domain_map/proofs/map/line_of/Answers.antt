@@ -9,7 +9,7 @@ returns-then-left-lines c =
     let entries = c.args.rules.now.entries in
     let line = c.line-prefix.result in
     c.loop-place.invariant.same
-    ∙ line_here entries c.loop-place.place c.loop-place.left (c.rule_at.result.0.now, c.rule_at.result.1.now) line c.rule_at.ensures c.line-prefix.ensures
+    ∙ line_here entries c.loop-place.place c.loop-place.left (c.entry_at.result.0.now, c.entry_at.result.1.now) line c.entry_at.ensures c.line-prefix.ensures
     ∙ ap (λ d. Some (d, line.0, line.1)) (sym c.as_ref.ensures.value)
 
 pub loop-place-preserved : goal.loop-place-preserved
@@ -17,11 +17,11 @@ loop-place-preserved c =
     let entries = c.args.rules.now.entries in
     let i = c.loop-place.place in
     let left = c.loop-place.left in
-    let entry : Domain × Rule = (c.rule_at.result.0.now, c.rule_at.result.1.now) in
+    let entry : Domain × Rule = (c.entry_at.result.0.now, c.entry_at.result.1.now) in
     let lines = c.lines-lines.ensures.lines in
-    let behind : length (rule_lines c.rule_at.result.1.now) ≤ left = omega (arith, lines, c.if-left-lines.false) in
+    let behind : length (rule_lines c.entry_at.result.1.now) ≤ left = omega (arith, lines, c.if-left-lines.false) in
     record {
-      same = c.loop-place.invariant.same ∙ line_behind entries i left entry c.rule_at.ensures behind
+      same = c.loop-place.invariant.same ∙ line_behind entries i left entry c.entry_at.ensures behind
           ∙ ap (λ n. slice_get (lines_of (drop (suc i) entries)) (left - n)) (sym lines) ∙ ap (λ n. slice_get (lines_of (drop n entries)) (left - c.lines-lines.result)) (sym (add-one i));
-      within = omega (arith, c.loop-place.invariant.within, lines, behind, lines_left entries i entry c.rule_at.ensures, ap (λ n. length (lines_of (drop n entries))) (add-one i));
+      within = omega (arith, c.loop-place.invariant.within, lines, behind, lines_left entries i entry c.entry_at.ensures, ap (λ n. length (lines_of (drop n entries))) (add-one i));
     }

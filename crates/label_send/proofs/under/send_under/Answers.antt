@@ -1,19 +1,16 @@
-use Rattle.packet_label.specs.Option.{Suits}
-use Rattle.packet_label.specs.Packet.{version_of}
+use Rattle.std.proofs.Common.{Some, None, refl}
+use Rattle.domain_map.specs.declared.protocol.Protocol.TheVariants.{Unlbl, Calipso}
+use Rattle.packet_label.specs.declared.option.WireOption.TheVariants as octets
 use Rattle.label_send.specs.Outgoing.{outgoing}
-use Rattle.label_send.proofs.Sent.{suits_packet, behind, goes_out_said, sent_so}
+use Rattle.label_send.proofs.Sent.{suits_packet, sent_so}
 use Rattle.label_send.proofs.under.send_under.Goals as goal
 
-pub rewrite-requires : goal.rewrite-requires
-rewrite-requires c =
-    let fits = suits_packet c.args.packet.now c.args.protocol (outgoing c.args.tables.now.definitions c.args.protocol c.args.label.now) c.in-Ok.option c.requires.suits c.in-Ok.ensures.ok in
-    behind (Suits c.args.packet.now) c.as_ref.result c.in-Ok.option c.as_ref.ensures.value fits
+pub rewrite-requires-in-Ok-calipso_for : goal.rewrite-requires-in-Ok-calipso_for
+rewrite-requires-in-Ok-calipso_for c =
+    let doi = c.in-Calipso.doi in
+    suits_packet c.args.packet.now (Calipso doi) (outgoing c.args.tables.now.definitions (Calipso doi) c.args.label.now) (Some (octets.Calipso c.in-Ok-calipso_for.octets)) (rw c.in-Calipso.is at c.requires.suits) c.in-Ok-calipso_for.ensures.ok
 
-pub returns-in-Ok-clause-value : goal.returns-in-Ok-clause-value
-returns-in-Ok-clause-value c =
-    sent_so c.args.packet.now c.args.protocol (outgoing c.args.tables.now.definitions c.args.protocol c.args.label.now) c.in-Ok.option c.args.hops c.rewrite.result c.rewrite.new.out.items
-    c.requires.version c.in-Ok.ensures.ok (rw c.as_ref.ensures.value at c.rewrite.ensures)
-
-pub returns-in-Ok-clause-said : goal.returns-in-Ok-clause-said
-returns-in-Ok-clause-said c =
-    goes_out_said (version_of c.args.packet.now) c.args.protocol (outgoing c.args.tables.now.definitions c.args.protocol c.args.label.now) c.in-Ok.option c.requires.suits c.in-Ok.ensures.ok
+pub returns-in-Unlbl-clause-value : goal.returns-in-Unlbl-clause-value
+returns-in-Unlbl-clause-value c =
+    rw c.in-Unlbl.is (sent_so c.args.packet.now Unlbl (outgoing c.args.tables.now.definitions Unlbl c.args.label.now) None c.args.hops c.rewrite.result c.rewrite.new.out.items
+    c.requires.version refl c.rewrite.ensures)
