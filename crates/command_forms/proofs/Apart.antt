@@ -1,6 +1,6 @@
 -- The table: rows are apart, keys are distinct, and complete rows make commands.
 use Rattle.std.proofs.Common.{◌≡◌, ◌≢◌, ℕ, Bool, true, false, ◌&&◌, List, [], ◌∷◌, All, Option, Some, None, IsTrue, refl, sym, subst, codes}
-use Rattle.std.specs.Prelude.{IsSome, is_some, option_and_then}
+use Rattle.std.specs.Prelude.{IsSome, is_some}
 use Rattle.std.specs.Str.{bytes_eq}
 use Rattle.std.proofs.lemmas.Bool.{and_parts, or_cases, false≢true}
 use Rattle.std.proofs.lemmas.List.Elements.{All-from_recursion, All-nil}

@@ -1,5 +1,5 @@
 -- The written form, as it is appended.
-use Rattle.std.proofs.Common.{◌≡◌, ℕ, ◌-◌, ◌<◌, ◌≤◌, List, [], ◌∷◌, ◌++◌, length, get_or, take, drop, map, All, Option, Some, None, Bor, refl, sym, ap, subst, ◌∙◌, arith, append_assoc, append-nil}
+use Rattle.std.proofs.Common.{◌≡◌, ℕ, ◌-◌, ◌<◌, ◌≤◌, List, [], ◌∷◌, ◌++◌, length, get_or, take, drop, map, All, Option, Some, None, Bor, refl, sym, ap, ◌∙◌, arith, append_assoc, append-nil}
 use Rattle.std.specs.Prelude.{filter_map}
 use Rattle.std.specs.List.{cons_option, flat_map, join_with_byte}
 use Rattle.std.proofs.lemmas.List.{take_rest}
@@ -12,7 +12,7 @@ use Rattle.command_forms.specs.declared.fields.Fields.{Fields}
 use Rattle.command_forms.specs.declared.command.Command.{Command}
 use Rattle.command_forms.specs.Form.{with_translations, form_of}
 use Rattle.command_forms.specs.Fields.{word_of}
-use Rattle.command_forms.specs.Command.{IsValue, said_of, texts_of_said, command_text}
+use Rattle.command_forms.specs.Command.{IsValue, said_of, command_text}
 use Rattle.command_forms.specs.inside.Extends.{Extends}
 use Rattle.command_forms.specs.inside.Written.{behind_space, spaced_words}
 

@@ -1,5 +1,5 @@
 -- What an edition reads, the next one reads alike.
-use Rattle.std.proofs.Common.{◌≡◌, ℕ, Bool, true, false, cond, ◌&&◌, List, [], ◌∷◌, ◌++◌, length, drop, map, Option, Some, None, Result, Ok, Err, refl, sym, ap, ◌∙◌, arith, nat_eq}
+use Rattle.std.proofs.Common.{◌≡◌, ℕ, Bool, true, false, cond, List, [], ◌∷◌, ◌++◌, length, drop, map, Option, Some, None, Result, Ok, Err, refl, sym, ap, ◌∙◌, arith, nat_eq}
 use Rattle.std.specs.Prelude.{◌==◌, find, fold, max, ok_or, not, ◌||◌}
 use Rattle.std.specs.List.{after_first, common_prefix_len}
 use Rattle.std.specs.Option.{option_or}
@@ -20,8 +20,9 @@ use Rattle.command_forms.specs.declared.form.Slot.{Slot}
 use Rattle.command_forms.specs.declared.fields.Fields.{Fields}
 use Rattle.command_forms.specs.declared.said.Said.{Said}
 use Rattle.command_forms.specs.Form.{Edition, with_labels, with_ranges, with_translations, may, form_of, first_rows, line_rows, is_key}
-use Rattle.command_forms.specs.Fields.{no_fields, is_given, put, static_by, receiver_by, with_value}
+use Rattle.command_forms.specs.Fields.{no_fields, is_given, static_by, receiver_by, with_value}
 use Rattle.command_forms.specs.Said.{is_spelled, shared_words, fits_row, unfit_or_missing, read_row, key_of, slot_of, with_parameter, with_word, with_words, is_complete, read_fields, read_said}
+use Rattle.command_forms.proofs.Values.{put}
 
 -- ---- results
 

@@ -1,9 +1,9 @@
 -- A command's written form reads back.
-use Rattle.std.proofs.Common.{◌≡◌, ℕ, ◌+◌, ◌<◌, Bool, true, false, cond, List, [], ◌∷◌, ◌++◌, length, drop, map, All, Option, Some, None, Result, Ok, Err, IsTrue, refl, sym, ap, ◌∙◌, arith, decimal, inl, inr, nat_eq, codes}
+use Rattle.std.proofs.Common.{◌≡◌, ℕ, ◌+◌, Bool, true, false, cond, List, [], ◌∷◌, ◌++◌, length, drop, map, All, Option, Some, None, Result, Ok, Err, IsTrue, refl, sym, ap, ◌∙◌, arith, decimal, inl, inr, nat_eq, codes}
 use Rattle.std.specs.Prelude.{◌==◌, IfSome, is_some, find, fold, max, ok_or, option_map, if◌then◌else◌}
-use Rattle.std.specs.List.{after_first, common_prefix_len, cons_option, join_with_byte}
+use Rattle.std.specs.List.{after_first, common_prefix_len, cons_option}
 use Rattle.std.proofs.lemmas.Bool.{cases_Bool, cond-true, cond-false, false≢true, true≢false, ne_eqb}
-use Rattle.std.proofs.lemmas.List.Elements.{All-head, All-tail, All-append}
+use Rattle.std.proofs.lemmas.List.Elements.{All-head, All-tail}
 use Rattle.std.proofs.lemmas.Option.{none-some, IfSome_then}
 use Rattle.mls_range.specs.RangeText.{range_text}
 use Rattle.mls_range.specs.Computed.{range_of_text}
@@ -15,9 +15,9 @@ use Rattle.address_text.specs.Prefix.{block_of_text, prefix_text}
 use Rattle.address_text.proofs.Law.{address_texts_compute, written_address_reads_back, written_prefix_reads_back}
 use Rattle.script_lines.specs.declared.stop.ScriptKind.TheVariants as Kind
 use Rattle.script_lines.specs.declared.stop.LineStop.{LineStop}
-use Rattle.script_lines.specs.Word.{LineWord, placed, is_word_text, words_of_line}
+use Rattle.script_lines.specs.Octet.{is_blank}
+use Rattle.script_lines.specs.Word.{LineWord, placed, words_of_line}
 use Rattle.script_lines.specs.Stop.{fault, and_next}
-use Rattle.script_lines.proofs.Law.{joined_words_read_back}
 use Rattle.command_values.specs.Doi.{doi_of_text}
 use Rattle.command_values.specs.List.{list_of_text, list_text}
 use Rattle.command_values.specs.Pairs.{pair_of_text, pair_text}
@@ -35,12 +35,13 @@ use Rattle.command_forms.specs.declared.said.Said.{Said}
 use Rattle.command_forms.specs.declared.command.Command.{Command}
 use Rattle.command_forms.specs.declared.command.Command.TheVariants as Is
 use Rattle.command_forms.specs.Form.{with_translations, form_of, line_rows, is_key}
-use Rattle.command_forms.specs.Fields.{no_fields, is_given, is_default, key_by, named_or_default, put, text_or_none, value_text, with_value, word_of}
-use Rattle.command_forms.specs.Said.{is_spelled, shared_words, fits_row, unfit_or_missing, read_row, key_of, slot_of, with_parameter, with_word, with_words, is_complete, read_fields, read_said}
+use Rattle.command_forms.specs.Fields.{no_fields, is_given, is_default, key_by, text_or_none, value_text, with_value}
+use Rattle.command_forms.specs.Said.{is_spelled, shared_words, unfit_or_missing, read_row, key_of, slot_of, with_parameter, with_word, with_words, is_complete, read_fields, read_said}
 use Rattle.command_forms.specs.Command.{IsValue, IsCommand, said_of, texts_of_said, command_text}
+use Rattle.command_forms.proofs.Values.{put}
 use Rattle.command_forms.proofs.Joined.{given_words}
 use Rattle.command_forms.proofs.Apart.{FindsKeys, keys_found}
-use Rattle.command_forms.proofs.Dark.{given_are_words, fixed_are_words}
+use Rattle.command_forms.proofs.Dark.{written_words}
 
 -- ---- one parameter
 
@@ -307,8 +308,8 @@ unfolding end_of
 drop_placed place [] more = refl
 drop_placed place (text ∷ front) more = drop_placed (place + length text + 1) front more
 
-said_back : (led : Bool) (end : ℕ) (command : Command) → IsCommand command → read_said with_translations (line_rows led with_translations) end (placed 0 (texts_of_said (said_of command))) ≡ Ok (said_of command)
-said_back led end command is =
+said_back : (led : Bool) (end place : ℕ) (command : Command) → IsCommand command → read_said with_translations (line_rows led with_translations) end (placed place (texts_of_said (said_of command))) ≡ Ok (said_of command)
+said_back led end place command is =
     let said = said_of command in
     let row = said.row in
     let fields = said.fields in
@@ -316,27 +317,23 @@ said_back led end command is =
     let slots = (form_of with_translations row).slots in
     let rows = line_rows led with_translations in
     let more = given_words slots fields in
-    let words = placed 0 (fixed ++ more) in
+    let words = placed place (fixed ++ more) in
     let stop = unfit_or_missing end (drop (fold max 0 (map (shared_words with_translations words) rows)) words) in
     let missing : LineStop = fault end Kind.Missing in
     let done : Fields → Result Fields LineStop = λ f. cond (is_complete slots f) (Ok f) (Err missing) in
     let made : Row → Fields → Result Said LineStop = λ r f. Ok (record { row = r; fields = f }) in
     let goes : Row → Result Said LineStop = λ r. and_next (read_fields with_translations (form_of with_translations r).slots end (drop (length (form_of with_translations r).fixed) words)) (made r) in
     let w = whole command in
-    let read_texts = texts_placed 0 (fixed ++ more) in
+    let read_texts = texts_placed place (fixed ++ more) in
     let row_read : read_row with_translations rows end words ≡ Ok row =
     (λ i. ok_or (find (λ r. nat_eq (common_prefix_len is_spelled (form_of with_translations r).fixed (read_texts i)) (length (form_of with_translations r).fixed)) rows) stop)
     ∙ ap (λ o. ok_or o stop) (row_found led command more) in
-    let all_read = words_back slots slots (end_of 0 fixed) fields no_fields (keys_found with_translations row) is w.fresh in
+    let all_read = words_back slots slots (end_of place fixed) fields no_fields (keys_found with_translations row) is w.fresh in
     let fields_read : read_fields with_translations slots end (drop (length fixed) words) ≡ Ok fields =
-    ap (λ ws. and_next (with_words with_translations slots ws no_fields) done) (drop_placed 0 fixed more) ∙ ap (λ r. and_next r done) (all_read ∙ ap Ok w.same) ∙ cond-true (is_complete slots fields) (Ok fields) (Err missing) w.complete in
+    ap (λ ws. and_next (with_words with_translations slots ws no_fields) done) (drop_placed place fixed more) ∙ ap (λ r. and_next r done) (all_read ∙ ap Ok w.same) ∙ cond-true (is_complete slots fields) (Ok fields) (Err missing) w.complete in
     ap (λ r. and_next r goes) row_read ∙ ap (λ r. and_next r (made row)) fields_read
 
-pub written_back : (led : Bool) (end : ℕ) (command : Command) → IsCommand command → read_said with_translations (line_rows led with_translations) end (words_of_line (command_text command)) ≡ Ok (said_of command)
-written_back led end command is =
-    let said = said_of command in
-    let fixed = (form_of with_translations said.row).fixed in
-    let slots = (form_of with_translations said.row).slots in
-    let W : List ℕ → Type 0 = λ text. IsTrue (is_word_text text) in
-    let words = joined_words_read_back (texts_of_said said) (All-append W fixed (given_words slots said.fields) (fixed_are_words said.row) (given_are_words slots said.fields is)) in
-    ap (read_said with_translations (line_rows led with_translations) end) words ∙ said_back led end command is
+pub written_back : (led : Bool) (end : ℕ) (blanks : List ℕ) (command : Command) → All (λ octet. IsTrue (is_blank octet)) blanks → IsCommand command
+    → read_said with_translations (line_rows led with_translations) end (words_of_line (blanks ++ command_text command)) ≡ Ok (said_of command)
+written_back led end blanks command in_front is =
+    ap (read_said with_translations (line_rows led with_translations) end) (written_words blanks command in_front is) ∙ said_back led end (length blanks) command is

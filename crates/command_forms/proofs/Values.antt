@@ -1,12 +1,16 @@
 -- Values of parameters, one by one.
-use Rattle.std.proofs.Common.{◌≡◌, Bool, true, false, Option, Some, None}
-use Rattle.std.specs.Prelude.{IfSome, is_some}
+use Rattle.std.proofs.Common.{◌≡◌, false, Option, Some, None}
+use Rattle.std.specs.Prelude.{IfSome, is_some, if◌then◌else◌}
 use Rattle.std.proofs.lemmas.Bool.{true≢false}
 use Rattle.command_forms.specs.declared.form.Parameter.{Parameter}
 use Rattle.command_forms.specs.declared.form.Parameter.TheVariants.{Doi, Tags, Levels, Categories, Domain, Interface, Prefix, Protocol, Label, Address, Home, Level, Range, Four, Six, ReadingLevels, ReadingCategories}
 use Rattle.command_forms.specs.declared.fields.Fields.{Fields}
 use Rattle.command_forms.specs.Fields.{is_given}
 use Rattle.command_forms.specs.Command.{IsValue}
+
+-- the fields with a value in its place, if there is one
+abbrev pub put : {X : Type 0} → Option X → (Option X → Fields) → Option Fields
+put value place = if is_some value then Some (place value) else None
 
 none_there : {X : Type 0} (value : Option X) (P : X → Type 0) → is_some value ≡ false → IfSome value P
 none_there None P none = tt

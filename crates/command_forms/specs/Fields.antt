@@ -1,12 +1,11 @@
 -- The values of a line's parameters: how they are read and written.
-use Rattle.std.specs.Prelude.{ℕ, ◌<◌, ◌≤◌, ◌^◌, Bool, true, false, List, [], ◌++◌, length, codes, Option, Some, None, option_map, is_some, IsTrue, IfSome, if◌then◌else◌}
+use Rattle.std.specs.Prelude.{ℕ, Bool, true, false, List, [], ◌++◌, codes, Option, Some, None, option_map, is_some, if◌then◌else◌}
 use Rattle.std.specs.Fmt.{decimal}
 use Rattle.std.specs.Option.{option_map_or}
 use Rattle.std.specs.Str.{bytes_eq}
 use Rattle.mls_range.specs.Range.{LabelRange}
 use Rattle.mls_range.specs.RangeText.{range_text}
 use Rattle.mls_range.specs.Computed.{label_of_text, lone_range, range_of_text}
-use Rattle.domain_map.specs.declared.protocol.Protocol.TheVariants as Map
 use Rattle.address_text.specs.declared.address.Address.TheVariants.{V4, V6}
 use Rattle.address_text.specs.Address.{address_of_text, address_text}
 use Rattle.address_text.specs.Name.{name_of_text}
@@ -77,29 +76,29 @@ abbrev pub receiver_by : Edition → List ℕ → Option LabelRange
 receiver_by with_labels text = option_map range_below (label_of_text text)
 receiver_by edition text = receiver_range_of_text text
 
--- the fields with a value in its place, if there is one
-abbrev pub put : {X : Type 0} → Option X → (Option X → Fields) → Option Fields
-put value place = if is_some value then Some (place value) else None
+-- the fields with what a parameter's word says behind its key, or with none where that isn't in the parameter's form
+abbrev pub fields_with : Edition → Parameter → List ℕ → List ℕ → Fields → Fields
+fields_with edition Doi key text fields = record fields { doi = doi_of_text text }
+fields_with edition Tags key text fields = record fields { tags = tags_of_text text }
+fields_with edition Levels key text fields = record fields { levels = list_of_text (pair_of_text 255 255) text }
+fields_with edition Categories key text fields = record fields { categories = list_of_text (pair_of_text 65534 65534) text }
+fields_with edition Domain key text fields = record fields { domain = named_or_default key text }
+fields_with edition Interface key text fields = record fields { interface = named_or_default key text }
+fields_with edition Prefix key text fields = record fields { prefix = block_of_text text }
+fields_with edition Protocol key text fields = record fields { protocol = map_protocol_of_text text }
+fields_with edition Label key text fields = record fields { label = static_by edition text }
+fields_with edition Address key text fields = record fields { address = address_of_text text }
+fields_with edition Home key text fields = record fields { home = name_of_text text }
+fields_with edition Level key text fields = record fields { level = receiver_by edition text }
+fields_with edition Range key text fields = record fields { range = range_of_text text }
+fields_with edition Four key text fields = record fields { four = four_of_text text }
+fields_with edition Six key text fields = record fields { six = sixteen_of_text text }
+fields_with edition ReadingLevels key text fields = record fields { reading_levels = list_of_text (pair_of_text 255 4294967295) text }
+fields_with edition ReadingCategories key text fields = record fields { reading_categories = list_of_text (pair_of_text 65534 4294967295) text }
 
--- the fields with what a parameter's word says behind its key, if that is in the parameter's form
+-- those fields, if the parameter came so
 abbrev pub with_value : Edition → Parameter → List ℕ → List ℕ → Fields → Option Fields
-with_value edition Doi key text fields = put (doi_of_text text) (λ v. record fields { doi = v })
-with_value edition Tags key text fields = put (tags_of_text text) (λ v. record fields { tags = v })
-with_value edition Levels key text fields = put (list_of_text (pair_of_text 255 255) text) (λ v. record fields { levels = v })
-with_value edition Categories key text fields = put (list_of_text (pair_of_text 65534 65534) text) (λ v. record fields { categories = v })
-with_value edition Domain key text fields = put (named_or_default key text) (λ v. record fields { domain = v })
-with_value edition Interface key text fields = put (named_or_default key text) (λ v. record fields { interface = v })
-with_value edition Prefix key text fields = put (block_of_text text) (λ v. record fields { prefix = v })
-with_value edition Protocol key text fields = put (map_protocol_of_text text) (λ v. record fields { protocol = v })
-with_value edition Label key text fields = put (static_by edition text) (λ v. record fields { label = v })
-with_value edition Address key text fields = put (address_of_text text) (λ v. record fields { address = v })
-with_value edition Home key text fields = put (name_of_text text) (λ v. record fields { home = v })
-with_value edition Level key text fields = put (receiver_by edition text) (λ v. record fields { level = v })
-with_value edition Range key text fields = put (range_of_text text) (λ v. record fields { range = v })
-with_value edition Four key text fields = put (four_of_text text) (λ v. record fields { four = v })
-with_value edition Six key text fields = put (sixteen_of_text text) (λ v. record fields { six = v })
-with_value edition ReadingLevels key text fields = put (list_of_text (pair_of_text 255 4294967295) text) (λ v. record fields { reading_levels = v })
-with_value edition ReadingCategories key text fields = put (list_of_text (pair_of_text 65534 4294967295) text) (λ v. record fields { reading_categories = v })
+with_value edition parameter key text fields = let read = fields_with edition parameter key text fields in if is_given parameter read then Some read else None
 
 -- the text of a value, or nothing where there is none
 abbrev pub text_or_none : {X : Type 0} → (X → List ℕ) → Option X → List ℕ

@@ -1,5 +1,5 @@
 -- What a line says: its words, one by one, against the table of forms.
-use Rattle.std.specs.Prelude.{ℕ, ◌+◌, ◌==◌, Bool, true, false, not, ◌&&◌, ◌||◌, nat_eq, max, List, [], ◌∷◌, length, map, fold, take, drop, find, codes, Option, Some, None, ok_or, Result, Ok, Err, if◌then◌else◌}
+use Rattle.std.specs.Prelude.{ℕ, ◌+◌, ◌==◌, Bool, true, false, not, ◌&&◌, ◌||◌, nat_eq, max, List, [], ◌∷◌, length, map, fold, take, drop, find, codes, Option, ok_or, Result, Ok, Err, if◌then◌else◌}
 use Rattle.std.specs.List.{after_first, common_prefix_len, list_all, list_any, position_or_len}
 use Rattle.std.specs.Str.{bytes_eq}
 use Rattle.script_lines.specs.declared.stop.ScriptKind.TheVariants.{Word, Value, Extra, Missing}

@@ -126,89 +126,72 @@ pub struct Step {
 }
 
 /// The command that a row's parameters make, or `None` where one that must be there isn't. A reading line is no command.
-pub fn command_of(row: Row, fields: Fields) -> Option<Command>
+pub fn command_of(row: Row, mut fields: Fields) -> Option<Command>
     ensures { result ≡ command_of row fields }
 {
-    let Fields {
-        doi,
-        tags,
-        levels,
-        categories,
-        domain,
-        interface,
-        prefix,
-        protocol,
-        label,
-        address,
-        home,
-        level,
-        range,
-        four,
-        six,
-        reading_levels: _,
-        reading_categories: _,
-    } = fields;
     let command = match row {
         Row::CipsoAddPass => Command::CipsoAddPass {
-            doi: doi?,
-            tags: tags?,
+            doi: fields.doi?,
+            tags: fields.tags.take()?,
         },
         Row::CipsoAddTrans => Command::CipsoAddTrans {
-            doi: doi?,
-            tags: tags?,
-            levels: levels?,
-            categories,
+            doi: fields.doi?,
+            tags: fields.tags.take()?,
+            levels: fields.levels.take()?,
+            categories: fields.categories.take(),
         },
-        Row::CalipsoAddPass => Command::CalipsoAddPass { doi: doi? },
+        Row::CalipsoAddPass => Command::CalipsoAddPass { doi: fields.doi? },
         Row::CalipsoAddTrans => Command::CalipsoAddTrans {
-            doi: doi?,
-            levels: levels?,
-            categories,
+            doi: fields.doi?,
+            levels: fields.levels.take()?,
+            categories: fields.categories.take(),
         },
-        Row::CipsoDel => Command::CipsoDel { doi: doi? },
-        Row::CalipsoDel => Command::CalipsoDel { doi: doi? },
-        Row::CipsoList => Command::CipsoList { doi },
-        Row::CalipsoList => Command::CalipsoList { doi },
+        Row::CipsoDel => Command::CipsoDel { doi: fields.doi? },
+        Row::CalipsoDel => Command::CalipsoDel { doi: fields.doi? },
+        Row::CipsoList => Command::CipsoList { doi: fields.doi },
+        Row::CalipsoList => Command::CalipsoList { doi: fields.doi },
         Row::MapAdd => Command::MapAdd {
-            domain: domain?,
-            prefix,
-            protocol: protocol?,
+            protocol: fields.protocol?,
+            prefix: fields.prefix,
+            domain: fields.domain.take()?,
         },
         Row::MapDel => Command::MapDel {
-            domain: domain?,
-            prefix,
+            prefix: fields.prefix,
+            domain: fields.domain.take()?,
         },
         Row::MapList => Command::MapList,
         Row::AcceptOn => Command::AcceptOn,
         Row::AcceptOff => Command::AcceptOff,
         Row::UnlblAdd => Command::UnlblAdd {
-            interface: interface?,
-            prefix: prefix?,
-            range: label?,
+            prefix: fields.prefix?,
+            interface: fields.interface.take()?,
+            range: fields.label.take()?,
         },
         Row::UnlblDel => Command::UnlblDel {
-            interface: interface?,
-            prefix: prefix?,
+            prefix: fields.prefix?,
+            interface: fields.interface.take()?,
         },
         Row::UnlblList => Command::UnlblList,
         Row::ReceiverAdd => Command::ReceiverAdd {
-            address: address?,
-            domain: home?,
-            range: level?,
+            address: fields.address?,
+            domain: fields.home.take()?,
+            range: fields.level.take()?,
         },
-        Row::ReceiverDel => Command::ReceiverDel { address: address? },
+        Row::ReceiverDel => Command::ReceiverDel {
+            address: fields.address?,
+        },
         Row::RangeAdd => Command::RangeAdd {
-            interface: interface?,
-            range: range?,
+            interface: fields.interface.take()?,
+            range: fields.range.take()?,
         },
         Row::RangeDel => Command::RangeDel {
-            interface: interface?,
+            interface: fields.interface.take()?,
         },
         Row::PairAdd => Command::PairAdd {
-            four: four?,
-            six: six?,
+            four: fields.four?,
+            six: fields.six?,
         },
-        Row::PairDel => Command::PairDel { four: four? },
+        Row::PairDel => Command::PairDel { four: fields.four? },
         Row::MgmtVersion => Command::MgmtVersion,
         Row::MgmtProtocols => Command::MgmtProtocols,
         Row::Reading => return None,
@@ -253,118 +236,100 @@ impl Command {
     pub(crate) fn shown(&self) -> Shown<'_>
         ensures { result ≡ (said_of self.now).fields }
     {
-        let none = Shown::none();
+        let mut shown = Shown::none();
         match self {
-            Command::CipsoAddPass { doi, tags } => Shown {
-                doi: Some(*doi),
-                tags: Some(tags),
-                ..none
-            },
+            Command::CipsoAddPass { doi, tags } => {
+                shown.doi = Some(*doi);
+                shown.tags = Some(tags);
+            }
             Command::CipsoAddTrans {
                 doi,
                 tags,
                 levels,
                 categories,
-            } => Shown {
-                doi: Some(*doi),
-                tags: Some(tags),
-                levels: Some(levels),
-                categories: categories.as_ref(),
-                ..none
-            },
-            Command::CalipsoAddPass { doi } => Shown {
-                doi: Some(*doi),
-                ..none
-            },
+            } => {
+                shown.doi = Some(*doi);
+                shown.tags = Some(tags);
+                shown.levels = Some(levels);
+                shown.categories = categories.as_ref();
+            }
             Command::CalipsoAddTrans {
                 doi,
                 levels,
                 categories,
-            } => Shown {
-                doi: Some(*doi),
-                levels: Some(levels),
-                categories: categories.as_ref(),
-                ..none
-            },
-            Command::CipsoDel { doi } => Shown {
-                doi: Some(*doi),
-                ..none
-            },
-            Command::CalipsoDel { doi } => Shown {
-                doi: Some(*doi),
-                ..none
-            },
-            Command::CipsoList { doi } => Shown { doi: *doi, ..none },
-            Command::CalipsoList { doi } => Shown { doi: *doi, ..none },
+            } => {
+                shown.doi = Some(*doi);
+                shown.levels = Some(levels);
+                shown.categories = categories.as_ref();
+            }
+            Command::CalipsoAddPass { doi }
+            | Command::CipsoDel { doi }
+            | Command::CalipsoDel { doi } => {
+                shown.doi = Some(*doi);
+            }
+            Command::CipsoList { doi } | Command::CalipsoList { doi } => {
+                shown.doi = *doi;
+            }
             Command::MapAdd {
                 domain,
                 prefix,
                 protocol,
-            } => Shown {
-                domain: Some(domain.as_ref()),
-                prefix: *prefix,
-                protocol: Some(*protocol),
-                ..none
-            },
-            Command::MapDel { domain, prefix } => Shown {
-                domain: Some(domain.as_ref()),
-                prefix: *prefix,
-                ..none
-            },
-            Command::MapList => none,
-            Command::AcceptOn => none,
-            Command::AcceptOff => none,
+            } => {
+                shown.domain = Some(domain.as_ref());
+                shown.prefix = *prefix;
+                shown.protocol = Some(*protocol);
+            }
+            Command::MapDel { domain, prefix } => {
+                shown.domain = Some(domain.as_ref());
+                shown.prefix = *prefix;
+            }
             Command::UnlblAdd {
                 interface,
                 prefix,
                 range,
-            } => Shown {
-                interface: Some(interface.as_ref()),
-                prefix: Some(*prefix),
-                label: Some(range),
-                ..none
-            },
-            Command::UnlblDel { interface, prefix } => Shown {
-                interface: Some(interface.as_ref()),
-                prefix: Some(*prefix),
-                ..none
-            },
-            Command::UnlblList => none,
+            } => {
+                shown.interface = Some(interface.as_ref());
+                shown.prefix = Some(*prefix);
+                shown.label = Some(range);
+            }
+            Command::UnlblDel { interface, prefix } => {
+                shown.interface = Some(interface.as_ref());
+                shown.prefix = Some(*prefix);
+            }
             Command::ReceiverAdd {
                 address,
                 domain,
                 range,
-            } => Shown {
-                address: Some(*address),
-                home: Some(domain),
-                level: Some(range),
-                ..none
-            },
-            Command::ReceiverDel { address } => Shown {
-                address: Some(*address),
-                ..none
-            },
-            Command::RangeAdd { interface, range } => Shown {
-                interface: Some(interface.as_ref()),
-                range: Some(range),
-                ..none
-            },
-            Command::RangeDel { interface } => Shown {
-                interface: Some(interface.as_ref()),
-                ..none
-            },
-            Command::PairAdd { four, six } => Shown {
-                four: Some(*four),
-                six: Some(*six),
-                ..none
-            },
-            Command::PairDel { four } => Shown {
-                four: Some(*four),
-                ..none
-            },
-            Command::MgmtVersion => none,
-            Command::MgmtProtocols => none,
+            } => {
+                shown.address = Some(*address);
+                shown.home = Some(domain);
+                shown.level = Some(range);
+            }
+            Command::ReceiverDel { address } => {
+                shown.address = Some(*address);
+            }
+            Command::RangeAdd { interface, range } => {
+                shown.interface = Some(interface.as_ref());
+                shown.range = Some(range);
+            }
+            Command::RangeDel { interface } => {
+                shown.interface = Some(interface.as_ref());
+            }
+            Command::PairAdd { four, six } => {
+                shown.four = Some(*four);
+                shown.six = Some(*six);
+            }
+            Command::PairDel { four } => {
+                shown.four = Some(*four);
+            }
+            Command::MapList
+            | Command::AcceptOn
+            | Command::AcceptOff
+            | Command::UnlblList
+            | Command::MgmtVersion
+            | Command::MgmtProtocols => {}
         }
+        shown
     }
 
     /// A copy.

@@ -1,9 +1,9 @@
 //! The values of a line's parameters.
 
-ghost use Rattle.std.specs.Prelude.{◌≡◌, None, Some, IfOk, if◌then◌else◌};
+ghost use Rattle.std.specs.Prelude.{◌≡◌, None, Some, IfOk, OnOk, if◌then◌else◌};
 ghost use Rattle.mls_range.specs.Computed.{range_of_text};
 ghost use Rattle.command_forms.specs.Form.{with_translations};
-ghost use Rattle.command_forms.specs.Fields.{no_fields, is_given, named_or_default, with_value};
+ghost use Rattle.command_forms.specs.Fields.{no_fields, is_given, fields_with, named_or_default, with_value};
 
 use crate::form::Parameter;
 use address_text::{Address, Name, Prefix, read_address, read_name, read_prefix};
@@ -102,76 +102,42 @@ impl Fields {
     ) -> Result<bool, OutOfMemory>
         ensures { IfOk result (λ read. (if read then Some self.new else None) ≡ with_value with_translations parameter key.now text.now self.old) }
     {
+        self.fill(alloc, parameter, key, text)?;
+        Ok(self.has(parameter))
+    }
+
+    /// Puts what a parameter's word says behind its key in its place, or none where that isn't in the parameter's form.
+    fn fill(
+        &mut self,
+        alloc: Global,
+        parameter: Parameter,
+        key: &[u8],
+        text: &[u8],
+    ) -> Result<(), OutOfMemory>
+        ensures { OnOk result (self.new ≡ fields_with with_translations parameter key.now text.now self.old) }
+    {
         match parameter {
-            Parameter::Doi => {
-                self.doi = read_doi(text);
-                Ok(self.doi.is_some())
-            }
-            Parameter::Tags => {
-                self.tags = Tags::read(alloc, text)?;
-                Ok(self.tags.is_some())
-            }
-            Parameter::Levels => {
-                self.levels = CommaList::read(alloc, text)?;
-                Ok(self.levels.is_some())
-            }
-            Parameter::Categories => {
-                self.categories = CommaList::read(alloc, text)?;
-                Ok(self.categories.is_some())
-            }
-            Parameter::Domain => {
-                self.domain = read_named(key, text);
-                Ok(self.domain.is_some())
-            }
-            Parameter::Interface => {
-                self.interface = read_named(key, text);
-                Ok(self.interface.is_some())
-            }
-            Parameter::Prefix => {
-                self.prefix = read_prefix(text);
-                Ok(self.prefix.is_some())
-            }
-            Parameter::Protocol => {
-                self.protocol = read_map_protocol(text);
-                Ok(self.protocol.is_some())
-            }
-            Parameter::Label => {
-                self.label = read_static_range(alloc, text)?;
-                Ok(self.label.is_some())
-            }
-            Parameter::Address => {
-                self.address = read_address(text);
-                Ok(self.address.is_some())
-            }
-            Parameter::Home => {
-                self.home = read_name(text);
-                Ok(self.home.is_some())
-            }
-            Parameter::Level => {
-                self.level = read_receiver_range(alloc, text)?;
-                Ok(self.level.is_some())
-            }
-            Parameter::Range => {
-                self.range = read_kept_range(alloc, text)?;
-                Ok(self.range.is_some())
-            }
-            Parameter::Four => {
-                self.four = read_four(text);
-                Ok(self.four.is_some())
-            }
-            Parameter::Six => {
-                self.six = read_six(text);
-                Ok(self.six.is_some())
-            }
-            Parameter::ReadingLevels => {
-                self.reading_levels = CommaList::read(alloc, text)?;
-                Ok(self.reading_levels.is_some())
-            }
+            Parameter::Doi => self.doi = read_doi(text),
+            Parameter::Tags => self.tags = Tags::read(alloc, text)?,
+            Parameter::Levels => self.levels = CommaList::read(alloc, text)?,
+            Parameter::Categories => self.categories = CommaList::read(alloc, text)?,
+            Parameter::Domain => self.domain = read_named(key, text),
+            Parameter::Interface => self.interface = read_named(key, text),
+            Parameter::Prefix => self.prefix = read_prefix(text),
+            Parameter::Protocol => self.protocol = read_map_protocol(text),
+            Parameter::Label => self.label = read_static_range(alloc, text)?,
+            Parameter::Address => self.address = read_address(text),
+            Parameter::Home => self.home = read_name(text),
+            Parameter::Level => self.level = read_receiver_range(alloc, text)?,
+            Parameter::Range => self.range = read_kept_range(alloc, text)?,
+            Parameter::Four => self.four = read_four(text),
+            Parameter::Six => self.six = read_six(text),
+            Parameter::ReadingLevels => self.reading_levels = CommaList::read(alloc, text)?,
             Parameter::ReadingCategories => {
                 self.reading_categories = CommaList::read(alloc, text)?;
-                Ok(self.reading_categories.is_some())
             }
         }
+        Ok(())
     }
 }
 

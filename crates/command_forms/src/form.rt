@@ -230,35 +230,7 @@ impl Row {
     }
 }
 
-/// The rows of commands.
-const COMMAND_ROWS: [Row; 24] = [
-    Row::CipsoAddPass,
-    Row::CipsoAddTrans,
-    Row::CalipsoAddPass,
-    Row::CipsoDel,
-    Row::CalipsoDel,
-    Row::CipsoList,
-    Row::CalipsoList,
-    Row::MapAdd,
-    Row::MapDel,
-    Row::MapList,
-    Row::AcceptOn,
-    Row::AcceptOff,
-    Row::UnlblAdd,
-    Row::UnlblDel,
-    Row::UnlblList,
-    Row::ReceiverAdd,
-    Row::ReceiverDel,
-    Row::RangeAdd,
-    Row::RangeDel,
-    Row::PairAdd,
-    Row::PairDel,
-    Row::MgmtVersion,
-    Row::MgmtProtocols,
-    Row::CalipsoAddTrans,
-];
-
-/// The same, and the row of reading lines.
+/// The row of reading lines, and those of commands.
 const LINE_ROWS: [Row; 25] = [
     Row::Reading,
     Row::CipsoAddPass,
@@ -291,7 +263,7 @@ const LINE_ROWS: [Row; 25] = [
 pub(crate) fn line_rows(led: bool) -> &'static [Row]
     ensures { result.now ≡ line_rows led with_translations }
 {
-    if led { &COMMAND_ROWS } else { &LINE_ROWS }
+    if led { &LINE_ROWS[1..] } else { &LINE_ROWS }
 }
 
 impl Parameter {

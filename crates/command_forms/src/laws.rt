@@ -1,8 +1,9 @@
 //! What the definitions say of each other: the table has one reading, written commands read back, and what an edition reads, the next
 //! one reads alike.
 
-ghost use Rattle.std.specs.Prelude.{◌≡◌, ◌≢◌, ℕ, Bool, List, All, Ok, Some, IsSome, IsTrue};
-ghost use Rattle.script_lines.specs.Word.{LineWord, words_of_line};
+ghost use Rattle.std.specs.Prelude.{◌≡◌, ◌≢◌, ℕ, Bool, List, ◌++◌, length, All, Ok, Some, IsSome, IsTrue};
+ghost use Rattle.script_lines.specs.Octet.{is_blank, is_plain};
+ghost use Rattle.script_lines.specs.Word.{LineWord, placed, words_of_line};
 ghost use Rattle.command_forms.specs.declared.form.Row.{Row as TableRow};
 ghost use Rattle.command_forms.specs.declared.form.Row.TheVariants.{Reading as ReadingRow};
 ghost use Rattle.command_forms.specs.declared.fields.Fields.{Fields as Given};
@@ -10,7 +11,7 @@ ghost use Rattle.command_forms.specs.declared.said.Said.{Said as LineSays};
 ghost use Rattle.command_forms.specs.declared.command.Command.{Command as NodeCommand};
 ghost use Rattle.command_forms.specs.Form.{Edition, with_labels, with_ranges, with_translations, form_of, line_rows, is_key};
 ghost use Rattle.command_forms.specs.Said.{are_apart, slot_of, is_complete, read_said};
-ghost use Rattle.command_forms.specs.Command.{command_of, said_of, command_text, IsCommand};
+ghost use Rattle.command_forms.specs.Command.{command_of, said_of, texts_of_said, command_text, IsCommand};
 
 /// Of no two rows the fixed words of one begin those of the other, so a line is of one row at most.
 pub fn forms_are_apart()
@@ -34,11 +35,23 @@ pub fn commands_are_what_they_say()
     ensures { (command : NodeCommand) → command_of (said_of command).row (said_of command).fields ≡ Some command }
 {}
 
-/// The words of a command's written form say that command, also behind `netlabelctl`.
+/// The words of a command's written form say that command, also behind blanks, and behind `netlabelctl`.
 pub fn written_command_reads_back()
-    ensures { (led : Bool) (end : ℕ) (command : NodeCommand) → IsCommand command
-        → read_said with_translations (line_rows led with_translations) end (words_of_line (command_text command))
+    ensures { (led : Bool) (end : ℕ) (blanks : List ℕ) (command : NodeCommand)
+        → All (λ octet. IsTrue (is_blank octet)) blanks → IsCommand command
+        → read_said with_translations (line_rows led with_translations) end (words_of_line (blanks ++ command_text command))
         ≡ Ok (said_of command) }
+{}
+
+/// A command's written form is of octets that a line may hold, so it has no LF.
+pub fn written_command_is_plain()
+    ensures { (command : NodeCommand) → IsCommand command → All (λ octet. IsTrue (is_plain octet)) (command_text command) }
+{}
+
+/// Its words are the row's fixed words and those of the parameters that are given, one octet apart, also behind blanks.
+pub fn written_command_has_its_words()
+    ensures { (blanks : List ℕ) (command : NodeCommand) → All (λ octet. IsTrue (is_blank octet)) blanks → IsCommand command
+        → words_of_line (blanks ++ command_text command) ≡ placed (length blanks) (texts_of_said (said_of command)) }
 {}
 
 /// What the first edition reads of a line's words, the one with ranges reads alike: a static entry's label as both ends, and a

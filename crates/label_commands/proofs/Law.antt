@@ -1,20 +1,27 @@
 -- The statements of the laws, as terms.
-use Rattle.std.proofs.Common.{◌≡◌, ℕ, Bool, true, false, cond, List, length, Result, Ok, Err, subst, ltb}
+use Rattle.std.proofs.Common.{◌≡◌, ℕ, ◌+◌, ◌≤◌, Bool, true, false, cond, List, [], ◌∷◌, ◌++◌, length, All, Result, Ok, Err, Some, subst, ltb}
+use Rattle.std.specs.Prelude.{fold, IsTrue}
+use Rattle.std.specs.List.{flat_map}
 use Rattle.std.specs.Str.Lines.{lines}
-use Rattle.script_lines.specs.declared.stop.LimitName.TheVariants.{Octets}
+use Rattle.script_lines.specs.declared.stop.LimitName.TheVariants.{Octets, Lines}
+use Rattle.script_lines.specs.Octet.{is_blank}
 use Rattle.command_forms.specs.Form.{Edition, with_labels, with_ranges, with_translations}
+use Rattle.command_forms.specs.declared.command.Command.{Command}
+use Rattle.command_forms.specs.Command.{command_text, IsCommand}
 use Rattle.command_forms.proofs.Law.{lines_with_labels_are_kept, lines_with_ranges_are_kept}
 use Rattle.label_commands.specs.declared.script.Script.{Script}
 use Rattle.label_commands.specs.declared.stop.ScriptFault.{ScriptFault}
 use Rattle.label_commands.specs.declared.stop.ScriptStop.{ScriptStop}
 use Rattle.label_commands.specs.declared.stop.ScriptStop.TheVariants as Stop
-use Rattle.label_commands.specs.Above.{Above, nothing_above}
+use Rattle.label_commands.specs.Above.{Above, nothing_above, with_step}
+use Rattle.label_commands.specs.Line.{limit_of, read_line}
 use Rattle.label_commands.specs.Script.{passed, read_lines, script_of, read_text, IsScript}
 use Rattle.label_commands.specs.Sound.{IsSoundScript, StandsInText}
 use Rattle.label_commands.proofs.Fine.{lines_sound}
 use Rattle.label_commands.proofs.Faults.{fault_stands}
 use Rattle.label_commands.proofs.Editions.{rows_kept, script_kept}
 use Rattle.label_commands.proofs.Texts.{text_went, text_fell}
+use Rattle.label_commands.proofs.Written.{command_line, command_step, listing_steps}
 
 pub scripts_are_sound : (edition : Edition) (own text : List ℕ) (script : Script) → IsScript edition own text script → IsSoundScript own script
 scripts_are_sound edition own text script e =
@@ -22,6 +29,20 @@ scripts_are_sound edition own text script e =
 
 pub faults_stand_in_the_text : (edition : Edition) (own text : List ℕ) (fault : ScriptFault) → read_text edition own text ≡ Err (Stop.Fault fault) → StandsInText (lines text) fault
 faults_stand_in_the_text edition own text fault e = fault_stands edition own (lines text) nothing_above fault (text_fell edition own text fault e)
+
+pub written_command_is_a_line : (blanks text : List ℕ) (command : Command) → All (λ octet. IsTrue (is_blank octet)) blanks → IsCommand command
+    → lines ((blanks ++ command_text command) ++ (10 ∷ text)) ≡ (blanks ++ command_text command) ∷ lines text
+written_command_is_a_line = command_line
+
+pub written_command_is_a_step : (own blanks : List ℕ) (above : Above) (node number : ℕ) (command : Command) → All (λ octet. IsTrue (is_blank octet)) blanks → IsCommand command
+    → above.current ≡ Some node → number ≤ limit_of Lines → read_line with_translations own above number (blanks ++ command_text command) ≡ Ok (with_step above node command)
+written_command_is_a_step = command_step
+
+pub written_listing_reads_back : (own blanks : List ℕ) (above : Above) (node number : ℕ) (commands : List Command) (text : List ℕ) → All (λ octet. IsTrue (is_blank octet)) blanks
+    → All IsCommand commands → above.current ≡ Some node → number + length commands ≤ limit_of Lines + 1
+    → read_lines with_translations own above number (lines (flat_map (λ command. (blanks ++ command_text command) ++ (10 ∷ [])) commands ++ text))
+    ≡ read_lines with_translations own (fold (λ before command. with_step before node command) above commands) (number + length commands) (lines text)
+written_listing_reads_back = listing_steps
 
 pub scripts_with_labels_are_kept : (own text : List ℕ) (script : Script) → IsScript with_labels own text script → IsScript with_ranges own text script
 scripts_with_labels_are_kept = script_kept with_labels with_ranges (rows_kept with_labels with_ranges lines_with_labels_are_kept)

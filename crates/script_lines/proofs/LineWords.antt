@@ -143,5 +143,20 @@ joined place (text ∷ next ∷ texts) all =
     words_split place text 32 (join_with_byte 32 (next ∷ texts)) (unblank text is) refl
     ∙ onto_is place text _ is ∙ ap (λ ws. word_at place text ∷ ws) rest
 
-pub words_joined : (texts : List (List ℕ)) → All (λ text. IsTrue (is_word_text text)) texts → words_of_line (join_with_byte 32 texts) ≡ placed 0 texts
-words_joined texts all = joined 0 texts all
+behind_blanks : (place : ℕ) (blanks text : List ℕ) → All (λ octet. IsTrue (is_blank octet)) blanks → words_from place (blanks ++ text) ≡ words_from (place + length blanks) text
+behind_blanks place [] text all = let same : place ≡ place + 0 = omega arith in ap (λ n. words_from n text) same
+behind_blanks place (blank ∷ blanks) text all =
+    let none : List ℕ = [] in
+    let next = place + length none + 1 in
+    let more = words_from next (blanks ++ text) in
+    let skips : onto_words (word_at place none) more ≡ more = refl in
+    let same : next + length blanks ≡ place + length (blank ∷ blanks) = omega arith in
+    words_split place none blank (blanks ++ text) (All-nil (λ c. is_blank c ≡ false)) (All-head (λ octet. IsTrue (is_blank octet)) blank blanks all)
+    ∙ skips ∙ behind_blanks next blanks text (All-tail (λ octet. IsTrue (is_blank octet)) blank blanks all) ∙ ap (λ n. words_from n text) same
+
+pub words_joined : (blanks : List ℕ) (texts : List (List ℕ)) → All (λ octet. IsTrue (is_blank octet)) blanks → All (λ text. IsTrue (is_word_text text)) texts
+    → words_of_line (blanks ++ join_with_byte 32 texts) ≡ placed (length blanks) texts
+words_joined blanks texts in_front all =
+    let line = join_with_byte 32 texts in
+    let same : 0 + length blanks ≡ length blanks = omega arith in
+    behind_blanks 0 blanks line in_front ∙ ap (λ n. words_from n line) same ∙ joined (length blanks) texts all

@@ -1,14 +1,15 @@
 -- The lines of a text, one by one.
-use Rattle.std.proofs.Common.{◌≡◌, ℕ, zero, suc, ◌+◌, ◌-◌, ◌<◌, ◌≤◌, Bool, true, false, List, [], ◌∷◌, length, take, drop, Option, Some, None, refl, ap, ◌∙◌, arith, All, ne_eqb}
-use Rattle.std.specs.Prelude.{◌==◌, if◌then◌else◌, slice_index}
+use Rattle.std.proofs.Common.{◌≡◌, ℕ, zero, suc, ◌+◌, ◌-◌, ◌<◌, ◌≤◌, Bool, true, false, List, [], ◌∷◌, ◌++◌, length, take, drop, Option, Some, None, refl, sym, ap, ◌∙◌, arith, All, ne_eqb}
+use Rattle.std.specs.Prelude.{◌==◌, if◌then◌else◌, slice_index, IsTrue}
 use Rattle.std.specs.List.{slice_split, position, list_any}
 use Rattle.std.specs.Str.Lines.{lines, lines_of_parts, strip_carriage_return}
-use Rattle.std.proofs.lemmas.Bool.{cond-false}
+use Rattle.std.proofs.lemmas.Bool.{cond-false, eqb-true, false_from_ne_true, false≢true}
 use Rattle.std.proofs.lemmas.Bool.Decides.{nat_tests}
 use Rattle.std.proofs.lemmas.List.{length-drop}
-use Rattle.std.proofs.lemmas.List.Splits.{slice_split_none, length-slice_split}
-use Rattle.std.proofs.lemmas.List.Elements.{All-nil, All-cons, All-same, All-take}
+use Rattle.std.proofs.lemmas.List.Splits.{slice_split_at, slice_split_none, length-slice_split}
+use Rattle.std.proofs.lemmas.List.Elements.{All-nil, All-cons, All-get_or, All-same, All-take, All-weaker}
 use Rattle.std.proofs.lemmas.List.Folds.{list_any_none}
+use Rattle.script_lines.specs.Octet.{is_plain}
 use Rattle.script_lines.proofs.Splits.{Cut, cut_at, none_passes, split_cut}
 
 abbrev pub is_feed : ℕ → Bool
@@ -62,3 +63,25 @@ lines_below (suc n) (c ∷ cs) le = one_more n (c ∷ cs) (position is_feed (c �
 
 pub lines_lack : (text : List ℕ) → All Lacks (lines text)
 lines_lack text = lines_below (length text) text (omega arith)
+
+-- ---- plain octets with LF behind them
+
+abbrev Plain : ℕ → Type 0
+Plain octet = IsTrue (is_plain octet)
+
+-- an octet that isn't plain isn't there
+differs : (unfit octet : ℕ) → is_plain unfit ≡ false → Plain octet → (octet == unfit) ≡ false
+differs unfit octet fails plain = false_from_ne_true (octet == unfit) λ same. false≢true (sym fails ∙ ap is_plain (sym (eqb-true octet unfit same)) ∙ plain)
+
+keeps_its_end : (line : List ℕ) → All Plain line → strip_carriage_return line ≡ line
+keeps_its_end [] plain = refl
+keeps_its_end (octet ∷ octets) plain =
+    let line = octet ∷ octets in
+    let last = length line - 1 in
+    cond-false (slice_index line last == 13) (take last line) line (differs 13 (slice_index line last) refl (All-get_or Plain line last 0 (omega arith) plain))
+
+pub plain_line : (line text : List ℕ) → All Plain line → lines (line ++ (10 ∷ text)) ≡ line ∷ lines text
+plain_line line text plain =
+    let parts = slice_split is_feed text in
+    ap lines_of_parts (slice_split_at is_feed line 10 text (All-weaker Plain (λ c. is_feed c ≡ false) (λ c is. differs 10 c refl is) line plain) refl)
+    ∙ onto_lines line parts (omega (arith, length-slice_split is_feed text)) ∙ ap (λ first. first ∷ lines text) (keeps_its_end line plain)

@@ -1,5 +1,5 @@
 -- A command's parameters as they are lent.
-use Rattle.std.specs.Prelude.{Option, Some, None, option_copied, option_map}
+use Rattle.std.specs.Prelude.{None, option_copied, option_map}
 use Rattle.command_forms.specs.declared.fields.Fields.{Fields}
 use Rattle.command_forms.specs.declared.shown.Shown.TheInside.{Inside}
 
