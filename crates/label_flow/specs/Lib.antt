@@ -4,3 +4,4 @@ pub mod Round
 pub mod Stops
 pub mod inside
 pub mod Schedule
+pub mod Walked

@@ -1,12 +1,13 @@
 //! What the definitions are worth, whatever the code does.
 
-ghost use Rattle.std.specs.Prelude.{◌≡◌, ℕ, ◌+◌, ◌≤◌, List, All, length};
+ghost use Rattle.std.specs.Prelude.{◌≡◌, ℕ, ◌+◌, ◌<◌, ◌≤◌, List, All, length, take};
 ghost use Rattle.flow_lines.specs.declared.hop.Hop.{Hop};
 ghost use Rattle.shared_tables.specs.Plan.{PlanState};
 ghost use Rattle.shared_tables.specs.Board.{ViewerState};
 ghost use Rattle.packet_walk.specs.declared.packet.PacketIn.{PacketIn};
 ghost use Rattle.label_flow.specs.Pair.{PairState};
 ghost use Rattle.label_flow.specs.Round.{IsRound};
+ghost use Rattle.label_flow.specs.Walked.{AreWalked};
 ghost use Rattle.label_flow.specs.Schedule.{FlowEvent, AreLawful, IsPlay, by_version, rows_by, versions_in};
 
 /// What a complete schedule gives is lawful: versions don't fall along a worker's packets.
@@ -28,4 +29,28 @@ pub fn rounds_are_lawful()
         → before ≤ length plan.steps → All (λ (v : ViewerState). (v.plan ≡ plan) × (v.seen ≡ before)) olds
         → IsRound hops 0 packets pairs olds news
         → AreLawful plan hops (length olds) before (length plan.steps) packets (versions_in pairs) }
+{}
+
+/// In a round each packet is walked, under versions of the plan.
+pub fn rounds_walk_each_packet()
+    ensures { (plan : PlanState) (hops : List Hop) (packets : List PacketIn) (pairs : List PairState) (olds news : List ViewerState)
+        → 0 < length olds → All (λ (v : ViewerState). v.plan ≡ plan) olds → IsRound hops 0 packets pairs olds news
+        → AreWalked plan hops packets pairs × All (λ (pair : PairState). All (λ v. v ≤ length plan.steps) pair.walked.versions) pairs }
+{}
+
+/// What is walked, and what is lawful, under the first m steps of a plan is so under the plan.
+pub fn flows_agree_on_a_beginning()
+    ensures walked { (plan : PlanState) (hops : List Hop) (m : ℕ) (packets : List PacketIn) (pairs : List PairState)
+        → All (λ (pair : PairState). All (λ v. v ≤ m) pair.walked.versions) pairs
+        → AreWalked (record plan { steps = take m plan.steps }) hops packets pairs → AreWalked plan hops packets pairs }
+    ensures lawful { (plan : PlanState) (hops : List Hop) (w before after m : ℕ) (packets : List PacketIn) (seen : List (List ℕ))
+        → after ≤ m → AreLawful (record plan { steps = take m plan.steps }) hops w before after packets seen
+        → AreLawful plan hops w before after packets seen }
+{}
+
+/// Under the same versions the same becomes of packets.
+pub fn walked_packets_are_determined()
+    ensures { (plan : PlanState) (hops : List Hop) (packets : List PacketIn) (pairs pairs' : List PairState)
+        → AreWalked plan hops packets pairs → AreWalked plan hops packets pairs'
+        → versions_in pairs ≡ versions_in pairs' → pairs ≡ pairs' }
 {}

@@ -1,2 +1,4 @@
 pub mod Lengths
 pub mod Walks
+pub mod OneWay
+pub mod Law

@@ -24,7 +24,7 @@ use Rattle.packet_walk.specs.Walk.{from_outside, from_hop, tables_of, hop_verdic
 use Rattle.packet_walk.specs.inside.Hop.{ReadsBack, HasJudged}
 use Rattle.packet_walk.specs.inside.Way.{Comes, HasWalked}
 
-one_read : (octets : List ℕ) (a b : Result (ParsedPacket Wire) CarryFault) → IsReadAs octets a → IsReadAs octets b → a ≡ b
+pub one_read : (octets : List ℕ) (a b : Result (ParsedPacket Wire) CarryFault) → IsReadAs octets a → IsReadAs octets b → a ≡ b
 one_read octets (Ok p) (Ok q) x y = ap Ok ((octets_are_a_packet_or_have_one_fault octets).one_packet p q x y)
 one_read octets (Err f) (Err g) x y = ap Err ((octets_are_a_packet_or_have_one_fault octets).one_fault f g x y)
 one_read octets (Ok p) (Err f) x y = absurd ((octets_are_a_packet_or_have_one_fault octets).not_both p f x y)

@@ -5,6 +5,7 @@
 
 mod gate;
 mod hop;
+pub mod laws;
 mod look;
 mod packet;
 mod room;

@@ -1,0 +1,14 @@
+-- What became of packets, one after the other, each by the walk under its own versions.
+use Rattle.std.specs.Prelude.{List, [], ◌∷◌}
+use Rattle.flow_lines.specs.declared.hop.Hop.{Hop}
+use Rattle.shared_tables.specs.Plan.{PlanState}
+use Rattle.packet_walk.specs.declared.packet.PacketIn.{PacketIn}
+use Rattle.packet_walk.specs.Walk.{IsWalkOf}
+use Rattle.label_flow.specs.Pair.{PairState}
+
+-- each of these is what became of one of the first packets, in their order
+abbrev pub AreWalked : PlanState → List Hop → List PacketIn → List PairState → Type 0
+AreWalked plan hops packets [] = Unit {0}
+AreWalked plan hops [] (pair ∷ pairs) = ⊥
+AreWalked plan hops (packet ∷ packets) (pair ∷ pairs) =
+    IsWalkOf plan hops packet pair.walked.versions pair.walked.end pair.octets × AreWalked plan hops packets pairs
