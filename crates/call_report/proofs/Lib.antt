@@ -1,0 +1,3 @@
+mod Flushed
+pub mod Law
+pub mod Pieces

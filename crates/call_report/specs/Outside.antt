@@ -1,0 +1,44 @@
+-- The outside at a moment, and what has failed there between two.
+use Rattle.std.specs.Prelude.{ℕ, ◌≡◌, ◌⊎◌, List, Some}
+use Rattle.net_io.specs.Depot.{DepotState}
+use Rattle.net_io.specs.Sink.{SinkState}
+use Rattle.net_io.specs.Faults.{Rose, SameCounts}
+use Rattle.call_report.specs.Stages.{Stage, named_input, input_in_hand, output_in_hand}
+
+-- the folder of files and the stream out
+pub record Outside : Type 0 where
+  pub folder : DepotState
+  pub stream : SinkState
+
+-- a read has failed, of the file that the words name or of the input in hand
+pub record ReadRose (stages : List Stage) (before after : Outside) : Type 0 where
+  pub name : List ℕ
+  pub counted : (named_input stages ≡ Some name) ⊎ (input_in_hand stages ≡ Some name)
+  pub rose : Rose (before.folder.reads name) (after.folder.reads name)
+
+-- the making of the output in hand has failed
+pub record CreateRose (stages : List Stage) (before after : Outside) : Type 0 where
+  pub name : List ℕ
+  pub in_hand : output_in_hand stages ≡ Some name
+  pub rose : Rose (before.folder.creates name) (after.folder.creates name)
+
+-- an append to the output in hand has failed
+pub record AppendRose (stages : List Stage) (before after : Outside) : Type 0 where
+  pub name : List ℕ
+  pub in_hand : output_in_hand stages ≡ Some name
+  pub rose : Rose (before.folder.appends name) (after.folder.appends name)
+
+-- a write to the stream has failed
+abbrev pub WriteRose : Outside → Outside → Type 0
+WriteRose before after = Rose before.stream.faults after.stream.faults
+
+-- one of the counted numbers rose
+abbrev pub CountRose : List Stage → Outside → Outside → Type 0
+CountRose stages before after = WriteRose before after ⊎ ReadRose stages before after ⊎ CreateRose stages before after ⊎ AppendRose stages before after
+
+-- no number of faults has moved, of whatever name
+pub record NoneFailed (before after : Outside) : Type 0 where
+  pub reads : SameCounts before.folder.reads after.folder.reads
+  pub creates : SameCounts before.folder.creates after.folder.creates
+  pub appends : SameCounts before.folder.appends after.folder.appends
+  pub writes : after.stream.faults ≡ before.stream.faults

@@ -1,0 +1,7 @@
+pub mod Fixed
+pub mod Denial
+pub mod Packet
+pub mod Capture
+pub mod Script
+pub mod Flow
+pub mod inside

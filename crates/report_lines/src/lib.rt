@@ -1,0 +1,21 @@
+//! The printed lines of reports, but for the replies to commands: each is a definition, and a function that appends it to what waits
+//! to be printed.
+#![tactic(auto)]
+
+mod capture;
+mod denial;
+mod fixed;
+mod flow;
+mod packet;
+mod script;
+
+pub use capture::write_capture;
+pub use denial::write_verdict;
+pub use fixed::{done, packet_limit, packets_limit, usage};
+pub use flow::{write_flow, write_flow_end, write_walked};
+pub use mls_label::OutOfMemory;
+pub use packet::{write_packet, write_packets_end};
+pub use script::{write_ok, write_script_stop};
+
+#[cfg(test)]
+mod tests;
