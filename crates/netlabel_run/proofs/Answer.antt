@@ -1,24 +1,20 @@
 -- What is read of octets, and so a verdict and the lines of frames, are there and one alone.
-use Rattle.std.proofs.Common.{◌≡◌, ℕ, suc, ◌+◌, Bool, true, false, List, [], ◌∷◌, ◌++◌, length, Option, Some, None, Result, Ok, Err, refl, sym, ap, subst, ◌∙◌, append_assoc, arith, ◌↔◌, ◌<◌}
-use Rattle.std.specs.Prelude.{IsTrue, IfSome, IfOk, OnOk, MatchOption, codes}
+use Rattle.std.proofs.Common.{◌≡◌, ℕ, suc, ◌+◌, List, [], ◌∷◌, ◌++◌, length, Option, Some, None, Result, Ok, Err, refl, sym, ap, subst, ◌∙◌, append_assoc, arith, ◌<◌}
+use Rattle.std.specs.Prelude.{MatchOption, codes}
 use Rattle.std.specs.List.{concat}
 use Rattle.mls_label.specs.declared.label.Label.{Label}
-use Rattle.mls_label.specs.Label.{Dominates}
 use Rattle.ip_headers.specs.Packet.{ParsedPacket}
 use Rattle.packet_label.specs.declared.fault.CarryFault.{CarryFault}
-use Rattle.packet_label.specs.declared.fault.CarryFault.TheVariants as carry
 use Rattle.packet_label.specs.declared.packet.Wire.{Wire}
-use Rattle.packet_label.specs.declared.packet.Mark.{Mark}
-use Rattle.packet_label.specs.declared.packet.Mark.TheVariants.{Cipso, Calipso}
-use Rattle.packet_label.specs.Wire.{label_said, wire_with}
 use Rattle.packet_label.specs.Written.{IsReadAs}
 use Rattle.packet_label.proofs.Law.{octets_are_a_packet_or_have_one_fault}
 use Rattle.pcap_frames.specs.Record.{Frame}
 use Rattle.pcap_frames.specs.Ip.{ip_part_of}
 use Rattle.label_receive.proofs.Law.{verdicts_are_determined}
-use Rattle.netlabel_run.specs.Verdict.{Verdict, judge_rule, IsVerdict}
-use Rattle.netlabel_run.specs.Line.{packet_text, shown_line}
-use Rattle.netlabel_run.specs.Show.{IsShown, AreShown}
+use Rattle.netlabel_run.specs.Verdict.{judge_rule, IsVerdict}
+use Rattle.report_lines.specs.Denial.{Verdict}
+use Rattle.report_lines.specs.Packet.{packet_text, shown_line, IsShown}
+use Rattle.netlabel_run.specs.Show.{AreShown}
 
 answer_once : (octets : List ℕ) (a b : Result (ParsedPacket Wire) CarryFault) → IsReadAs octets a → IsReadAs octets b → a ≡ b
 answer_once octets (Ok p) (Ok q) a b = ap Ok ((octets_are_a_packet_or_have_one_fault octets).one_packet p q a b)
@@ -46,12 +42,6 @@ text_once (Some octets) s t a b = a.2 ∙ ap packet_text (answer_once octets a.0
 
 pub frame_text : (link : ℕ) (octets : List ℕ) → (text : List ℕ) × IsShown link octets text
 frame_text link octets = some_text (ip_part_of link octets)
-
--- what was appended of a frame's packet is the frame's text
-pub shows_packet : {T E : Type 0} (result : Result T E) (link : ℕ) (frame packet old new : List ℕ) (answer : Result (ParsedPacket Wire) CarryFault) → Some packet ≡ ip_part_of link frame → IsReadAs packet answer
-    → OnOk result (new ≡ old ++ packet_text answer) → OnOk result ((text : List ℕ) × IsShown link frame text × (new ≡ old ++ text))
-shows_packet (Ok x) link frame packet old new answer is reads written = (packet_text answer, subst (λ p. IsShownOf p (packet_text answer)) is (answer, reads, refl), written)
-shows_packet (Err e) link frame packet old new answer is reads written = tt
 
 pub line_some : (number : ℕ) (text : List ℕ) → 0 < length (shown_line number text)
 unfolding shown_line

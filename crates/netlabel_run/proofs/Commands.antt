@@ -1,17 +1,21 @@
 -- The words of the command line, one by one.
-use Rattle.std.proofs.Common.{◌≡◌, ◌≢◌, ℕ, List, [], ◌∷◌, length, get_or, sym, ap, subst, ◌∙◌, arith}
+use Rattle.std.proofs.Common.{◌≡◌, ◌≢◌, ◌<◌, ◌^◌, ◌⊎◌, inl, inr, ℕ, List, [], ◌∷◌, length, get_or, sym, ap, subst, ◌∙◌, arith}
 use Rattle.std.specs.Prelude.{IsTrue, codes, string_bytes, String}
+use Rattle.std.specs.Fmt.{decimal}
 use Rattle.std.specs.declared.alloc.Global.{Global}
+use Rattle.std.proofs.lemmas.Fmt.{decimal_injective}
 use Rattle.std.proofs.lemmas.List.{length-map}
 use Rattle.mls_label.specs.declared.label.Label.{Label}
 use Rattle.flow_lines.specs.FileName.{is_file_name}
-use Rattle.netlabel_run.specs.declared.command.Command.TheVariants.{Judge, Check, Show}
-use Rattle.netlabel_run.specs.Words.{texts_of, IsLevel, IsForm}
+use Rattle.netlabel_run.specs.declared.command.Command.TheVariants.{Judge, Check, Show, Run}
+use Rattle.netlabel_run.specs.Words.{texts_of, IsLevel, NamesWorkers, AsksToRun, plainly, with_workers, IsForm}
 
 -- words whose level is none ask for nothing
 pub no_level : (doi level file : List ℕ) → ((l : Label) → IsLevel level l → ⊥) → IsForm (codes "judge" ∷ doi ∷ level ∷ file ∷ []) → ⊥
 no_level doi level file none (Check f, asks) = omega (arith, ap length asks.are)
 no_level doi level file none (Show f, asks) = omega (arith, ap length asks.are)
+no_level doi level file none (Run f n, plainly are name) = omega (arith, ap length are)
+no_level doi level file none (Run f n, with_workers t w are name named) = absurd (let no = are in cc)
 no_level doi level file none (Judge d l f, asks) = none l (subst (λ t. IsLevel t l) (sym (ap (λ ws. get_or ws 2 []) asks.are)) asks.is_level)
 
 -- all forms have two words or four
@@ -19,9 +23,37 @@ pub no_words : (words : List (String Global)) → length words ≢ 2 → length 
 no_words words two four (Judge d l f, asks) = four (sym (length-map words string_bytes) ∙ ap length asks.are)
 no_words words two four (Check f, asks) = two (sym (length-map words string_bytes) ∙ ap length asks.are)
 no_words words two four (Show f, asks) = two (sym (length-map words string_bytes) ∙ ap length asks.are)
+no_words words two four (Run f n, plainly are name) = two (sym (length-map words string_bytes) ∙ ap length are)
+no_words words two four (Run f n, with_workers t w are name named) = four (sym (length-map words string_bytes) ∙ ap length are)
 
 -- two words ask for a command of one file, or for nothing
-pub no_two : (command file : List ℕ) → (command ≡ codes "check" → IsTrue (is_file_name file) → ⊥) → (command ≡ codes "show" → IsTrue (is_file_name file) → ⊥) → IsForm (command ∷ file ∷ []) → ⊥
-no_two command file check show (Judge d l f, asks) = omega (arith, ap length asks.are)
-no_two command file check show (Check f, asks) = check (ap (λ ws. get_or ws 0 []) asks.are) (subst (λ t. IsTrue (is_file_name t)) (sym (ap (λ ws. get_or ws 1 []) asks.are)) asks.is_name)
-no_two command file check show (Show f, asks) = show (ap (λ ws. get_or ws 0 []) asks.are) (subst (λ t. IsTrue (is_file_name t)) (sym (ap (λ ws. get_or ws 1 []) asks.are)) asks.is_name)
+pub no_two : (command file : List ℕ) → (command ≡ codes "check" → IsTrue (is_file_name file) → ⊥) → (command ≡ codes "show" → IsTrue (is_file_name file) → ⊥) → (command ≡ codes "run" → IsTrue (is_file_name file) → ⊥)
+    → IsForm (command ∷ file ∷ []) → ⊥
+no_two command file check show run (Judge d l f, asks) = omega (arith, ap length asks.are)
+no_two command file check show run (Check f, asks) = check (ap (λ ws. get_or ws 0 []) asks.are) (subst (λ t. IsTrue (is_file_name t)) (sym (ap (λ ws. get_or ws 1 []) asks.are)) asks.is_name)
+no_two command file check show run (Show f, asks) = show (ap (λ ws. get_or ws 0 []) asks.are) (subst (λ t. IsTrue (is_file_name t)) (sym (ap (λ ws. get_or ws 1 []) asks.are)) asks.is_name)
+no_two command file check show run (Run f n, plainly are name) = run (ap (λ ws. get_or ws 0 []) are) (subst (λ t. IsTrue (is_file_name t)) (sym (ap (λ ws. get_or ws 1 []) are)) name)
+no_two command file check show run (Run f n, with_workers t w are name named) = omega (arith, ap length are)
+
+-- four words ask for a judgement or for flows, or for nothing
+pub no_four : (command second third fourth : List ℕ) → command ≢ codes "run" → command ≢ codes "judge" → IsForm (command ∷ second ∷ third ∷ fourth ∷ []) → ⊥
+no_four command second third fourth run judge (Judge d l f, asks) = judge (ap (λ ws. get_or ws 0 []) asks.are)
+no_four command second third fourth run judge (Check f, asks) = omega (arith, ap length asks.are)
+no_four command second third fourth run judge (Show f, asks) = omega (arith, ap length asks.are)
+no_four command second third fourth run judge (Run f n, plainly are name) = omega (arith, ap length are)
+no_four command second third fourth run judge (Run f n, with_workers t w are name named) = run (ap (λ ws. get_or ws 0 []) are)
+
+-- of the words of `run` the third is `-w`, the second a name, and the fourth a number of workers
+pub no_run : (file flag number : List ℕ) → (flag ≡ codes "-w" → IsTrue (is_file_name file) → (workers : ℕ) → NamesWorkers number workers → ⊥) → IsForm (codes "run" ∷ file ∷ flag ∷ number ∷ []) → ⊥
+no_run file flag number none (Judge d l f, asks) = absurd (let no = asks.are in cc)
+no_run file flag number none (Check f, asks) = omega (arith, ap length asks.are)
+no_run file flag number none (Show f, asks) = omega (arith, ap length asks.are)
+no_run file flag number none (Run f n, plainly are name) = omega (arith, ap length are)
+no_run file flag number none (Run f n, with_workers t w are name named) =
+    none (ap (λ ws. get_or ws 2 []) are) (subst (λ t. IsTrue (is_file_name t)) (sym (ap (λ ws. get_or ws 1 []) are)) name) w (subst (λ t. NamesWorkers t w) (sym (ap (λ ws. get_or ws 3 []) are)) named)
+
+-- a text of another number names no workers
+pub no_workers : (text : List ℕ) (n : ℕ) → text ≡ decimal n → n < 2 ^ 64 → (n ≡ 0) ⊎ ((n ≡ 0 → ⊥) × 16 < n) → (workers : ℕ) → NamesWorkers text workers → ⊥
+no_workers text n is small other workers named =
+    let same : n ≡ workers = decimal_injective n workers small (omega (arith, named.few)) (sym is ∙ named.is) in
+    elim other [ inl zero ↦ omega (arith, zero, same, named.some) | inr many ↦ omega (arith, many.1, same, named.few) ]

@@ -1,35 +1,25 @@
 -- How a call ends that makes no file, over plain values.
-use Rattle.std.proofs.Common.{◌≡◌, ◌≢◌, ◌<◌, ℕ, List, [], ◌++◌, length, refl, sym, ap, subst, ◌∙◌, arith, append_assoc, inl, inr, ◌⊎◌, Option, Some, None}
+use Rattle.std.proofs.Common.{◌≡◌, ◌≢◌, ◌<◌, ℕ, List, [], ◌++◌, length, refl, sym, ap, subst, ◌∙◌, arith, append_assoc, inl, inr, ◌⊎◌, Option, None}
 use Rattle.std.specs.Prelude.{IsTrue, Contains}
-use Rattle.std.specs.List.{All}
 use Rattle.std.proofs.lemmas.List.{append-nil, take-append-le, length-append}
 use Rattle.net_io.specs.Depot.{SameHeld}
 use Rattle.net_io.specs.Faults.{Rose, SameCounts}
 use Rattle.net_io.specs.Sink.{WritesPrefix, WritesLess}
 use Rattle.netlabel_run.specs.declared.command.Command.{Command}
-use Rattle.netlabel_run.specs.declared.status.Status.{Status}
-use Rattle.netlabel_run.specs.declared.status.Status.TheVariants.{ReadFault, WriteFault, OutOfMemory}
-use Rattle.netlabel_run.specs.Report.{Folder, Report, report_text, HasReport, IsQuiet}
-use Rattle.netlabel_run.specs.Status.{HasStatus}
-use Rattle.netlabel_run.specs.Stages.{Stage, Output}
+use Rattle.call_report.specs.declared.status.Status.{Status}
+use Rattle.call_report.specs.declared.status.Status.TheVariants.{ReadFault, WriteFault, OutOfMemory}
+use Rattle.netlabel_run.specs.Report.{HasReport, PrintsLate}
+use Rattle.call_report.specs.Report.{Folder, Report, report_text}
+use Rattle.netlabel_run.specs.Status.{HasStatus, IsPossible}
+use Rattle.netlabel_run.specs.Stages.{HasOutputs}
+use Rattle.call_report.specs.Stages.{Stage}
 use Rattle.netlabel_run.specs.Seen.{IsLawful, IsWhole}
-use Rattle.netlabel_run.specs.Outside.{Outside, ReadRose, NoneFailed}
-use Rattle.netlabel_run.specs.CallEnds.{CallEnds, EndsWith, HasBegun, Prints, IsClean, IsWritten}
-use Rattle.netlabel_run.specs.inside.Numbers.{number_of}
-use Rattle.netlabel_run.specs.inside.Printing.{Printed, Breaks}
-use Rattle.netlabel_run.proofs.Handing.{all_is_prefix, less_is_prefix, less_of_all}
-
--- What such a call knows at its end: what it has begun, and what it has left as it was.
-pub record Knows (request : Option Command) (before after : Outside) (stages : List Stage) : Type 0 where
-  pub begun : HasBegun request before.folder [] stages
-  pub none : All (λ stage. stage.output ≡ None) stages
-  pub lawful : IsLawful request before.folder.held []
-  pub whole : IsWhole request before.folder.held []
-  pub kept : IsTrue before.folder.tells → SameHeld before.folder.held after.folder.held
-  pub creates : SameCounts before.folder.creates after.folder.creates
-  pub appends : SameCounts before.folder.appends after.folder.appends
-  pub folder_told : after.folder.tells ≡ before.folder.tells
-  pub stream_told : after.stream.tells ≡ before.stream.tells
+use Rattle.call_report.specs.Outside.{Outside, ReadRose, NoneFailed}
+use Rattle.netlabel_run.specs.CallEnds.{CallEnds, EndsWith, Prints, IsClean, IsWritten}
+use Rattle.netlabel_run.specs.inside.Ending.{Knows, Begins}
+use Rattle.call_report.specs.Numbers.{status_number}
+use Rattle.call_report.specs.Printing.{Printed, Breaks}
+use Rattle.call_report.proofs.Law.{a_whole_text_is_a_front, a_part_of_a_text_is_a_front, less_of_a_text_is_less_of_more}
 
 -- the report of what was asked for has this body and this last line
 pub record HasParts (request : Option Command) (held : Folder) (text line : List ℕ) : Type 0 where
@@ -38,26 +28,16 @@ pub record HasParts (request : Option Command) (held : Folder) (text line : List
   pub body : report.body ≡ text
   pub last : report.last ≡ line
 
--- its body begins so
-pub record Begins (request : Option Command) (held : Folder) (text : List ℕ) : Type 0 where
-  pub report : Report
-  pub has : HasReport request held [] report
-  pub rest : List ℕ
-  pub body : report.body ≡ text ++ rest
-
 -- What it knows of the event that is due: its report's body and last line, and that no refusal has its number.
 pub record IsDue (request : Option Command) (before : Outside) (due : Status) (text line : List ℕ) : Type 0 where
-  pub event : (number_of due ≢ 3) × (number_of due ≢ 4) × (number_of due ≢ 6)
-  pub form : number_of due ≡ 1 → request ≡ None
-  pub usage : request ≡ None → (number_of due ≡ 1) × (text ≡ [])
-  pub has : IsTrue before.folder.tells → HasStatus request before.folder.held (number_of due)
-  pub may : (held : Folder) × HasStatus request held (number_of due)
+  pub event : (status_number due ≢ 3) × (status_number due ≢ 4) × (status_number due ≢ 6)
+  pub form : status_number due ≡ 1 → request ≡ None
+  pub usage : request ≡ None → (status_number due ≡ 1) × (text ≡ [])
+  pub has : IsTrue before.folder.tells → HasStatus request before.folder.held (status_number due)
+  pub may : IsPossible request (status_number due)
   pub parts : IsTrue before.folder.tells → HasParts request before.folder.held text line
-  pub last : number_of due ≡ 0 → line ≡ []
-
-no_output : (stages : List Stage) (P : Output → Type 0) → All (λ stage. stage.output ≡ None) stages
-    → All (λ stage. (output : Output) → stage.output ≡ Some output → P output) stages
-no_output stages P none k d within output is = absurd (let no : None ≡ Some output = sym (none k d within) ∙ is in cc)
+  pub last : status_number due ≡ 0 → line ≡ []
+  pub whole : IsTrue before.folder.tells → IsWhole request before.folder.held []
 
 -- the text of a report that begins so
 text_begins : (request : Option Command) (held : Folder) (text : List ℕ) (b : Begins request held text) → report_text b.report ≡ text ++ (b.rest ++ b.report.last)
@@ -71,19 +51,22 @@ parts_text request held body last p = ap (λ x. x ++ p.report.last) p.body ∙ a
 
 module _ (request : Option Command) (before after : Outside) (stages : List Stage) (knows : Knows request before after stages) where
   ends : (status : ℕ) → EndsWith request before after status stages → (IsTrue before.folder.tells → Prints request before after status [] stages)
-      → (IsTrue before.stream.tells → status ≡ 3 → IsQuiet request → after.stream.written ≡ before.stream.written) → CallEnds request before after status []
-  ends status with_status prints silent = record {
+      → (IsTrue before.stream.tells → status ≡ 3 → PrintsLate request → after.stream.written ≡ before.stream.written)
+      → (IsTrue before.folder.tells → IsClean stages before after status → IsWhole request before.folder.held []) → CallEnds request before after status []
+  ends status with_status prints silent whole = record {
     stages = stages;
     begun = knows.begun;
     ends = with_status;
     prints = prints;
     leaves = λ told. record {
-      outputs = no_output stages _ knows.none;
-      whole = λ clean. no_output stages _ knows.none;
+      outputs = [];
+      are = knows.outputs;
+      begun = λ k d within. absurd (omega (arith, within));
+      whole = λ clean k d within. absurd (omega (arith, within));
       others = λ name not_it. knows.kept told name;
     };
     lawful = λ told. knows.lawful;
-    whole = λ told clean. knows.whole;
+    whole = whole;
     silent = silent;
     still = λ none. (knows.creates, knows.appends);
     folder_told = knows.folder_told;
@@ -103,6 +86,9 @@ module _ (request : Option Command) (before after : Outside) (stages : List Stag
   parts_part body last p prefix =
       inr (p.report, p.has, subst (λ (t : List ℕ). WritesPrefix t before.stream.written after.stream.written) (sym (parts_text request before.folder.held body last p)) prefix)
 
+  short_of_memory : IsClean stages before after 6 → ⊥
+  short_of_memory clean = elim clean [ inl e ↦ omega (arith, e) | inr c ↦ c.0 refl ]
+
   -- memory ran out, and nothing or a beginning of the report was printed
   ends_without_memory : (IsTrue before.folder.tells → IsTrue before.stream.tells → Part) → CallEnds request before after 6 []
   ends_without_memory part = ends 6 (record {
@@ -114,11 +100,11 @@ module _ (request : Option Command) (before after : Outside) (stages : List Stag
     write_fault = λ e. absurd (omega (arith, e));
     unmoved = λ e. absurd (omega (arith, e));
   }) (λ told. record {
-    whole = λ out clean. elim clean [ inl e ↦ absurd (omega (arith, e)) | inr c ↦ absurd (c.0 refl) ];
+    whole = λ out clean. absurd (short_of_memory clean);
     part = part told;
     pause = λ out e. absurd (omega (arith, e));
     stop = λ e. absurd (omega (arith, e));
-  }) (λ out e. absurd (omega (arith, e)))
+  }) (λ out e. absurd (omega (arith, e))) (λ told clean. absurd (short_of_memory clean))
 
   pub ends_unprinted : after.stream.written ≡ before.stream.written → CallEnds request before after 6 []
   ends_unprinted same = ends_without_memory (λ told out. inl (same ∙ sym (append-nil before.stream.written)))
@@ -130,6 +116,9 @@ module _ (request : Option Command) (before after : Outside) (stages : List Stag
       let b = begins told in
       let p = prefix out in
       begun_part text b (record { count = p.count; within = omega (arith, p.within, length-append text (b.rest ++ b.report.last)); written = p.written ∙ ap (λ t. before.stream.written ++ t) (sym (take-append-le p.count text (b.rest ++ b.report.last) p.within)) }))
+
+  write_failed : Rose before.stream.faults after.stream.faults → IsClean stages before after 4 → ⊥
+  write_failed rose clean = elim clean [ inl e ↦ omega (arith, e) | inr c ↦ c.1 (inl rose) ]
 
   -- a write has failed in the body of the report
   pub ends_unwritten : (text : List ℕ) → request ≢ None → Rose before.stream.faults after.stream.faults → Breaks text before.stream after.stream
@@ -145,24 +134,27 @@ module _ (request : Option Command) (before after : Outside) (stages : List Stag
   }) (λ told.
       let b = begins told in
       record {
-        whole = λ out clean. elim clean [ inl e ↦ absurd (omega (arith, e)) | inr c ↦ absurd (c.1 (inl rose)) ];
-        part = λ out. begun_part text b (less_is_prefix text (b.rest ++ b.report.last) before.stream.written after.stream.written (breaks.written out));
+        whole = λ out clean. absurd (write_failed rose clean);
+        part = λ out. begun_part text b (a_part_of_a_text_is_a_front text (b.rest ++ b.report.last) before.stream.written after.stream.written (breaks.written out));
         pause = λ out e. absurd (omega (arith, e));
         stop = λ e. inl (record {
           report = b.report;
           has = b.has;
           some = omega (arith, breaks.some, ap length b.body, length-append text b.rest);
           part = λ out. subst (λ (t : List ℕ). WritesLess t before.stream.written after.stream.written) (sym b.body)
-              (less_of_all text b.rest before.stream.written after.stream.written (breaks.written out));
+              (less_of_a_text_is_less_of_more text b.rest before.stream.written after.stream.written (breaks.written out));
         });
       })
-      (λ out e. absurd (omega (arith, e)))
+      (λ out e. absurd (omega (arith, e))) (λ told clean. absurd (write_failed rose clean))
+
+  read_failed : ReadRose stages before after → IsClean stages before after 3 → ⊥
+  read_failed rose clean = elim clean [ inl e ↦ omega (arith, e) | inr c ↦ c.1 (inr (inl rose)) ]
 
   -- a read has failed behind the beginning of a report
   pub ends_unread : (text : List ℕ) → request ≢ None → ReadRose stages before after → (IsTrue before.stream.tells → IsWritten text before after)
       → (IsTrue before.folder.tells → (text ≡ []) ⊎ Begins request before.folder.held text)
       → (IsTrue before.folder.tells → (report : Report) → HasReport request before.folder.held [] report → Contains report.pauses text)
-      → (IsQuiet request → text ≡ []) → CallEnds request before after 3 []
+      → (PrintsLate request → text ≡ []) → CallEnds request before after 3 []
   ends_unread text form rose written begins pauses quiet = ends 3 (record {
     due = λ told. inr (inl refl);
     possible = inr (inl refl);
@@ -172,28 +164,28 @@ module _ (request : Option Command) (before after : Outside) (stages : List Stag
     write_fault = λ e. absurd (omega (arith, e));
     unmoved = λ e. absurd (omega (arith, e));
   }) (λ told. record {
-    whole = λ out clean. elim clean [ inl e ↦ absurd (omega (arith, e)) | inr c ↦ absurd (c.1 (inr (inl rose))) ];
+    whole = λ out clean. absurd (read_failed rose clean);
     part = λ out. elim (begins told) [
       | inl none ↦ inl (written out ∙ ap (λ t. before.stream.written ++ t) none)
-      | inr b ↦ begun_part text b (all_is_prefix text (b.rest ++ b.report.last) before.stream.written after.stream.written (written out))
+      | inr b ↦ begun_part text b (a_whole_text_is_a_front text (b.rest ++ b.report.last) before.stream.written after.stream.written (written out))
     ];
     pause = λ out e. (text, written out, pauses told);
     stop = λ e. absurd (omega (arith, e));
-  }) (λ out e all. written out ∙ ap (λ t. before.stream.written ++ t) (quiet all) ∙ append-nil before.stream.written)
+  }) (λ out e all. written out ∙ ap (λ t. before.stream.written ++ t) (quiet all) ∙ append-nil before.stream.written) (λ told clean. absurd (read_failed rose clean))
 
   -- its reader has stopped behind the beginning of a report, which was printed, or could not be
   module _ (text : List ℕ) (form : request ≢ None) (begins : IsTrue before.folder.tells → Begins request before.folder.held text) where
-    short_of : (status : Status) → status ≡ OutOfMemory → (IsTrue before.stream.tells → WritesPrefix (text ++ []) before.stream.written after.stream.written) → CallEnds request before after (number_of status) []
+    short_of : (status : Status) → status ≡ OutOfMemory → (IsTrue before.stream.tells → WritesPrefix (text ++ []) before.stream.written after.stream.written) → CallEnds request before after (status_number status) []
     short_of status is prefix =
-        subst (λ (n : ℕ). CallEnds request before after n []) (sym (ap number_of is))
+        subst (λ (n : ℕ). CallEnds request before after n []) (sym (ap status_number is))
         (ends_short text begins (λ out. subst (λ (t : List ℕ). WritesPrefix t before.stream.written after.stream.written) (append-nil text) (prefix out)))
 
-    unwritten_of : (status : Status) → status ≡ WriteFault → Rose before.stream.faults after.stream.faults → Breaks text before.stream after.stream → CallEnds request before after (number_of status) []
-    unwritten_of status is rose breaks = subst (λ (n : ℕ). CallEnds request before after n []) (sym (ap number_of is)) (ends_unwritten text form rose breaks begins)
+    unwritten_of : (status : Status) → status ≡ WriteFault → Rose before.stream.faults after.stream.faults → Breaks text before.stream after.stream → CallEnds request before after (status_number status) []
+    unwritten_of status is rose breaks = subst (λ (n : ℕ). CallEnds request before after n []) (sym (ap status_number is)) (ends_unwritten text form rose breaks begins)
 
-    pub ends_stopped_short : (status : Status) → Printed text [] OutOfMemory status before.stream after.stream → CallEnds request before after (number_of status) []
+    pub ends_stopped_short : (status : Status) → Printed text [] OutOfMemory status before.stream after.stream → CallEnds request before after (status_number status) []
     ends_stopped_short status printed = elim printed.how [
-      | inl all ↦ short_of status all.0 (λ out. subst (λ (t : List ℕ). WritesPrefix t before.stream.written after.stream.written) (append-nil (text ++ [])) (all_is_prefix (text ++ []) [] before.stream.written after.stream.written (all.2 out)))
+      | inl all ↦ short_of status all.0 (λ out. subst (λ (t : List ℕ). WritesPrefix t before.stream.written after.stream.written) (append-nil (text ++ [])) (a_whole_text_is_a_front (text ++ []) [] before.stream.written after.stream.written (all.2 out)))
       | inr rest ↦ elim rest [
         | inl memory ↦ short_of status memory.0 memory.1
         | inr failed ↦ elim failed [
@@ -205,9 +197,9 @@ module _ (request : Option Command) (before after : Outside) (stages : List Stag
 
     pub ends_stopped_unread : (status : Status) → ReadRose stages before after
         → (IsTrue before.folder.tells → (report : Report) → HasReport request before.folder.held [] report → Contains report.pauses text)
-        → (IsQuiet request → text ≡ []) → Printed text [] ReadFault status before.stream after.stream → CallEnds request before after (number_of status) []
+        → (PrintsLate request → text ≡ []) → Printed text [] ReadFault status before.stream after.stream → CallEnds request before after (status_number status) []
     ends_stopped_unread status rose pauses quiet printed = elim printed.how [
-      | inl all ↦ subst (λ (n : ℕ). CallEnds request before after n []) (sym (ap number_of all.0))
+      | inl all ↦ subst (λ (n : ℕ). CallEnds request before after n []) (sym (ap status_number all.0))
           (ends_unread text form rose (λ out. all.2 out ∙ ap (λ t. before.stream.written ++ t) (append-nil text)) (λ told. inr (begins told)) pauses quiet)
       | inr rest ↦ elim rest [
         | inl memory ↦ short_of status memory.0 memory.1
@@ -220,10 +212,10 @@ module _ (request : Option Command) (before after : Outside) (stages : List Stag
 
   module _ (due : Status) (body last : List ℕ) (is : IsDue request before due body last) where
     -- the event decides, whether or not its line was printed whole
-    ends_due : (IsTrue before.stream.tells → IsClean stages before after (number_of due) → IsWritten (body ++ last) before after)
+    ends_due : (IsTrue before.stream.tells → IsClean stages before after (status_number due) → IsWritten (body ++ last) before after)
         → (IsTrue before.stream.tells → WritesPrefix (body ++ last) before.stream.written after.stream.written)
-        → (number_of due ≡ 0 → NoneFailed before after) → CallEnds request before after (number_of due) []
-    ends_due whole part unmoved = ends (number_of due) (record {
+        → (status_number due ≡ 0 → NoneFailed before after) → CallEnds request before after (status_number due) []
+    ends_due whole part unmoved = ends (status_number due) (record {
       due = λ told. inl (is.has told);
       possible = inl is.may;
       no_form = is.form;
@@ -239,28 +231,28 @@ module _ (request : Option Command) (before after : Outside) (stages : List Stag
           pause = λ out e. absurd (is.event.0 e);
           stop = λ e. absurd (is.event.1 e);
         })
-        (λ out e quiet. absurd (is.event.0 e))
+        (λ out e quiet. absurd (is.event.0 e)) (λ told clean. is.whole told)
 
     -- the words ask for something, where a body was to be printed
     has_form : 0 < length body → request ≢ None
     has_form some none = omega (arith, some, ap length (is.usage none).1)
 
     -- the report was printed, or could not be
-    pub ends_printed : (status : Status) → (number_of due ≡ 0 → SameCounts before.folder.reads after.folder.reads) → Printed body last due status before.stream after.stream
-        → CallEnds request before after (number_of status) []
+    pub ends_printed : (status : Status) → (status_number due ≡ 0 → SameCounts before.folder.reads after.folder.reads) → Printed body last due status before.stream after.stream
+        → CallEnds request before after (status_number status) []
     ends_printed status reads printed =
         let ended = λ (n : ℕ). CallEnds request before after n [] in
         elim printed.how [
-          | inl all ↦ subst ended (sym (ap number_of all.0)) (ends_due (λ out clean. all.2 out)
-              (λ out. subst (λ (t : List ℕ). WritesPrefix t before.stream.written after.stream.written) (append-nil (body ++ last)) (all_is_prefix (body ++ last) [] before.stream.written after.stream.written (all.2 out)))
+          | inl all ↦ subst ended (sym (ap status_number all.0)) (ends_due (λ out clean. all.2 out)
+              (λ out. subst (λ (t : List ℕ). WritesPrefix t before.stream.written after.stream.written) (append-nil (body ++ last)) (a_whole_text_is_a_front (body ++ last) [] before.stream.written after.stream.written (all.2 out)))
               (λ zero. record { reads = reads zero; creates = knows.creates; appends = knows.appends; writes = all.1 }))
           | inr rest ↦ elim rest [
-            | inl memory ↦ subst ended (sym (ap number_of memory.0)) (ends_without_memory (λ told out. parts_part body last (is.parts told) (memory.1 out)))
+            | inl memory ↦ subst ended (sym (ap status_number memory.0)) (ends_without_memory (λ told out. parts_part body last (is.parts told) (memory.1 out)))
             | inr failed ↦ elim failed [
-              | inl broken ↦ subst ended (sym (ap number_of broken.0)) (ends_unwritten body (has_form broken.2.some) broken.1 broken.2 (λ told. parts_begin request before.folder.held body last (is.parts told)))
+              | inl broken ↦ subst ended (sym (ap status_number broken.0)) (ends_unwritten body (has_form broken.2.some) broken.1 broken.2 (λ told. parts_begin request before.folder.held body last (is.parts told)))
               | inr line ↦
-                  let not_done : number_of due ≢ 0 = λ e. omega (arith, line.2, ap length (is.last e)) in
-                  subst ended (sym (ap number_of line.0)) (ends_due
+                  let not_done : status_number due ≢ 0 = λ e. omega (arith, line.2, ap length (is.last e)) in
+                  subst ended (sym (ap status_number line.0)) (ends_due
                   (λ out clean. elim clean [ inl e ↦ absurd (not_done e) | inr c ↦ absurd (c.1 (inl line.1)) ])
                   line.3 (λ zero. absurd (not_done zero)))
             ]

@@ -1,5 +1,5 @@
 -- The node of `judge`, and what it does with a packet.
-use Rattle.std.proofs.Common.{◌≡◌, ℕ, List, [], ◌∷◌, length, map, Some, Result, refl, sym, ap, ◌∙◌, subst, arith}
+use Rattle.std.proofs.Common.{◌≡◌, ℕ, List, [], ◌∷◌, length, map, Some, Result, refl, sym, ap, arith}
 use Rattle.std.specs.Prelude.{codes, slice_get}
 use Rattle.mls_label.specs.declared.label.Label.{Label}
 use Rattle.ip_headers.specs.Packet.{ParsedPacket}

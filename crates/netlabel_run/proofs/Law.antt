@@ -2,7 +2,7 @@
 use Rattle.std.proofs.Common.{ℕ, List, Option}
 use Rattle.netlabel_run.specs.declared.command.Command.{Command}
 use Rattle.netlabel_run.specs.Words.{IsAsked}
-use Rattle.netlabel_run.specs.Report.{Folder, Versions}
+use Rattle.call_report.specs.Report.{Folder, Versions}
 use Rattle.netlabel_run.specs.Laws.{IsOne, IsDetermined}
 use Rattle.netlabel_run.proofs.Once.{asked_once, determined}
 

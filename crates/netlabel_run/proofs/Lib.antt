@@ -1,9 +1,11 @@
 pub mod Answer
 pub mod Judging
+pub mod Scripts
 pub mod Checking
+pub mod Runs
+pub mod Running
 pub mod Commands
 pub mod Endings
-pub mod Handing
 pub mod Law
 pub mod Once
 pub mod Requests

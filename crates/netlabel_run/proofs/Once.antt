@@ -1,17 +1,33 @@
--- What was asked for has one report, one status and one list of stages, and words ask for one thing.
-use Rattle.std.proofs.Common.{◌≡◌, ℕ, List, [], get_or, take, Option, Some, None, Result, Ok, Err, refl, sym, ap, subst, ◌∙◌, arith, inl, inr}
+-- What was asked for has one report, one status, one list of stages and one of outputs, and words ask for one thing.
+use Rattle.std.proofs.Common.{◌≡◌, ℕ, ◌+◌, ◌-◌, List, [], ◌∷◌, length, map, get_or, take, Option, Some, None, Result, Ok, Err, refl, sym, ap, subst, ◌∙◌, arith, inl, inr}
+use Rattle.std.specs.Prelude.{codes}
+use Rattle.std.proofs.lemmas.Fmt.{decimal_injective}
 use Rattle.mls_label.specs.declared.label.Label.{Label}
 use Rattle.mls_range.specs.LabelText.{IsLabelText}
 use Rattle.mls_range.proofs.Law.{a_text_has_one_label}
 use Rattle.command_values.specs.Doi.{doi_of_text}
+use Rattle.flow_lines.specs.declared.flow.FlowLine.{FlowLine}
+use Rattle.label_commands.specs.declared.script.Script.{Script}
+use Rattle.label_commands.specs.declared.stop.ScriptStop.{ScriptStop}
+use Rattle.pcap_frames.specs.declared.header.CaptureHeader.{CaptureHeader}
 use Rattle.pcap_frames.specs.declared.fault.CaptureFault.{CaptureFault}
 use Rattle.pcap_frames.specs.Capture.{Capture, capture_of}
 use Rattle.netlabel_run.specs.declared.command.Command.{Command}
-use Rattle.netlabel_run.specs.declared.command.Command.TheVariants.{Judge, Check, Show}
-use Rattle.netlabel_run.specs.Line.{verdict_line}
-use Rattle.netlabel_run.specs.Words.{IsAsked}
-use Rattle.netlabel_run.specs.Show.{packets_limit, capture_event}
-use Rattle.netlabel_run.specs.Report.{Folder, Versions, JudgeReport, absent, too_long, judged, late_report, lines_report, CaptureReport, ShowReport, CheckReport}
+use Rattle.netlabel_run.specs.declared.command.Command.TheVariants.{Judge, Check, Show, Run}
+use Rattle.report_lines.specs.Denial.{verdict_line}
+use Rattle.netlabel_run.specs.Words.{AsksToJudge, AsksToRun, plainly, with_workers, IsAsked}
+use Rattle.netlabel_run.specs.Run.{ByAnswer, ByScript, AreItsRuns, flow_stage}
+use Rattle.call_report.specs.Event.{Event, packets_limit, capture_event}
+use Rattle.call_report.specs.Stages.{reading_stage}
+use Rattle.report_lines.specs.Script.{script_stop_line}
+use Rattle.flow_run.specs.Input.{flow_input}
+use Rattle.flow_run.specs.Run.{FlowRun}
+use Rattle.script_run.specs.Runs.{plan_of, StatusOr, FlowsStatus}
+use Rattle.script_run.specs.Report.{runs_report, runs_outputs}
+use Rattle.script_run.proofs.Law.{runs_are_determined}
+use Rattle.netlabel_run.specs.Check.{script_read, script_stop_status}
+use Rattle.netlabel_run.specs.Report.{JudgeReport, absent, too_long, judged, lines_report, CaptureReport, ShowReport, CheckReport}
+use Rattle.call_report.specs.Report.{Folder, Versions, late_report}
 use Rattle.netlabel_run.specs.Status.{JudgeStatus, ShowStatus, CheckStatus}
 use Rattle.netlabel_run.specs.Laws.{IsOne, IsDetermined}
 use Rattle.netlabel_run.proofs.Answer.{verdict_once, lines_once}
@@ -54,26 +70,85 @@ check_status_once : (name : List ℕ) (file : Option (List ℕ)) → IsOne (Chec
 check_status_once name None a b x y = absurd x
 check_status_once name (Some text) a b x y = x ∙ sym y
 
+by_answer_once : {A : Type 0} (answer : Result Script ScriptStop) (refused : ScriptStop → A → Type 0) (read : Script → A → Type 0) → ((stop : ScriptStop) → IsOne (refused stop)) → ((script : Script) → IsOne (read script))
+    → IsOne (λ (a : A). ByAnswer answer (λ stop. refused stop a) (λ script. read script a))
+by_answer_once {A} (Err stop) refused read r s = r stop
+by_answer_once {A} (Ok script) refused read r s = s script
+
+by_script_once : {A : Type 0} (file : List ℕ) (o : Option (List ℕ)) (nothing : A → Type 0) (refused : ScriptStop → A → Type 0) (read : Script → A → Type 0) → IsOne nothing → ((stop : ScriptStop) → IsOne (refused stop))
+    → ((script : Script) → IsOne (read script)) → IsOne (λ (a : A). ByScript file o (nothing a) (λ stop. refused stop a) (λ script. read script a))
+by_script_once {A} file None nothing refused read n r s = n
+by_script_once {A} file (Some text) nothing refused read n r s = by_answer_once (script_read file text) refused read r s
+
+status_or_once : (event : Option Event) (header : Option CaptureHeader) (Rest : ℕ → Type 0) → IsOne Rest → IsOne (λ status. StatusOr event header (Rest status) status)
+status_or_once (Some event) header Rest one a b x y = x ∙ sym y
+status_or_once None (Some header) Rest one a b x y = one a b x y
+status_or_once None None Rest one a b x y = absurd x
+
+flows_status_once : (held : Folder) (number most : ℕ) (flows : List FlowLine) → IsOne (FlowsStatus held number most flows)
+flows_status_once held number most [] a b x y = x ∙ sym y
+flows_status_once held number most (flow ∷ flows) a b x y =
+    let input = flow_input number most (held flow.input) in
+    status_or_once input.event input.header (FlowsStatus held (number + 1) (most - length input.frames) flows) (flows_status_once held (number + 1) (most - length input.frames) flows) a b x y
+
+run_has_no_word : (words : List (List ℕ)) (file : List ℕ) (workers : ℕ) (command other : List ℕ) → AsksToRun words file workers → words ≡ command ∷ other ∷ [] → (command ≡ codes "run" → ⊥) → ⊥
+run_has_no_word words file workers command other (plainly are name) is other_word = other_word (ap (λ ws. get_or ws 0 []) (sym is ∙ are))
+run_has_no_word words file workers command other (with_workers t w are name named) is other_word = other_word (ap (λ ws. get_or ws 0 []) (sym is ∙ are))
+
+run_is_no_judge : (words : List (List ℕ)) (file : List ℕ) (workers doi : ℕ) (level : Label) (file' : List ℕ) → AsksToRun words file workers → AsksToJudge words doi level file' → ⊥
+run_is_no_judge words file workers doi level file' (plainly are name) b = omega (arith, ap length are, ap length b.are)
+run_is_no_judge words file workers doi level file' (with_workers t w are name named) b = absurd (let same = sym are ∙ b.are in cc)
+
+run_once : (words : List (List ℕ)) (file file' : List ℕ) (workers workers' : ℕ) → AsksToRun words file workers → AsksToRun words file' workers' → Some (Run file workers) ≡ Some (Run file' workers')
+run_once words file file' workers workers' (plainly are name) (plainly are' name') = ap (λ ws. Some (Run (get_or ws 1 []) 4)) (sym are ∙ are')
+run_once words file file' workers workers' (plainly are name) (with_workers t w' are' name' named') = absurd (omega (arith, ap length are, ap length are'))
+run_once words file file' workers workers' (with_workers t w are name named) (plainly are' name') = absurd (omega (arith, ap length are, ap length are'))
+run_once words file file' workers workers' (with_workers t w are name named) (with_workers t' w' are' name' named') =
+    let same = sym are ∙ are' in
+    let f : file ≡ file' = ap (λ ws. get_or ws 1 []) same in
+    let n : t ≡ t' = ap (λ ws. get_or ws 3 []) same in
+    let same_workers : w ≡ w' = decimal_injective w w' (omega (arith, named.few)) (omega (arith, named'.few)) (sym named.is ∙ n ∙ named'.is) in
+    cc
+
 pub determined : (request : Option Command) (held : Folder) (seen : Versions) → IsDetermined request held seen
 determined None held seen = record {
   status = λ a b x y. x ∙ sym y;
   report = λ a b x y. x ∙ sym y;
   stages = λ a b x y. x ∙ sym y;
+  outputs = λ a b x y. x ∙ sym y;
 }
 determined (Some (Judge doi level file)) held seen = record {
   status = judge_status_once (held file);
   report = judge_report_once doi level (held file);
   stages = λ a b x y. x ∙ sym y;
+  outputs = λ a b x y. x ∙ sym y;
 }
 determined (Some (Check file)) held seen = record {
   status = check_status_once file (held file);
   report = check_report_once file (held file);
   stages = λ a b x y. x ∙ sym y;
+  outputs = λ a b x y. x ∙ sym y;
 }
 determined (Some (Show file)) held seen = record {
   status = show_status_once (held file);
   report = show_report_once (held file);
   stages = λ a b x y. x ∙ sym y;
+  outputs = λ a b x y. x ∙ sym y;
+}
+determined (Some (Run file workers)) held seen = record {
+  status = by_script_once file (held file) (λ status. ⊥) (λ stop status. status ≡ script_stop_status stop) (λ script status. FlowsStatus held 1 packets_limit script.flows status)
+      (λ a b x y. absurd x) (λ stop a b x y. x ∙ sym y) (λ script. flows_status_once held 1 packets_limit script.flows);
+  report = by_script_once file (held file) (λ report. report ≡ late_report [] []) (λ stop report. report ≡ late_report [] (script_stop_line stop))
+      (λ script report. (runs : List FlowRun) × AreItsRuns script held seen runs × (report ≡ runs_report script runs))
+      (λ a b x y. x ∙ sym y) (λ stop a b x y. x ∙ sym y)
+      (λ script a b x y. x.2 ∙ ap (runs_report script) (runs_are_determined (plan_of script) held 1 packets_limit script.flows seen x.0 y.0 x.1 y.1) ∙ sym y.2);
+  stages = by_script_once file (held file) (λ stages. stages ≡ reading_stage file ∷ []) (λ stop stages. stages ≡ reading_stage file ∷ [])
+      (λ script stages. stages ≡ reading_stage file ∷ map flow_stage (take (length seen) script.flows))
+      (λ a b x y. x ∙ sym y) (λ stop a b x y. x ∙ sym y) (λ script a b x y. x ∙ sym y);
+  outputs = by_script_once file (held file) (λ outputs. outputs ≡ []) (λ stop outputs. outputs ≡ [])
+      (λ script outputs. (runs : List FlowRun) × AreItsRuns script held seen runs × (outputs ≡ runs_outputs runs))
+      (λ a b x y. x ∙ sym y) (λ stop a b x y. x ∙ sym y)
+      (λ script a b x y. x.2 ∙ ap runs_outputs (runs_are_determined (plan_of script) held 1 packets_limit script.flows seen x.0 y.0 x.1 y.1) ∙ sym y.2);
 }
 
 -- words ask for one thing at the most
@@ -98,3 +173,10 @@ asked_once words (Some (Judge doi level file)) (Some (Check file')) a b = absurd
 asked_once words (Some (Check file)) (Some (Judge doi level file')) a b = absurd (let same = sym a.are ∙ b.are in cc)
 asked_once words (Some (Show file)) (Some (Check file')) a b = absurd (let same = sym a.are ∙ b.are in cc)
 asked_once words (Some (Check file)) (Some (Show file')) a b = absurd (let same = sym a.are ∙ b.are in cc)
+asked_once words (Some (Run file workers)) (Some (Judge doi level file')) a b = absurd (run_is_no_judge words file workers doi level file' a b)
+asked_once words (Some (Judge doi level file)) (Some (Run file' workers)) a b = absurd (run_is_no_judge words file' workers doi level file b a)
+asked_once words (Some (Run file workers)) (Some (Check file')) a b = absurd (run_has_no_word words file workers (codes "check") file' a b.are (λ e. cc))
+asked_once words (Some (Check file)) (Some (Run file' workers)) a b = absurd (run_has_no_word words file' workers (codes "check") file b a.are (λ e. cc))
+asked_once words (Some (Run file workers)) (Some (Show file')) a b = absurd (run_has_no_word words file workers (codes "show") file' a b.are (λ e. cc))
+asked_once words (Some (Show file)) (Some (Run file' workers)) a b = absurd (run_has_no_word words file' workers (codes "show") file b a.are (λ e. cc))
+asked_once words (Some (Run file workers)) (Some (Run file' workers')) a b = run_once words file file' workers workers' a b

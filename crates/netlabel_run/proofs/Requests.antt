@@ -1,39 +1,30 @@
 -- What `judge`, and words that are no form, know at their end.
-use Rattle.std.proofs.Common.{◌≡◌, ◌<◌, ◌≤◌, ℕ, zero, suc, replicate, List, [], ◌∷◌, length, refl, sym, ap, subst, arith, inl, inr, Option, Some, None, Result}
+use Rattle.std.proofs.Common.{◌≡◌, ◌<◌, ◌≤◌, ℕ, replicate, List, [], ◌∷◌, length, refl, sym, ap, subst, arith, inl, inr, Option, Some, None, Result}
 use Rattle.std.specs.Prelude.{IsTrue}
-use Rattle.std.specs.List.{All}
 use Rattle.std.proofs.lemmas.List.{length-replicate}
 use Rattle.mls_label.specs.declared.label.Label.{Label}
 use Rattle.net_io.specs.Depot.{DepotState, octets_of, SameHeld, OnlyReads}
 use Rattle.net_io.specs.Faults.{SameCounts}
 use Rattle.netlabel_run.specs.declared.command.Command.{Command}
 use Rattle.netlabel_run.specs.declared.command.Command.TheVariants.{Judge}
-use Rattle.netlabel_run.specs.declared.status.Status.TheVariants.{Done, NoForm, Limit}
-use Rattle.netlabel_run.specs.Verdict.{Verdict, IsVerdict}
-use Rattle.netlabel_run.specs.Line.{verdict_line}
-use Rattle.netlabel_run.specs.Report.{Report, JudgeReport, absent, too_long, judged, late_report, packet_limit, packet_limit_line, usage_line}
+use Rattle.call_report.specs.declared.status.Status.TheVariants.{Done, NoForm, Limit}
+use Rattle.netlabel_run.specs.Verdict.{IsVerdict}
+use Rattle.report_lines.specs.Denial.{Verdict, verdict_line}
+use Rattle.netlabel_run.specs.Report.{JudgeReport, absent, too_long, judged, packet_limit}
+use Rattle.call_report.specs.Report.{Report, late_report}
+use Rattle.report_lines.specs.Fixed.{packet_limit_line, usage_line}
 use Rattle.netlabel_run.specs.Status.{JudgeStatus}
-use Rattle.netlabel_run.specs.Stages.{HasStages, reading_stage}
+use Rattle.netlabel_run.specs.Stages.{HasStages, HasOutputs}
+use Rattle.call_report.specs.Stages.{reading_stage}
 use Rattle.netlabel_run.specs.Seen.{IsLawful, IsWhole}
-use Rattle.netlabel_run.specs.Outside.{Outside}
-use Rattle.netlabel_run.proofs.Endings.{Knows, IsDue}
+use Rattle.call_report.specs.Outside.{Outside}
+use Rattle.netlabel_run.specs.inside.Ending.{IsOnlyRead, Knows}
+use Rattle.netlabel_run.proofs.Endings.{IsDue}
 
 -- a file with more octets than none is there
 is_there : (file : Option (List ℕ)) → packet_limit < length (octets_of file) → file ≡ Some (octets_of file)
 is_there None long = absurd (omega arith)
 is_there (Some octets) long = refl
-
--- one stage, which has no output
-reads_alone : (file : List ℕ) → All (λ stage. stage.output ≡ None) (reading_stage file ∷ [])
-reads_alone file zero d within = refl
-reads_alone file (suc k) d within = absurd (omega (arith, within))
-
--- Of a folder nothing but numbers of failed reads has moved.
-pub record IsOnlyRead (old new : DepotState) : Type 0 where
-  pub told : new.tells ≡ old.tells
-  pub kept : IsTrue old.tells → SameHeld old.held new.held
-  pub creates : SameCounts old.creates new.creates
-  pub appends : SameCounts old.appends new.appends
 
 pub only_read : {T E : Type 0} (failed : E) (result : Result T E) (file : List ℕ) (old new : DepotState) → OnlyReads {T = T} {E = E} failed result file old new → IsOnlyRead old new
 only_read failed result file old new reads = record { told = reads.told; kept = reads.kept; creates = reads.creates; appends = reads.appends }
@@ -41,9 +32,8 @@ only_read failed result file old new reads = record { told = reads.told; kept = 
 pub knows_usage : (before after : Outside) → after.folder ≡ before.folder → after.stream.tells ≡ before.stream.tells → Knows None before after []
 knows_usage before after same told = record {
   begun = record { content = before.folder.held; told = λ _ name. refl; are = refl; flows = refl };
-  none = λ k d within. absurd (omega (arith, within));
+  outputs = refl;
   lawful = refl;
-  whole = refl;
   kept = λ _ name. ap (λ folder. folder.held name) same;
   creates = λ name. ap (λ folder. folder.creates name) same;
   appends = λ name. ap (λ folder. folder.appends name) same;
@@ -53,13 +43,12 @@ knows_usage before after same told = record {
 
 -- a call that reads the file that its words name, and has no flows
 pub knows_reading : (request : Option Command) (file : List ℕ) (before after : Outside) → HasStages request before.folder.held [] (reading_stage file ∷ [])
-    → IsLawful request before.folder.held [] → IsWhole request before.folder.held [] → IsOnlyRead before.folder after.folder → after.stream.tells ≡ before.stream.tells
+    → HasOutputs request before.folder.held [] [] → IsLawful request before.folder.held [] → IsOnlyRead before.folder after.folder → after.stream.tells ≡ before.stream.tells
     → Knows request before after (reading_stage file ∷ [])
-knows_reading request file before after stages lawful whole reads told = record {
+knows_reading request file before after stages outputs lawful reads told = record {
   begun = record { content = before.folder.held; told = λ _ name. refl; are = stages; flows = refl };
-  none = reads_alone file;
+  outputs = outputs;
   lawful = lawful;
-  whole = whole;
   kept = reads.kept;
   creates = reads.creates;
   appends = reads.appends;
@@ -76,6 +65,7 @@ usage_due before = record {
   may = (λ name. None, refl);
   parts = λ told. record { report = late_report [] usage_line; has = refl; body = refl; last = refl };
   last = λ e. absurd (omega (arith, e));
+  whole = λ told. refl;
 }
 
 module _ (doi : ℕ) (level : Label) (file : List ℕ) (before : Outside) where
@@ -97,6 +87,7 @@ module _ (doi : ℕ) (level : Label) (file : List ℕ) (before : Outside) where
       last = refl;
     };
     last = λ e. absurd (omega (arith, e));
+    whole = λ told. refl;
   }
 
   pub verdict_due : (octets : List ℕ) (verdict : Verdict) → (IsTrue before.folder.tells → before.folder.held file ≡ Some octets) → length octets ≤ packet_limit
@@ -114,6 +105,7 @@ module _ (doi : ℕ) (level : Label) (file : List ℕ) (before : Outside) where
       last = refl;
     };
     last = λ e. refl;
+    whole = λ told. refl;
   }
 
   -- every report of `judge` has nothing in front of its read

@@ -16,11 +16,15 @@ use Rattle.pcap_frames.specs.Record.{Frame, record_size, record_at}
 use Rattle.pcap_frames.specs.Capture.{Capture, Records, go_on, records_at, capture_by, capture_of}
 use Rattle.pcap_frames.specs.Written.{IsWritableFrame, capture_octets}
 use Rattle.pcap_frames.proofs.Law.{records_come_one_behind_another, a_written_capture_reads_back}
-use Rattle.netlabel_run.specs.Line.{shown_line, shown_end_line, capture_line, packets_limit_line}
-use Rattle.netlabel_run.specs.Show.{IsShown, AreShown, Event, packets_limit, capture_event}
-use Rattle.netlabel_run.specs.Report.{Report, starts_of, lines_report, late_report, CaptureReport, ShowReport}
+use Rattle.report_lines.specs.Packet.{shown_line, shown_end_line, IsShown}
+use Rattle.report_lines.specs.Capture.{capture_line}
+use Rattle.report_lines.specs.Fixed.{packets_limit_line}
+use Rattle.netlabel_run.specs.Show.{AreShown}
+use Rattle.call_report.specs.Event.{Event, packets_limit, capture_event}
+use Rattle.netlabel_run.specs.Report.{starts_of, lines_report, CaptureReport, ShowReport}
+use Rattle.call_report.specs.Report.{Report, late_report}
 use Rattle.netlabel_run.specs.Status.{capture_status}
-use Rattle.netlabel_run.proofs.Answer.{some_lines, lines_count, lines_join, concat-append}
+use Rattle.netlabel_run.proofs.Answer.{some_lines, lines_join, concat-append}
 
 -- the records from a place on
 abbrev pub left_at : List ℕ → CaptureHeader → ℕ → Records
@@ -297,19 +301,3 @@ unfolding capture_with
 full_status =
     let back = a_written_capture_reads_back false (many 1048577) (many_fit 1048577) in
     ap (λ e. option_map_or (λ (x : Event). x.status) e 0) (sym (event_status packets_limit 1048577 (many_read 1048577) (length-many 1048577) back.1)) ∙ ap capture_status (sym back.0)
-
-pauses_long : (lines : List (List ℕ)) (event : Option Event) → length (lines_report lines event).pauses ≡ length lines + 1
-pauses_long lines None = length-map-range_with_len (λ k. concat (take k lines)) 0 (length lines + 1)
-pauses_long lines (Some event) = length-map-range_with_len (λ k. concat (take k lines)) 0 (length lines + 1)
-
--- a capture with a packet: something may stand in front of a read
-pub some_pause : (report : Report) × ShowReport (Some (capture_with 1)) report × (length report.pauses ≡ 2)
-unfolding capture_with
-some_pause =
-    let back = a_written_capture_reads_back false (many 1) (many_fit 1) in
-    let frames = take packets_limit (many 1) in
-    let lines = some_lines 101 1 frames in
-    let event = capture_event 1 packets_limit (many_read 1) in
-    let report = lines_report lines.0 event in
-    let count : length lines.0 ≡ 1 = lines_count 101 1 frames lines.0 lines.1 ∙ ap length (take_all packets_limit (many 1) (omega (arith, length-many 1))) ∙ length-many 1 in
-    (report, subst (λ (r : Result Capture CaptureFault). CaptureReport r report) (sym back.0) (lines.0, lines.1, refl), omega (arith, pauses_long lines.0 event, count))

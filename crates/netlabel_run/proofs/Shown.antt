@@ -17,24 +17,28 @@ use Rattle.pcap_frames.specs.Capture.{Capture, capture_by, capture_of}
 use Rattle.pcap_frames.specs.Reader.{Reader, IsAnswerOf, SpeaksOf}
 use Rattle.netlabel_run.specs.declared.command.Command.{Command}
 use Rattle.netlabel_run.specs.declared.command.Command.TheVariants.{Show}
-use Rattle.netlabel_run.specs.declared.status.Status.{Status}
-use Rattle.netlabel_run.specs.declared.status.Status.TheVariants.{Done, ReadFault, WrongCapture, OutOfMemory, Limit}
-use Rattle.netlabel_run.specs.Line.{shown_line, shown_end_line, capture_line, packets_limit_line}
-use Rattle.netlabel_run.specs.Show.{IsShown, Event, packets_limit}
-use Rattle.netlabel_run.specs.Report.{Folder, Report, HasReport, IsQuiet, late_report, lines_report, CaptureReport, ShowReport}
+use Rattle.call_report.specs.declared.status.Status.{Status}
+use Rattle.call_report.specs.declared.status.Status.TheVariants.{Done, ReadFault, WrongCapture, OutOfMemory, Limit}
+use Rattle.report_lines.specs.Packet.{shown_line, shown_end_line, IsShown}
+use Rattle.report_lines.specs.Capture.{capture_line}
+use Rattle.report_lines.specs.Fixed.{packets_limit_line}
+use Rattle.call_report.specs.Event.{Event, packets_limit}
+use Rattle.netlabel_run.specs.Report.{HasReport, PrintsLate, lines_report, CaptureReport, ShowReport}
+use Rattle.call_report.specs.Report.{Folder, Report, late_report}
 use Rattle.netlabel_run.specs.Status.{HasStatus, ShowStatus, capture_status}
-use Rattle.netlabel_run.specs.Stages.{reading_stage}
-use Rattle.netlabel_run.specs.Outside.{Outside}
+use Rattle.call_report.specs.Stages.{reading_stage}
+use Rattle.call_report.specs.Outside.{Outside}
 use Rattle.netlabel_run.specs.CallEnds.{CallEnds}
-use Rattle.netlabel_run.specs.inside.Numbers.{number_of, write_status}
-use Rattle.netlabel_run.specs.inside.Printing.{HandsOn, IsUnderWay, Printed}
+use Rattle.call_report.specs.Numbers.{status_number, write_status}
+use Rattle.call_report.specs.Printing.{HandsOn, IsUnderWay, Printed}
 use Rattle.netlabel_run.specs.inside.Stopping.{stop_line, stop_status}
-use Rattle.netlabel_run.proofs.Handing.{way_start, way_add, way_more, breaks_more, rose_more, printed_behind}
-use Rattle.netlabel_run.proofs.Endings.{Knows, HasParts, Begins, IsDue, ends_printed, ends_short, ends_unwritten, ends_stopped_short, ends_stopped_unread}
+use Rattle.call_report.proofs.Law.{a_report_begins, a_report_takes_a_text, a_report_goes_on, a_report_breaks, faults_rose_over_a_report, a_report_is_printed}
+use Rattle.netlabel_run.proofs.Endings.{HasParts, IsDue, ends_printed, ends_short, ends_unwritten, ends_stopped_short, ends_stopped_unread}
 use Rattle.netlabel_run.proofs.Once.{show_report_once}
-use Rattle.netlabel_run.proofs.Requests.{IsOnlyRead, only_read, knows_reading}
+use Rattle.netlabel_run.specs.inside.Ending.{IsOnlyRead, Knows, Begins}
+use Rattle.netlabel_run.proofs.Requests.{only_read, knows_reading}
 use Rattle.netlabel_run.proofs.Answer.{lines_count}
-use Rattle.netlabel_run.proofs.Showing.{IsAmid, amid_start, amid_next, Ends, ends_report, ends_status, ends_whole, ends_broken, ends_full, has_front, front_pauses, HasFront, some_report, first_pause, empty_is_broken, capture_with, whole_status, full_status, some_pause}
+use Rattle.netlabel_run.proofs.Showing.{IsAmid, amid_start, amid_next, Ends, ends_report, ends_status, ends_whole, ends_broken, ends_full, has_front, front_pauses, HasFront, some_report, first_pause, empty_is_broken, capture_with, whole_status, full_status}
 
 -- ---- the folder
 
@@ -80,8 +84,8 @@ module _ (file : List ℕ) where
   knows_show before after reads told = knows_reading asked file before after refl refl refl reads told
 
   -- it doesn't wait for the capture's end before it prints
-  not_quiet : IsQuiet asked → ⊥
-  not_quiet quiet = omega (arith, some_pause.2, ap length (quiet (λ name. Some (capture_with 1)) [] some_pause.0 some_pause.1))
+  not_late : PrintsLate asked → ⊥
+  not_late late = late
 
   -- a front of a told capture's report begins the report of the call
   front_begins : (held : Folder) (octets text : List ℕ) → held file ≡ Some octets → HasFront octets text → Begins asked held text
@@ -93,8 +97,8 @@ module _ (file : List ℕ) where
   }
 
   -- what is due of a capture, by its body, the event's line and the status that is told
-  show_due : (before : Outside) (due : Status) (body last octets' : List ℕ) → number_of due ≡ capture_status (capture_of octets') → (number_of due ≡ 3 → ⊥) → (number_of due ≡ 4 → ⊥) → (number_of due ≡ 6 → ⊥) → (number_of due ≡ 1 → ⊥)
-      → (number_of due ≡ 0 → last ≡ []) → (IsTrue before.folder.tells → HasStatus asked before.folder.held (number_of due)) → (IsTrue before.folder.tells → HasParts asked before.folder.held body last) → IsDue asked before due body last
+  show_due : (before : Outside) (due : Status) (body last octets' : List ℕ) → status_number due ≡ capture_status (capture_of octets') → (status_number due ≡ 3 → ⊥) → (status_number due ≡ 4 → ⊥) → (status_number due ≡ 6 → ⊥) → (status_number due ≡ 1 → ⊥)
+      → (status_number due ≡ 0 → last ≡ []) → (IsTrue before.folder.tells → HasStatus asked before.folder.held (status_number due)) → (IsTrue before.folder.tells → HasParts asked before.folder.held body last) → IsDue asked before due body last
   show_due before due body last octets' may not_3 not_4 not_6 not_1 done has parts = record {
     event = (not_3, not_4, not_6);
     form = λ e. absurd (not_1 e);
@@ -103,6 +107,7 @@ module _ (file : List ℕ) where
     may = (λ name. Some octets', may);
     parts = parts;
     last = done;
+    whole = λ told. refl;
   }
 
   -- the report of a capture that ends so
@@ -135,7 +140,7 @@ shows_start file before now reader waiting name place none stream same header th
   name = name;
   same = same;
   text = [];
-  way = subst (λ (w : List ℕ). IsUnderWay [] w before.stream now.stream) (sym none) (subst (IsUnderWay [] [] before.stream) (sym stream) (way_start before.stream));
+  way = subst (λ (w : List ℕ). IsUnderWay [] w before.stream now.stream) (sym none) (subst (IsUnderWay [] [] before.stream) (sym stream) (a_report_begins before.stream));
   told = λ told. (octets_of (before.folder.held file), header_there (before.folder.held file) (there told), amid_start (octets_of (before.folder.held file)) reader.header reader.place (header told) place);
   few = omega arith;
 }
@@ -187,7 +192,7 @@ module _ (file : List ℕ) (before now after : Outside) (reader : Reader) (waiti
 
   -- the capture's end
   pub ends_at_end : (octets : List ℕ) (status : Status) → Reads (Ok None) → (IsTrue now.folder.tells → Answers octets (Ok None) (octets_of (now.folder.held reader.name)))
-      → Printed (waiting ++ shown_end_line n) [] Done status now.stream after.stream → CallEnds (asked file) before after (number_of status) []
+      → Printed (waiting ++ shown_end_line n) [] Done status now.stream after.stream → CallEnds (asked file) before after (status_number status) []
   ends_at_end octets status reads answer printed =
       let end = shown_end_line n in
       let whole : (told : IsTrue before.folder.tells) → Ends (showing.told told).0 reader.header (showing.told told).2.frames None =
@@ -199,26 +204,26 @@ module _ (file : List ℕ) (before now after : Outside) (reader : Reader) (waiti
       ends_printed (asked file) before after (reading_stage file ∷ []) (knows (Ok None) reads printed.told) Done (showing.text ++ end) []
       (show_due file before Done (showing.text ++ end) [] (capture_with 0) whole_status (λ e. omega (arith, e)) (λ e. omega (arith, e)) (λ e. omega (arith, e)) (λ e. omega (arith, e)) (λ e. refl) (due None whole) has)
       status (λ e. λ name. reads.reads.ok name ∙ showing.same.reads name)
-      (printed_behind (showing.text ++ end) (waiting ++ end) before.stream now.stream (way_add showing.text waiting before.stream now.stream showing.way end) [] Done status after.stream printed)
+      (a_report_is_printed (showing.text ++ end) (waiting ++ end) before.stream now.stream (a_report_takes_a_text showing.text waiting before.stream now.stream showing.way end) [] Done status after.stream printed)
 
   -- an event in front of the capture's end
   ends_by : (result : Result (Option FrameHead) FrameStop) (kind : Status) (line octets' : List ℕ) (status : Status) → Reads result
-      → number_of kind ≡ capture_status (capture_of octets') → (number_of kind ≡ 3 → ⊥) → (number_of kind ≡ 4 → ⊥) → (number_of kind ≡ 6 → ⊥) → (number_of kind ≡ 1 → ⊥) → (number_of kind ≡ 0 → ⊥)
-      → ((told : IsTrue before.folder.tells) → Ends (showing.told told).0 reader.header (showing.told told).2.frames (Some (record { status = number_of kind; line = line })))
-      → Printed waiting line kind status now.stream after.stream → CallEnds (asked file) before after (number_of status) []
+      → status_number kind ≡ capture_status (capture_of octets') → (status_number kind ≡ 3 → ⊥) → (status_number kind ≡ 4 → ⊥) → (status_number kind ≡ 6 → ⊥) → (status_number kind ≡ 1 → ⊥) → (status_number kind ≡ 0 → ⊥)
+      → ((told : IsTrue before.folder.tells) → Ends (showing.told told).0 reader.header (showing.told told).2.frames (Some (record { status = status_number kind; line = line })))
+      → Printed waiting line kind status now.stream after.stream → CallEnds (asked file) before after (status_number status) []
   ends_by result kind line octets' status reads may not_3 not_4 not_6 not_1 not_0 ends printed =
-      let event : Option Event = Some (record { status = number_of kind; line = line }) in
+      let event : Option Event = Some (record { status = status_number kind; line = line }) in
       let has : IsTrue before.folder.tells → HasParts (asked file) before.folder.held showing.text line = λ told.
       let amid = (showing.told told).2 in
       record { report = lines_report amid.lines event; has = parts event ends told; body = sym amid.is; last = refl } in
       ends_printed (asked file) before after (reading_stage file ∷ []) (knows result reads printed.told) kind showing.text line
       (show_due file before kind showing.text line octets' may not_3 not_4 not_6 not_1 (λ e. absurd (not_0 e)) (due event ends) has)
       status (λ e. absurd (not_0 e))
-      (printed_behind showing.text waiting before.stream now.stream showing.way line kind status after.stream printed)
+      (a_report_is_printed showing.text waiting before.stream now.stream showing.way line kind status after.stream printed)
 
   -- one packet too many
   pub ends_at_limit : (head : FrameHead) (octets : List ℕ) (status : Status) → n ≡ packets_limit → Reads (Ok (Some head)) → (IsTrue now.folder.tells → Answers octets (Ok (Some head)) (octets_of (now.folder.held reader.name)))
-      → Printed waiting packets_limit_line Limit status now.stream after.stream → CallEnds (asked file) before after (number_of status) []
+      → Printed waiting packets_limit_line Limit status now.stream after.stream → CallEnds (asked file) before after (status_number status) []
   ends_at_limit head octets status full reads answer printed =
       ends_by (Ok (Some head)) Limit packets_limit_line (capture_with 1048577) status reads full_status (λ e. omega (arith, e)) (λ e. omega (arith, e)) (λ e. omega (arith, e)) (λ e. omega (arith, e)) (λ e. omega (arith, e))
       (λ told. let t = showing.told told in ends_full t.0 reader.header reader.place n showing.text t.2 showing.few (record { head = head; octets = octets }) full (said octets (Ok (Some head)) answer told))
@@ -226,7 +231,7 @@ module _ (file : List ℕ) (before now after : Outside) (reader : Reader) (waiti
 
   -- the reader has stopped
   pub ends_at_stop : (why : FrameStop) (octets : List ℕ) (status : Status) → Reads (Err why) → (IsTrue now.folder.tells → Answers octets (Err why) (octets_of (now.folder.held reader.name)))
-      → Printed waiting (stop_line why) (stop_status why) status now.stream after.stream → CallEnds (asked file) before after (number_of status) []
+      → Printed waiting (stop_line why) (stop_status why) status now.stream after.stream → CallEnds (asked file) before after (status_number status) []
   ends_at_stop (stop.Capture fault) octets status reads answer printed =
       ends_by (Err (stop.Capture fault)) WrongCapture (capture_line 1 fault) [] status reads empty_is_broken (λ e. omega (arith, e)) (λ e. omega (arith, e)) (λ e. omega (arith, e)) (λ e. omega (arith, e)) (λ e. omega (arith, e))
       (λ told. let t = showing.told told in ends_broken t.0 reader.header reader.place n showing.text t.2 showing.few fault (said octets (Err (stop.Capture fault)) answer told))
@@ -234,11 +239,11 @@ module _ (file : List ℕ) (before now after : Outside) (reader : Reader) (waiti
   ends_at_stop stop.ReadFault octets status reads answer printed =
       ends_stopped_unread (asked file) before after (reading_stage file ∷ []) (knows (Err stop.ReadFault) reads printed.told) showing.text (has_form file) begins status
       (record { name = file; counted = inl refl; rose = then_rose before.folder now.folder after.folder showing.same stop.ReadFault reader.name file showing.name reads })
-      pauses (λ quiet. absurd (not_quiet file quiet))
-      (printed_behind showing.text waiting before.stream now.stream showing.way [] ReadFault status after.stream printed)
+      pauses (λ late. absurd (not_late file late))
+      (a_report_is_printed showing.text waiting before.stream now.stream showing.way [] ReadFault status after.stream printed)
   ends_at_stop stop.OutOfMemory octets status reads answer printed =
       ends_stopped_short (asked file) before after (reading_stage file ∷ []) (knows (Err stop.OutOfMemory) reads printed.told) showing.text (has_form file) begins status
-      (printed_behind showing.text waiting before.stream now.stream showing.way [] OutOfMemory status after.stream printed)
+      (a_report_is_printed showing.text waiting before.stream now.stream showing.way [] OutOfMemory status after.stream printed)
 
   -- ---- one packet more
 
@@ -258,7 +263,7 @@ module _ (file : List ℕ) (before now after : Outside) (reader : Reader) (waiti
     name = name ∙ showing.name;
     same = then_unmoved before.folder now.folder after.folder showing.same stop.ReadFault (Some head) reader.name reads;
     text = showing.text ++ shown_line (n + 1) s;
-    way = way_more showing.text waiting before.stream now.stream showing.way (shown_line (n + 1) s) still x after.stream hands;
+    way = a_report_goes_on showing.text waiting before.stream now.stream showing.way (shown_line (n + 1) s) still x after.stream hands;
     told = λ told.
         let t = showing.told told in
         (t.0, t.1, subst (λ (h : CaptureHeader). IsAmid t.0 h next.place (n + 1) (showing.text ++ shown_line (n + 1) s)) (sym header) (amid_more head octets s next.place place shown answer told));
@@ -277,16 +282,16 @@ module _ (file : List ℕ) (before now after : Outside) (reader : Reader) (waiti
   -- or was not
   pub ends_at_write : {T : Type 0} (head : FrameHead) (octets s still : List ℕ) (fault : IoFault) → n < packets_limit → Reads (Ok (Some head))
       → (IsTrue now.folder.tells → Answers octets (Ok (Some head)) (octets_of (now.folder.held reader.name))) → IsShown reader.header.link octets s
-      → HandsOn {T = T} (shown_line (n + 1) s) waiting still (Err fault) now.stream after.stream → CallEnds (asked file) before after (number_of (write_status fault)) []
+      → HandsOn {T = T} (shown_line (n + 1) s) waiting still (Err fault) now.stream after.stream → CallEnds (asked file) before after (status_number (write_status fault)) []
   ends_at_write head octets s still Failed few reads answer shown hands =
       let line = shown_line (n + 1) s in
       ends_unwritten (asked file) before after (reading_stage file ∷ []) (knows (Ok (Some head)) reads hands.told) (showing.text ++ line) (has_form file)
-      (rose_more showing.text waiting before.stream now.stream showing.way after.stream (hands.counts.cause refl))
-      (breaks_more showing.text waiting before.stream now.stream showing.way line after.stream hands.err)
+      (faults_rose_over_a_report showing.text waiting before.stream now.stream showing.way after.stream (hands.counts.cause refl))
+      (a_report_breaks showing.text waiting before.stream now.stream showing.way line after.stream hands.err)
       (write_front head octets s few answer shown)
   ends_at_write head octets s still IoOutOfMemory few reads answer shown hands =
       let line = shown_line (n + 1) s in
-      let breaks = breaks_more showing.text waiting before.stream now.stream showing.way line after.stream hands.err in
+      let breaks = a_report_breaks showing.text waiting before.stream now.stream showing.way line after.stream hands.err in
       ends_short (asked file) before after (reading_stage file ∷ []) (knows (Ok (Some head)) reads hands.told) (showing.text ++ line)
       (write_front head octets s few answer shown)
       (λ out. let less = breaks.written out in record { count = less.count; within = omega (arith, less.within); written = less.written })
@@ -299,7 +304,7 @@ module _ (file : List ℕ) (before after : Outside) where
 
   pub ends_unbegun : {T : Type 0} (shown : T → CaptureHeader) (why : FrameStop) (status : Status) → OnlyReads {T = T} stop.ReadFault (Err why) file before.folder after.folder
       → (IsTrue before.folder.tells → IsAnswerOf shown (Err why) (capture_header (octets_of (before.folder.held file)))) → (IsTrue before.folder.tells → SpeaksOf {T = T} (before.folder.held file) (Err why))
-      → Printed [] (stop_line why) (stop_status why) status before.stream after.stream → CallEnds (asked file) before after (number_of status) []
+      → Printed [] (stop_line why) (stop_status why) status before.stream after.stream → CallEnds (asked file) before after (status_number status) []
   ends_unbegun shown (stop.Capture fault) status reads answer there printed =
       let octets = octets_of (before.folder.held file) in
       let is : IsTrue before.folder.tells → before.folder.held file ≡ Some octets = λ told. header_there (before.folder.held file) (there told) in

@@ -1,15 +1,18 @@
 -- How a call ends: what was asked for, what it finds outside and leaves there, its status, and the versions that it printed.
-use Rattle.std.specs.Prelude.{ℕ, ◌≡◌, ◌≢◌, ◌⊎◌, ◌<◌, ◌++◌, IsTrue, List, [], length, take, drop, Contains, Option, Some, None}
+use Rattle.std.specs.Prelude.{ℕ, ◌≡◌, ◌≢◌, ◌⊎◌, ◌<◌, ◌++◌, IsTrue, List, [], length, drop, Contains, Option, None}
 use Rattle.std.specs.List.{All}
 use Rattle.net_io.specs.Depot.{DepotState, SameHeld}
 use Rattle.net_io.specs.Faults.{SameCounts}
 use Rattle.net_io.specs.Sink.{WritesPrefix, WritesLess}
 use Rattle.netlabel_run.specs.declared.command.Command.{Command}
-use Rattle.netlabel_run.specs.Report.{Folder, Versions, Report, report_text, HasReport, IsQuiet}
-use Rattle.netlabel_run.specs.Status.{HasStatus, IsRefusal}
-use Rattle.netlabel_run.specs.Stages.{Stage, Output, HasStages}
+use Rattle.netlabel_run.specs.Report.{HasReport, PrintsLate}
+use Rattle.call_report.specs.Report.{Folder, Versions, Report, report_text}
+use Rattle.netlabel_run.specs.Status.{HasStatus, IsPossible, IsRefusal}
+use Rattle.netlabel_run.specs.Stages.{HasStages, HasOutputs}
+use Rattle.call_report.specs.Stages.{Stage}
+use Rattle.call_report.specs.Output.{Output, IsBegun, IsMade}
 use Rattle.netlabel_run.specs.Seen.{IsLawful, IsWhole}
-use Rattle.netlabel_run.specs.Outside.{Outside, ReadRose, CreateRose, AppendRose, WriteRose, CountRose, NoneFailed}
+use Rattle.call_report.specs.Outside.{Outside, ReadRose, CreateRose, AppendRose, WriteRose, CountRose, NoneFailed}
 
 -- nothing was refused: the status is 0, or no counted number rose and memory sufficed
 abbrev pub IsClean : List Stage → Outside → Outside → ℕ → Type 0
@@ -19,7 +22,7 @@ IsClean stages before after status = (status ≡ 0) ⊎ ((status ≢ 6) × (Coun
 pub record EndsWith (request : Option Command) (before after : Outside) (status : ℕ) (stages : List Stage) : Type 0 where
   -- the status is the one that is due, or a refusal's; where the folder tells nothing, it is due over some content
   pub due : IsTrue before.folder.tells → HasStatus request before.folder.held status ⊎ IsRefusal status
-  pub possible : ((held : Folder) × HasStatus request held status) ⊎ IsRefusal status
+  pub possible : IsPossible request status ⊎ IsRefusal status
   -- 1: exactly where the words are no form, but for want of memory
   pub no_form : status ≡ 1 → request ≡ None
   pub usage : request ≡ None → (status ≡ 1) ⊎ (status ≡ 6)
@@ -61,23 +64,13 @@ pub record Prints (request : Option Command) (before after : Outside) (status : 
   -- 4: not all that comes before the deciding event, where it was a write that failed
   pub stop : status ≡ 4 → StopsInBody request before after seen ⊎ AppendRose stages before after
 
--- a file holds what it held, or some first octets of what it is to hold
-abbrev pub IsBegun : Output → Folder → Folder → Type 0
-IsBegun output old new = (new output.name ≡ old output.name)
-    ⊎ ((octets : List ℕ) × (count : ℕ) × (output.octets ≡ Some octets) × (new output.name ≡ Some (take count octets)))
-
--- a file holds all that it is to hold, or what it held where it isn't made
-abbrev pub IsMade : Output → Folder → Folder → Type 0
-IsMade output old new = ((octets : List ℕ) → output.octets ≡ Some octets → new output.name ≡ Some octets)
-    × (output.octets ≡ None → new output.name ≡ old output.name)
-
 -- What the files hold, where the folder tells it: an output what was made of it, and each other name what it held.
-pub record Leaves (before after : Outside) (status : ℕ) (stages : List Stage) : Type 0 where
-  pub outputs : All (λ stage. (output : Output) → stage.output ≡ Some output → IsBegun output before.folder.held after.folder.held) stages
-  pub whole : IsClean stages before after status
-      → All (λ stage. (output : Output) → stage.output ≡ Some output → IsMade output before.folder.held after.folder.held) stages
-  pub others : (name : List ℕ) → All (λ stage. (output : Output) → stage.output ≡ Some output → output.name ≢ name) stages
-      → after.folder.held name ≡ before.folder.held name
+pub record Leaves (request : Option Command) (before after : Outside) (status : ℕ) (seen : Versions) (stages : List Stage) : Type 0 where
+  pub outputs : List Output
+  pub are : HasOutputs request before.folder.held seen outputs
+  pub begun : All (λ output. IsBegun output before.folder.held after.folder.held) outputs
+  pub whole : IsClean stages before after status → All (λ output. IsMade output before.folder.held after.folder.held) outputs
+  pub others : (name : List ℕ) → All (λ output. output.name ≢ name) outputs → after.folder.held name ≡ before.folder.held name
 
 -- how a call ends
 pub record CallEnds (request : Option Command) (before after : Outside) (status : ℕ) (seen : Versions) : Type 0 where
@@ -85,11 +78,11 @@ pub record CallEnds (request : Option Command) (before after : Outside) (status 
   pub begun : HasBegun request before.folder seen stages
   pub ends : EndsWith request before after status stages
   pub prints : IsTrue before.folder.tells → Prints request before after status seen stages
-  pub leaves : IsTrue before.folder.tells → Leaves before after status stages
+  pub leaves : IsTrue before.folder.tells → Leaves request before after status seen stages
   pub lawful : IsTrue before.folder.tells → IsLawful request before.folder.held seen
   pub whole : IsTrue before.folder.tells → IsClean stages before after status → IsWhole request before.folder.held seen
   -- where nothing is printed before a read, nothing stands there with status 3, whether or not the folder tells what it holds
-  pub silent : IsTrue before.stream.tells → status ≡ 3 → IsQuiet request → after.stream.written ≡ before.stream.written
+  pub silent : IsTrue before.stream.tells → status ≡ 3 → PrintsLate request → after.stream.written ≡ before.stream.written
   -- a call without an output makes nothing and appends nothing
   pub still : All (λ stage. stage.output ≡ None) stages → SameCounts before.folder.creates after.folder.creates × SameCounts before.folder.appends after.folder.appends
   pub folder_told : after.folder.tells ≡ before.folder.tells

@@ -1,12 +1,12 @@
 -- What `check` says of a text: the replies to all steps of a script and how much it has, or why the text is no script.
-use Rattle.std.specs.Prelude.{ℕ, List, [], ◌++◌, length, Result}
+use Rattle.std.specs.Prelude.{ℕ, List, ◌++◌, length, Result}
 use Rattle.command_forms.specs.Form.{with_translations}
 use Rattle.label_commands.specs.declared.script.Script.{Script}
 use Rattle.label_commands.specs.declared.stop.ScriptStop.{ScriptStop}
 use Rattle.label_commands.specs.declared.stop.ScriptStop.TheVariants as stop
 use Rattle.label_commands.specs.Script.{read_text}
 use Rattle.reply_lines.specs.Reply.{replies_text}
-use Rattle.netlabel_run.specs.Line.{script_line, limit_line, ok_line}
+use Rattle.report_lines.specs.Script.{ok_line}
 
 -- what is read of a file, whose name is the script's own
 abbrev pub script_read : List ℕ → List ℕ → Result Script ScriptStop
@@ -17,13 +17,7 @@ abbrev pub check_text : Script → List ℕ
 check_text script =
     replies_text script.nodes script.steps 0 (length script.steps) ++ ok_line (length script.nodes) (length script.steps) (length script.flows)
 
--- the line that tells why a text is no script; reading a text has no want of memory
-abbrev pub script_stop_line : ScriptStop → List ℕ
-script_stop_line (stop.Fault fault) = script_line fault
-script_stop_line (stop.Limit what number) = limit_line what number
-script_stop_line stop.OutOfMemory = []
-
--- and the status
+-- the status where a text is no script; reading a text has no want of memory
 abbrev pub script_stop_status : ScriptStop → ℕ
 script_stop_status (stop.Fault fault) = 2
 script_stop_status (stop.Limit what number) = 7

@@ -1,13 +1,12 @@
 pub mod Words
 pub mod Verdict
-pub mod Line
 pub mod Check
 pub mod Show
+pub mod Run
 pub mod Report
 pub mod Status
 pub mod Stages
 pub mod Seen
-pub mod Outside
 pub mod CallEnds
 pub mod Laws
 pub mod inside

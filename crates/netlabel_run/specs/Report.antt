@@ -1,45 +1,24 @@
 -- What a call prints. It is said under the versions that the call itself has printed, so a flow that was cut short has the report of what it came to.
-use Rattle.std.specs.Prelude.{ℕ, ◌+◌, ◌<◌, ◌≤◌, ◌≡◌, List, [], ◌∷◌, ◌++◌, length, take, map, codes, Option, Some, None, Result, Ok, Err}
+use Rattle.std.specs.Prelude.{ℕ, ◌+◌, ◌<◌, ◌≤◌, ◌≡◌, List, [], ◌++◌, length, take, map, Option, Some, None, Result, Ok, Err}
 use Rattle.std.specs.List.{concat, range_with_len}
 use Rattle.mls_label.specs.declared.label.Label.{Label}
 use Rattle.netlabel_run.specs.declared.command.Command.{Command}
-use Rattle.netlabel_run.specs.declared.command.Command.TheVariants.{Judge, Check, Show}
+use Rattle.netlabel_run.specs.declared.command.Command.TheVariants.{Judge, Check, Show, Run}
 use Rattle.pcap_frames.specs.declared.fault.CaptureFault.{CaptureFault}
 use Rattle.pcap_frames.specs.Capture.{Capture, capture_of}
-use Rattle.netlabel_run.specs.Verdict.{Verdict, IsVerdict}
+use Rattle.netlabel_run.specs.Verdict.{IsVerdict}
+use Rattle.report_lines.specs.Denial.{Verdict, verdict_line}
 use Rattle.label_commands.specs.declared.script.Script.{Script}
 use Rattle.label_commands.specs.declared.stop.ScriptStop.{ScriptStop}
-use Rattle.reply_lines.specs.Reply.{line_of}
-use Rattle.netlabel_run.specs.Line.{verdict_line, shown_end_line, capture_line}
-use Rattle.netlabel_run.specs.Check.{script_read, check_text, script_stop_line}
-use Rattle.netlabel_run.specs.Show.{AreShown, Event, packets_limit, capture_event}
-
--- what each name of the folder holds
-abbrev pub Folder : Type 0
-Folder = List ℕ → Option (List ℕ)
-
--- for each flow, for each of its packets, the versions of the tables that its hops were judged under
-abbrev pub Versions : Type 0
-Versions = List (List (List ℕ))
-
--- What is printed before the event that decides how the call ends, and the line of that event, if it has one; and what may stand there where a read of an input or the making of an output fails.
-pub record Report : Type 0 where
-  pub body : List ℕ
-  pub last : List ℕ
-  pub pauses : List (List ℕ)
-
-abbrev pub report_text : Report → List ℕ
-report_text report = report.body ++ report.last
-
--- the report of a call that prints nothing before its input is read to its end
-abbrev pub late_report : List ℕ → List ℕ → Report
-late_report body last = record { body = body; last = last; pauses = [] ∷ [] }
-
-unfoldable pub usage_line : List ℕ
-usage_line = line_of (codes "usage: netlabel run <script> [-w <n>] | judge <doi> <level> <file> | check <script> | show <capture> | agree <script> <flow> [<versions>] | make <number> <count> <capture>")
-
-unfoldable pub packet_limit_line : List ℕ
-packet_limit_line = line_of (codes "limit packet 65575")
+use Rattle.report_lines.specs.Packet.{shown_end_line}
+use Rattle.report_lines.specs.Capture.{capture_line}
+use Rattle.netlabel_run.specs.Check.{script_read, check_text}
+use Rattle.report_lines.specs.Script.{script_stop_line}
+use Rattle.netlabel_run.specs.Show.{AreShown}
+use Rattle.netlabel_run.specs.Run.{RunReport}
+use Rattle.report_lines.specs.Fixed.{usage_line, packet_limit_line}
+use Rattle.call_report.specs.Report.{Folder, Versions, Report, late_report}
+use Rattle.call_report.specs.Event.{Event, packets_limit, capture_event}
 
 -- the most octets of a file that is judged: 65,535 behind the 40 of an IPv6 header
 abbrev pub packet_limit : ℕ
@@ -86,7 +65,12 @@ HasReport None held seen report = report ≡ late_report [] usage_line
 HasReport (Some (Judge doi level file)) held seen report = JudgeReport doi level (held file) report
 HasReport (Some (Check file)) held seen report = CheckReport file (held file) report
 HasReport (Some (Show file)) held seen report = ShowReport (held file) report
+HasReport (Some (Run file workers)) held seen report = RunReport file held seen report
 
--- whatever the folder may hold, nothing is printed before a read
-abbrev pub IsQuiet : Option Command → Type 0
-IsQuiet request = (held : Folder) (seen : Versions) (report : Report) → HasReport request held seen report → report.pauses ≡ [] ∷ []
+-- nothing is printed before the input is read
+abbrev pub PrintsLate : Option Command → Type 0
+PrintsLate None = Unit {0}
+PrintsLate (Some (Judge doi level file)) = Unit {0}
+PrintsLate (Some (Check file)) = Unit {0}
+PrintsLate (Some (Show file)) = ⊥
+PrintsLate (Some (Run file workers)) = ⊥

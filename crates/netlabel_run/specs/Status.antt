@@ -2,14 +2,16 @@
 use Rattle.std.specs.Prelude.{ℕ, ◌≡◌, ◌⊎◌, ◌<◌, ◌≤◌, List, length, Option, Some, None, Result, Ok, Err}
 use Rattle.std.specs.Option.{option_map_or}
 use Rattle.netlabel_run.specs.declared.command.Command.{Command}
-use Rattle.netlabel_run.specs.declared.command.Command.TheVariants.{Judge, Check, Show}
+use Rattle.netlabel_run.specs.declared.command.Command.TheVariants.{Judge, Check, Show, Run}
 use Rattle.pcap_frames.specs.declared.fault.CaptureFault.{CaptureFault}
 use Rattle.pcap_frames.specs.Capture.{Capture, capture_of}
 use Rattle.label_commands.specs.declared.script.Script.{Script}
 use Rattle.label_commands.specs.declared.stop.ScriptStop.{ScriptStop}
 use Rattle.netlabel_run.specs.Check.{script_read, script_stop_status}
-use Rattle.netlabel_run.specs.Report.{Folder, packet_limit}
-use Rattle.netlabel_run.specs.Show.{packets_limit, capture_event}
+use Rattle.netlabel_run.specs.Report.{packet_limit}
+use Rattle.netlabel_run.specs.Run.{RunStatus, RunMay}
+use Rattle.call_report.specs.Report.{Folder}
+use Rattle.call_report.specs.Event.{packets_limit, capture_event}
 
 -- `judge`, by what its file holds
 abbrev pub JudgeStatus : Option (List ℕ) → ℕ → Type 0
@@ -42,6 +44,15 @@ HasStatus None held status = status ≡ 1
 HasStatus (Some (Judge doi level file)) held status = JudgeStatus (held file) status
 HasStatus (Some (Check file)) held status = CheckStatus file (held file) status
 HasStatus (Some (Show file)) held status = ShowStatus (held file) status
+HasStatus (Some (Run file workers)) held status = RunStatus file held status
+
+-- the status that is due over what some folder may hold; of `run`, over what its script may hold
+abbrev pub IsPossible : Option Command → ℕ → Type 0
+IsPossible None status = (held : Folder) × HasStatus None held status
+IsPossible (Some (Judge doi level file)) status = (held : Folder) × HasStatus (Some (Judge doi level file)) held status
+IsPossible (Some (Check file)) status = (held : Folder) × HasStatus (Some (Check file)) held status
+IsPossible (Some (Show file)) status = (held : Folder) × HasStatus (Some (Show file)) held status
+IsPossible (Some (Run file workers)) status = (text : List ℕ) × RunMay (script_read file text) status
 
 -- the statuses of what the outside refused: a read or the making of a file, a write or an append, memory
 abbrev pub IsRefusal : ℕ → Type 0

@@ -18,10 +18,7 @@ use Rattle.label_receive.specs.declared.receiving.Delivered.{Delivered}
 use Rattle.label_receive.specs.Incoming.{address_in}
 use Rattle.label_receive.specs.Receive.{receive_of}
 use Rattle.label_receive.specs.Judged.{IsJudged}
-
--- A verdict is the label of a packet that is delivered, or why it isn't.
-abbrev pub Verdict : Type 0
-Verdict = Result Label Denial
+use Rattle.report_lines.specs.Denial.{Verdict}
 
 -- the protocol whose option a packet of this version has
 abbrev pub protocol_in : Version → ℕ → Protocol

@@ -1,5 +1,6 @@
 -- The forms of the command line: what the words, without the program's name, ask for.
-use Rattle.std.specs.Prelude.{ℕ, ◌≡◌, IsTrue, List, [], ◌∷◌, map, codes, string_bytes, String, Option, Some, None}
+use Rattle.std.specs.Prelude.{ℕ, ◌≡◌, ◌<◌, ◌≤◌, IsTrue, List, [], ◌∷◌, map, codes, string_bytes, String, Option, Some, None}
+use Rattle.std.specs.Fmt.{decimal}
 use Rattle.std.specs.declared.alloc.Global.{Global}
 use Rattle.mls_label.specs.declared.label.Label.{Label}
 use Rattle.mls_range.specs.LabelText.{IsLabelText}
@@ -7,7 +8,7 @@ use Rattle.mls_range.specs.TextFault.{IsRoomyLabel}
 use Rattle.command_values.specs.Doi.{doi_of_text}
 use Rattle.flow_lines.specs.FileName.{is_file_name}
 use Rattle.netlabel_run.specs.declared.command.Command.{Command}
-use Rattle.netlabel_run.specs.declared.command.Command.TheVariants.{Judge, Check, Show}
+use Rattle.netlabel_run.specs.declared.command.Command.TheVariants.{Judge, Check, Show, Run}
 
 -- the octets of each word
 abbrev pub texts_of : List (String Global) → List (List ℕ)
@@ -37,11 +38,24 @@ pub record AsksToCheck (words : List (List ℕ)) (file : List ℕ) : Type 0 wher
   pub are : words ≡ codes "check" ∷ file ∷ []
   pub is_name : IsTrue (is_file_name file)
 
+-- a word that names a number of workers: 1 to 16, without leading zeros
+pub record NamesWorkers (text : List ℕ) (workers : ℕ) : Type 0 where
+  pub is : text ≡ decimal workers
+  pub some : 0 < workers
+  pub few : workers ≤ 16
+
+-- `run <script>`, which has 4 workers, or `run <script> -w <n>`
+pub data AsksToRun (words : List (List ℕ)) (file : List ℕ) : ℕ → Type 0 where
+  plainly : words ≡ codes "run" ∷ file ∷ [] → IsTrue (is_file_name file) → AsksToRun words file 4
+  with_workers : (text : List ℕ) (workers : ℕ) → words ≡ codes "run" ∷ file ∷ codes "-w" ∷ text ∷ [] → IsTrue (is_file_name file) → NamesWorkers text workers
+      → AsksToRun words file workers
+
 -- the words are of the command's form
 abbrev pub Asks : List (List ℕ) → Command → Type 0
 Asks words (Judge doi level file) = AsksToJudge words doi level file
 Asks words (Check file) = AsksToCheck words file
 Asks words (Show file) = AsksToShow words file
+Asks words (Run file workers) = AsksToRun words file workers
 
 -- the words are of one of the forms
 abbrev pub IsForm : List (List ℕ) → Type 0

@@ -1,4 +1,2 @@
-pub mod Numbers
-pub mod Printing
 pub mod Stopping
-pub mod Judged
+pub mod Ending

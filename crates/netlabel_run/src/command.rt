@@ -1,6 +1,7 @@
 //! What the words of the command line ask for.
 
 use command_values::Doi;
+use decimal_text::read_decimal;
 use mls_label::Label;
 use std::marker::Model;
 
@@ -20,6 +21,11 @@ pub(crate) enum Command<'a> {
     /// `show`: what each packet of a capture carries.
     Show {
         file: FileName<'a>,
+    },
+    /// `run`: the flows of a script, with so many workers.
+    Run {
+        file: FileName<'a>,
+        workers: Workers,
     },
 }
 
@@ -52,6 +58,55 @@ impl NamedDoi {
         ensures { result ≡ self.now }
     {
         Doi::of(self.number)
+    }
+}
+
+/// How many workers judge packets beside each other, 1 to 16.
+#[derive(Debug, Drop)]
+pub(crate) struct Workers {
+    number: usize,
+}
+
+impl Model for Workers {
+    ghost use Rattle.std.specs.Prelude.{ℕ, ◌<◌, ◌≤◌};
+
+    ghost Value = { ℕ };
+
+    ghost view = { λ w. w.number };
+
+    ghost invariant = { λ w. (0 < w.number) × (w.number ≤ 16) };
+}
+
+impl Workers {
+    ghost use Rattle.std.specs.Prelude.{◌≡◌, ◌<◌, ◌≤◌, ℕ, IfSome, IfNone};
+    ghost use Rattle.netlabel_run.specs.Words.{NamesWorkers};
+
+    /// So many as there are where the words name no number.
+    pub(crate) fn usual() -> Workers
+        ensures { result ≡ 4 }
+    {
+        Workers { number: 4 }
+    }
+
+    /// So many as a word names.
+    pub(crate) fn named(word: &str) -> Option<Workers>
+        ensures some { IfSome result (λ workers. NamesWorkers word.now workers) }
+        ensures none { IfNone result ((workers : ℕ) → NamesWorkers word.now workers → ⊥) }
+    {
+        let number = read_decimal(word.as_bytes())?;
+        if number == 0 || number > 16 {
+            return None;
+        }
+        Some(Workers {
+            number: number as usize,
+        })
+    }
+
+    pub(crate) fn number(&self) -> usize
+        ensures number { result ≡ self.now }
+        ensures some { (0 < result) × (result ≤ 16) }
+    {
+        self.number
     }
 }
 

@@ -2,20 +2,19 @@
 
 ghost use Rattle.std.specs.Prelude.{◌≡◌, ◌≤◌, ◌^◌, [], Some, IfOk};
 ghost use Rattle.netlabel_run.specs.declared.command.Command.TheVariants.{Judge};
-ghost use Rattle.netlabel_run.specs.Verdict.{Verdict, IsVerdict};
-ghost use Rattle.netlabel_run.specs.Line.{verdict_line};
-ghost use Rattle.netlabel_run.specs.Outside.{Outside};
+ghost use Rattle.netlabel_run.specs.Verdict.{IsVerdict};
+ghost use Rattle.report_lines.specs.Denial.{Verdict, verdict_line};
+ghost use Rattle.call_report.specs.Outside.{Outside};
 ghost use Rattle.netlabel_run.specs.CallEnds.{CallEnds};
-ghost use Rattle.netlabel_run.specs.inside.Numbers.{number_of};
+ghost use Rattle.call_report.specs.Numbers.{status_number};
 
-use crate::lines::{packet_limit, write_verdict};
-use crate::report::Report;
-use crate::status::Status;
 use crate::verdict::judge_packet;
+use call_report::{Report, Status};
 use command_values::Doi;
 use label_receive::Room;
 use mls_label::{Label, OutOfMemory};
 use net_io::{Depot, Sink, WholeFault, read_whole};
+use report_lines::{packet_limit, write_verdict};
 use std::alloc::Global;
 
 /// The most octets of a file that is judged: no packet is longer.
@@ -32,7 +31,7 @@ pub(crate) fn judge<D: Depot, S: Sink>(
 ) -> Status
     ensures { CallEnds (Some (Judge doi level.now file.now))
         (record { folder = D.state depot.old; stream = S.state out.old })
-        (record { folder = D.state depot.new; stream = S.state out.new }) (number_of result) [] }
+        (record { folder = D.state depot.new; stream = S.state out.new }) (status_number result) [] }
 {
     let octets = match read_whole(alloc, depot, file, PACKET_LIMIT) {
         Ok(octets) => octets,

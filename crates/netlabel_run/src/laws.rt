@@ -3,7 +3,7 @@
 ghost use Rattle.std.specs.Prelude.{ℕ, List, Option};
 ghost use Rattle.netlabel_run.specs.declared.command.Command.{Command};
 ghost use Rattle.netlabel_run.specs.Words.{IsAsked};
-ghost use Rattle.netlabel_run.specs.Report.{Folder, Versions};
+ghost use Rattle.call_report.specs.Report.{Folder, Versions};
 ghost use Rattle.netlabel_run.specs.Laws.{IsOne, IsDetermined};
 
 /// Words ask for one thing: a command with what it names, or none.

@@ -6,16 +6,16 @@ mod check;
 mod command;
 mod judge;
 pub mod laws;
-mod lines;
 mod outcome;
-mod report;
+mod run;
+mod script;
 mod show;
-mod status;
 #[cfg(test)]
 mod tests;
 mod top;
 mod verdict;
 mod words;
 
-pub use outcome::{Outcome, Seen};
+pub use call_report::{FlowSeen, Seen};
+pub use outcome::Outcome;
 pub use top::netlabel;

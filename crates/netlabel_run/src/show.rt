@@ -2,20 +2,19 @@
 
 ghost use Rattle.std.specs.Prelude.{◌≡◌, ◌++◌, ◌≤◌, ◌^◌, List, ℕ, [], Some, IfOk};
 ghost use Rattle.netlabel_run.specs.declared.command.Command.TheVariants.{Show};
-ghost use Rattle.netlabel_run.specs.Line.{shown_line, shown_end_line, capture_line};
-ghost use Rattle.netlabel_run.specs.Show.{IsShown};
-ghost use Rattle.netlabel_run.specs.Outside.{Outside};
+ghost use Rattle.report_lines.specs.Packet.{shown_line, shown_end_line, IsShown};
+ghost use Rattle.report_lines.specs.Capture.{capture_line};
+ghost use Rattle.call_report.specs.Outside.{Outside};
 ghost use Rattle.netlabel_run.specs.CallEnds.{CallEnds};
-ghost use Rattle.netlabel_run.specs.inside.Numbers.{number_of};
-ghost use Rattle.netlabel_run.specs.inside.Printing.{HandsOn, Printed};
+ghost use Rattle.call_report.specs.Numbers.{status_number};
+ghost use Rattle.call_report.specs.Printing.{HandsOn, Printed};
 ghost use Rattle.netlabel_run.specs.inside.Stopping.{stop_line, stop_status};
 
-use crate::lines::{packets_limit, write_capture, write_packet, write_packets_end};
-use crate::report::Report;
-use crate::status::Status;
+use call_report::{Report, Status};
 use mls_label::{Label, OutOfMemory};
 use net_io::{Depot, IoFault, Sink};
 use pcap_frames::{CaptureFault, FrameStop, Frames};
+use report_lines::{packets_limit, write_capture, write_packet, write_packets_end};
 use std::alloc::Global;
 
 /// The most packets that one call reads.
@@ -30,7 +29,7 @@ pub(crate) fn show<D: Depot, S: Sink>(
 ) -> Status
     ensures { CallEnds (Some (Show file.now))
         (record { folder = D.state depot.old; stream = S.state out.old })
-        (record { folder = D.state depot.new; stream = S.state out.new }) (number_of result) [] }
+        (record { folder = D.state depot.new; stream = S.state out.new }) (status_number result) [] }
 {
     let mut report = Report::new(alloc);
     let mut frames = match Frames::begin(alloc, depot, file) {

@@ -1,15 +1,19 @@
 //! Worked words and failing calls, over a folder and a stream in memory; packets stand in `packets`, captures in
-//! `captures`, scripts in `scripts`.
+//! `captures`, scripts in `scripts`, flows that run in `flows` and `gates`.
 
 mod captures;
+mod flows;
+mod gates;
 mod packets;
 mod scripts;
 
-use crate::outcome::Outcome;
 use crate::top::netlabel;
+use label_flow::OpenGate;
 use net_io::{MemoryDepot, MemorySink};
-use std::alloc::{AllocError, Global};
-use std::test::Fail;
+use std::alloc::Global;
+use std::process::Abort;
+use std::sync::Wait;
+use std::thread::Threads;
 
 /// An IPv4 packet with a CIPSO option of DOI 16, tag type 1, level 2 and the categories 1 and 3.
 const PACKET: [u8; 40] = [
@@ -22,112 +26,148 @@ const USAGE: &str =
     "usage: netlabel run <script> [-w <n>] | judge <doi> <level> <file> | check <script> | show <capture> | agree <script> <flow> [<versions>] | make <number> <count> <capture>\n";
 
 /// The words of a line, which single spaces part.
-fn words_of(alloc: Global, line: &str) -> Result<Vec<String>, AllocError> {
+fn words_of(rt: &impl Abort, alloc: Global, line: &str) -> Vec<String> {
     let mut words = Vec::new(alloc);
     for word in line.split(' ') {
-        words.push(String::from_str(alloc, word)?)?;
+        let word = String::from_str(alloc, word).expect(rt, "there is memory");
+        words.push(word).expect(rt, "there is memory");
     }
-    Ok(words)
+    words
 }
 
-/// A folder with the packet, an empty file, a file of as many octets as may be, and one with an octet more.
-fn folder(alloc: Global) -> Result<MemoryDepot, Fail> {
-    let mut depot = MemoryDepot::new(alloc, &[], 4096)?;
-    depot.put("p.bin", &PACKET)?;
-    depot.put("empty.bin", &[])?;
-    depot.put("full.bin", &vec![in alloc; 0u8; 65575]?)?;
-    depot.put("long.bin", &vec![in alloc; 0u8; 65576]?)?;
-    Ok(depot)
+/// A folder with this file.
+fn folder(
+    rt: &impl Abort,
+    alloc: Global,
+    read: u32,
+    piece: usize,
+    name: &str,
+    octets: &[u8],
+) -> MemoryDepot {
+    let mut depot = MemoryDepot::new(alloc, &[read], piece.max(1)).expect(rt, "there is memory");
+    depot.put(name, octets).expect(rt, "there is memory");
+    depot
 }
 
-/// The status and what is printed.
-fn run(alloc: Global, words: &[String], depot: &mut MemoryDepot) -> Result<(u8, Vec<u8>), Fail> {
-    let mut sink = MemorySink::new(alloc, &[], 7)?;
-    let Outcome { status, seen: _ } = netlabel(alloc, words, depot, &mut sink);
-    Ok((status, Vec::from_slice(alloc, sink.bytes())?))
+/// The status and what is printed, where the write of this number fails (0: none).
+fn run<R: Abort + Threads + Wait + Sync>(
+    rt: &R,
+    alloc: Global,
+    line: &str,
+    depot: &mut MemoryDepot,
+    write: u32,
+) -> (u8, Vec<u8>) {
+    let mut sink = MemorySink::new(alloc, &[write], 7).expect(rt, "there is memory");
+    let words = words_of(rt, alloc, line);
+    let outcome = netlabel(rt, alloc, &words, depot, &mut sink, &OpenGate);
+    (
+        outcome.status,
+        Vec::from_slice(alloc, sink.bytes()).expect(rt, "there is memory"),
+    )
 }
+
+/// Words of each form over a folder with one packet in `p.bin`, the status, and what is printed.
+const FORMS: [(&str, u8, &str); 11] = [
+    ("judge 16 s2:c0.c5 p.bin", 0, "delivered s2:c1,c3\n"),
+    ("judge 16 s2:c3,c1,c1 p.bin", 0, "delivered s2:c1,c3\n"),
+    ("judge 16 s255:c0.c65534 p.bin", 0, "delivered s2:c1,c3\n"),
+    (
+        "judge 4294967295 s2 p.bin",
+        0,
+        "denied 5 UnknownDoi octet 22\n",
+    ),
+    ("judge 16 s2 absent.bin", 3, ""),
+    ("show p.bin", 5, "capture 1 octet 0 Magic\n"),
+    ("show absent.bin", 3, ""),
+    ("check p.bin", 2, "script line 1 octet 1 Octet\n"),
+    ("check absent.bin", 3, ""),
+    ("run p.bin", 2, "script line 1 octet 1 Octet\n"),
+    ("run absent.bin -w 16", 3, ""),
+];
+
+/// Words that are no form.
+const NO_FORMS: [&str; 15] = [
+    "judge 0 s2 p.bin",
+    "judge 016 s2 p.bin",
+    "judge 4294967296 s2 p.bin",
+    "judge 16 s256 p.bin",
+    "judge 16 s2: p.bin",
+    "judge 16 s2 -p.bin",
+    "judge 16 s2",
+    "judge 16 s2 p.bin p.bin",
+    "show",
+    "show -p.bin",
+    "show p.bin p.bin",
+    "check -p.bin",
+    "check p.bin p.bin",
+    "run p.bin -w 17",
+    "",
+];
 
 #[test]
-fn answers_words(rt: HostRuntime) -> Result<(), Fail> {
+fn answers_words(rt: HostRuntime) {
     let alloc = rt.alloc();
-    let mut depot = folder(alloc)?;
-    let cases = [
-        ("judge 16 s2:c0.c5 p.bin", 0, "delivered s2:c1,c3\n"),
-        ("judge 16 s2:c3,c1,c1 p.bin", 0, "delivered s2:c1,c3\n"),
-        ("judge 16 s255:c0.c65534 p.bin", 0, "delivered s2:c1,c3\n"),
-        ("judge 16 s2 empty.bin", 0, "denied 1 BadHeader octet 0\n"),
-        (
-            "judge 4294967295 s2 full.bin",
-            0,
-            "denied 1 BadHeader octet 0\n",
-        ),
-        ("judge 16 s2 long.bin", 7, "limit packet 65575\n"),
-        ("judge 16 s2 absent.bin", 3, ""),
-        ("judge 0 s2 p.bin", 1, USAGE),
-        ("judge 016 s2 p.bin", 1, USAGE),
-        ("judge 4294967296 s2 p.bin", 1, USAGE),
-        ("judge 16 s256 p.bin", 1, USAGE),
-        ("judge 16 s2: p.bin", 1, USAGE),
-        ("judge 16 s2 -p.bin", 1, USAGE),
-        ("judge 16 s2", 1, USAGE),
-        ("judge 16 s2 p.bin p.bin", 1, USAGE),
-        ("show p.bin", 5, "capture 1 octet 0 Magic\n"),
-        ("show empty.bin", 5, "capture 1 octet 0 Short\n"),
-        ("show absent.bin", 3, ""),
-        ("show", 1, USAGE),
-        ("show -p.bin", 1, USAGE),
-        ("show p.bin p.bin", 1, USAGE),
-        ("check p.bin", 2, "script line 1 octet 1 Octet\n"),
-        ("check empty.bin", 0, "ok 0 nodes 0 commands 0 flows\n"),
-        ("check absent.bin", 3, ""),
-        ("check", 1, USAGE),
-        ("check -p.bin", 1, USAGE),
-        ("check p.bin p.bin", 1, USAGE),
-        ("run p.bin", 1, USAGE),
-        ("", 1, USAGE),
-    ];
-    for (line, status, text) in cases {
-        let (got, printed) = run(alloc, &words_of(alloc, line)?, &mut depot)?;
+    let mut depot = folder(&rt, alloc, 0, 4096, "p.bin", &PACKET);
+    for (line, status, text) in FORMS {
+        let (got, printed) = run(&rt, alloc, line, &mut depot, 0);
         assert_eq!(rt; got, status, "at {line}");
         assert_eq!(rt; printed.as_slice(), text.as_bytes(), "at {line}");
     }
-    Ok(())
+    for line in NO_FORMS {
+        let (got, printed) = run(&rt, alloc, line, &mut depot, 0);
+        assert_eq!(rt; got, 1, "at {line}");
+        assert_eq!(rt; printed.as_slice(), USAGE.as_bytes(), "at {line}");
+    }
+}
+
+/// So many octets that are 0.
+fn zeros(rt: &impl Abort, alloc: Global, count: usize) -> Vec<u8> {
+    vec![in alloc; 0u8; count].expect(rt, "there is memory")
 }
 
 #[test]
-fn tells_failed_calls(rt: HostRuntime) -> Result<(), Fail> {
+fn judges_files_of_each_length(rt: HostRuntime) {
     let alloc = rt.alloc();
-    let words = words_of(alloc, "judge 16 s2:c0.c5 p.bin")?;
-    // Reads and writes are counted apart. The packet is read by twos, the line is written by sevens.
-    let cases = [
-        (1, 0, 3, ""),
-        (21, 0, 3, ""),
-        (0, 1, 4, ""),
-        (0, 3, 4, "delivered s2:c"),
-        (0, 4, 0, "delivered s2:c1,c3\n"),
-    ];
-    for (read, write, status, text) in cases {
-        let mut depot = MemoryDepot::new(alloc, &[read], 2)?;
-        depot.put("p.bin", &PACKET)?;
-        let mut sink = MemorySink::new(alloc, &[write], 7)?;
-        let Outcome {
-            status: got,
-            seen: _,
-        } = netlabel(alloc, &words, &mut depot, &mut sink);
-        assert_eq!(rt; got, status, "at read {read}, write {write}");
-        assert_eq!(rt; sink.bytes(), text.as_bytes());
+    let line = "judge 16 s2 p.bin";
+    for (count, status, text) in [
+        (0, 0, "denied 1 BadHeader octet 0\n"),
+        (65575, 0, "denied 1 BadHeader octet 0\n"),
+        (65576, 7, "limit packet 65575\n"),
+    ] {
+        let octets = zeros(&rt, alloc, count);
+        let mut depot = folder(&rt, alloc, 0, 4096, "p.bin", &octets);
+        let (got, printed) = run(&rt, alloc, line, &mut depot, 0);
+        assert_eq!(rt; got, status);
+        assert_eq!(rt; printed.as_slice(), text.as_bytes());
     }
     // An event that came first keeps its status when printing it fails.
-    for (line, status) in [("judge 16 s2 long.bin", 7), ("judge", 1)] {
-        let mut sink = MemorySink::new(alloc, &[1], 7)?;
-        let outcome = netlabel(
-            alloc,
-            &words_of(alloc, line)?,
-            &mut folder(alloc)?,
-            &mut sink,
-        );
-        assert_eq!(rt; outcome.status, status);
-        assert_eq!(rt; sink.bytes(), b"".as_slice());
+    let octets = zeros(&rt, alloc, 65576);
+    let mut depot = folder(&rt, alloc, 0, 4096, "p.bin", &octets);
+    let (got, printed) = run(&rt, alloc, line, &mut depot, 1);
+    assert_eq!(rt; got, 7);
+    assert_eq!(rt; printed.len(), 0);
+    let (got, printed) = run(&rt, alloc, "judge", &mut depot, 1);
+    assert_eq!(rt; got, 1);
+    assert_eq!(rt; printed.len(), 0);
+}
+
+/// Which read and which write fails (0: none), the status, and what is printed. Reads and writes are counted apart. The packet is read by
+/// twos, the line is written by sevens.
+const FAILURES: [(u32, u32, u8, &str); 5] = [
+    (1, 0, 3, ""),
+    (21, 0, 3, ""),
+    (0, 1, 4, ""),
+    (0, 3, 4, "delivered s2:c"),
+    (0, 4, 0, "delivered s2:c1,c3\n"),
+];
+
+#[test]
+fn tells_failed_calls(rt: HostRuntime) {
+    let alloc = rt.alloc();
+    for (read, write, status, text) in FAILURES {
+        let mut depot = folder(&rt, alloc, read, 2, "p.bin", &PACKET);
+        let (got, printed) = run(&rt, alloc, "judge 16 s2:c0.c5 p.bin", &mut depot, write);
+        assert_eq!(rt; got, status, "at read {read}, write {write}");
+        assert_eq!(rt; printed.as_slice(), text.as_bytes());
     }
-    Ok(())
 }

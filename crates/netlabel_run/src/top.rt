@@ -3,62 +3,88 @@
 ghost use Rattle.std.specs.Prelude.{◌≡◌, ℕ, [], List, Option};
 ghost use Rattle.netlabel_run.specs.declared.command.Command.{Command as Asked};
 ghost use Rattle.netlabel_run.specs.Words.{texts_of, IsAsked};
-ghost use Rattle.netlabel_run.specs.Outside.{Outside};
-ghost use Rattle.netlabel_run.specs.Report.{usage_line};
+ghost use Rattle.call_report.specs.Outside.{Outside};
+ghost use Rattle.report_lines.specs.Fixed.{usage_line};
 ghost use Rattle.netlabel_run.specs.CallEnds.{CallEnds};
-ghost use Rattle.netlabel_run.specs.inside.Printing.{Printed};
+ghost use Rattle.call_report.specs.Printing.{Printed};
 
 use crate::check::check;
 use crate::command::Command;
 use crate::judge::judge;
-use crate::lines::usage;
 use crate::outcome::Outcome;
-use crate::report::Report;
+use crate::run::run;
 use crate::show::show;
-use crate::status::Status;
 use crate::words::read_words;
+use call_report::{Report, Status};
+use label_flow::Gate;
 use mls_label::Label;
 use net_io::{Depot, Sink};
+use report_lines::usage;
 use std::alloc::Global;
+use std::sync::Wait;
+use std::thread::Threads;
 
 /// Carries out what the words ask for, over a folder of named files, and prints to a stream out.
 ///
 /// The words are those of the command line without the program's name. The status is 0 where the command was carried
 /// out, 1 where the words are none of its forms, 2 where a script is wrong, 3 where a read failed, 4 where a write
 /// failed, 5 where a capture is wrong, 6 where memory ran out and 7 where a limit is passed; the first of these events
-/// decides. The clause says what each of them means, what is printed and what is left as it was.
-pub fn netlabel<D: Depot, S: Sink>(
+/// decides. The clause says what each of them means, what is printed and what is left as it was. The gate is called before each look of a
+/// worker and round each step of the publisher; it has no say on results.
+pub fn netlabel<
+    D: Depot + Send,
+    S: Sink + Send,
+    G: Gate + Sync,
+    R: Threads + Wait + Sync,
+>(
+    rt: &R,
     alloc: Global,
     words: &[String],
     depot: &mut D,
     out: &mut S,
+    gate: &G,
 ) -> Outcome
     ensures { (asked : Option Asked) × IsAsked (texts_of words.now) asked × CallEnds asked
         (record { folder = D.state depot.old; stream = S.state out.old })
         (record { folder = D.state depot.new; stream = S.state out.new }) result.status result.seen }
 {
     let mut label = Label::lowest();
-    carry_out(alloc, read_words(words, &mut label), depot, out)
+    carry_out(rt, alloc, read_words(words, &mut label), depot, out, gate)
 }
 
 /// Carries out what was asked for: a command, or the usage line.
-fn carry_out<D: Depot, S: Sink>(
+fn carry_out<
+    D: Depot + Send,
+    S: Sink + Send,
+    G: Gate + Sync,
+    R: Threads + Wait + Sync,
+>(
+    rt: &R,
     alloc: Global,
     asked: Option<Command<'_>>,
     depot: &mut D,
     out: &mut S,
+    gate: &G,
 ) -> Outcome
     ensures { CallEnds asked.entry
         (record { folder = D.state depot.old; stream = S.state out.old })
         (record { folder = D.state depot.new; stream = S.state out.new }) result.status result.seen }
 {
     match asked {
-        Some(Command::Judge { doi, level, file }) => {
-            judge(alloc, doi.doi(), level.label(), file.as_str(), depot, out).outcome(alloc)
+        Some(Command::Judge { doi, level, file }) => Outcome::without_flows(
+            alloc,
+            judge(alloc, doi.doi(), level.label(), file.as_str(), depot, out),
+        ),
+        Some(Command::Check { file }) => {
+            Outcome::without_flows(alloc, check(alloc, file.as_str(), depot, out))
         }
-        Some(Command::Check { file }) => { check(alloc, file.as_str(), depot, out).outcome(alloc) }
-        Some(Command::Show { file }) => { show(alloc, file.as_str(), depot, out).outcome(alloc) }
-        None => print_usage(alloc, out).outcome(alloc),
+        Some(Command::Show { file }) => {
+            Outcome::without_flows(alloc, show(alloc, file.as_str(), depot, out))
+        }
+        Some(Command::Run { file, workers }) => {
+            run(rt, alloc, file.as_str(), workers.number(), depot, out, gate)
+        }
+        None => Outcome::without_flows(alloc, print_usage(alloc, out)),
     }
 }
 

@@ -4,7 +4,7 @@ ghost use Rattle.std.specs.Prelude.{[], ◌∷◌, codes, IsTrue};
 ghost use Rattle.mls_label.specs.declared.label.Label.{Label as LabelValue};
 ghost use Rattle.netlabel_run.specs.Words.{texts_of, IsAsked, IsLevel};
 
-use crate::command::{Command, FileName, Level, NamedDoi};
+use crate::command::{Command, FileName, Level, NamedDoi, Workers};
 use command_values::read_doi;
 use flow_lines::is_file_name;
 use mls_label::Label;
@@ -38,23 +38,49 @@ fn read_two<'a>(command: &str, file: &'a str) -> Option<Command<'a>>
             file: FileName::new(file),
         });
     }
+    if command == "run" {
+        return Some(Command::Run {
+            file: FileName::new(file),
+            workers: Workers::usual(),
+        });
+    }
     None
 }
 
 /// Reads four words.
 fn read_four<'a>(
     command: &str,
-    doi: &str,
-    level: &str,
-    file: &'a str,
+    second: &'a str,
+    third: &str,
+    fourth: &'a str,
     label: &'a mut Label,
 ) -> Option<Command<'a>>
-    ensures { IsAsked (command.now ∷ doi.now ∷ level.now ∷ file.now ∷ []) result }
+    ensures { IsAsked (command.now ∷ second.now ∷ third.now ∷ fourth.now ∷ []) result }
 {
+    if command == "run" {
+        return read_run(second, third, fourth);
+    }
     if command != "judge" {
         return None;
     }
-    read_judge(doi, level, file, label)
+    read_judge(second, third, fourth, label)
+}
+
+/// Reads the words behind `run`, where there are three.
+fn read_run<'a>(file: &'a str, flag: &str, number: &str) -> Option<Command<'a>>
+    ensures { IsAsked (codes "run" ∷ file.now ∷ flag.now ∷ number.now ∷ []) result }
+{
+    if flag != "-w" {
+        return None;
+    }
+    if !is_file_name(file.as_bytes()) {
+        return None;
+    }
+    let workers = Workers::named(number)?;
+    Some(Command::Run {
+        file: FileName::new(file),
+        workers,
+    })
 }
 
 /// Reads the words behind `judge`.

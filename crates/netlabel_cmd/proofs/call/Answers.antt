@@ -2,4 +2,4 @@ use Rattle.std.proofs.Common.{inl}
 use Rattle.netlabel_cmd.proofs.call.Goals as goal
 
 pub returns : goal.returns
-returns c = inl (c.netlabel.ensures.0, _, _, _, c.netlabel.ensures.2)
+returns g c = inl (c.netlabel.ensures.0, _, _, _, c.netlabel.ensures.2)

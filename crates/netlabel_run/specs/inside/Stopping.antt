@@ -2,11 +2,11 @@
 use Rattle.std.specs.Prelude.{ℕ, List, []}
 use Rattle.pcap_frames.specs.declared.fault.FrameStop.{FrameStop}
 use Rattle.pcap_frames.specs.declared.fault.FrameStop.TheVariants as stop
-use Rattle.netlabel_run.specs.declared.status.Status.{Status}
-use Rattle.netlabel_run.specs.declared.status.Status.TheVariants.{WrongScript, WrongCapture, ReadFault, OutOfMemory, Limit}
+use Rattle.call_report.specs.declared.status.Status.{Status}
+use Rattle.call_report.specs.declared.status.Status.TheVariants.{WrongScript, WrongCapture, ReadFault, OutOfMemory, Limit}
 use Rattle.label_commands.specs.declared.stop.ScriptStop.{ScriptStop}
 use Rattle.label_commands.specs.declared.stop.ScriptStop.TheVariants as script
-use Rattle.netlabel_run.specs.Line.{capture_line}
+use Rattle.report_lines.specs.Capture.{capture_line}
 
 abbrev pub stop_status : FrameStop → Status
 stop_status (stop.Capture fault) = WrongCapture

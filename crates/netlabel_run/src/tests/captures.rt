@@ -2,13 +2,11 @@
 //! fail. The octets are made by hand from the libpcap file format.
 
 use super::packets::{LABELLED_4, LABELLED_6, PLAIN_4, TWICE_4};
-use super::words_of;
-use crate::outcome::Outcome;
-use crate::top::netlabel;
-use net_io::{MemoryDepot, MemorySink};
-use pcap_frames::{FrameHead, write_frame, write_head};
+use super::{folder, run};
 use std::alloc::{AllocError, Global};
-use std::test::Fail;
+use std::process::Abort;
+use std::sync::Wait;
+use std::thread::Threads;
 
 /// `LABELLED_4` with a wrong checksum.
 const BROKEN_4: [u8; 40] = [
@@ -103,18 +101,19 @@ fn capture(
     Ok((file, report))
 }
 
-/// The status and the report of `show` on this file; none where there is no memory.
-fn show(alloc: Global, file: &[u8], piece: usize) -> Option<(u8, Vec<u8>)> {
-    let mut depot = MemoryDepot::new(alloc, &[], piece.max(1)).ok()?;
-    depot.put("c.pcap", file).ok()?;
-    let words = words_of(alloc, "show c.pcap").ok()?;
-    let mut sink = MemorySink::new(alloc, &[], 7).ok()?;
-    let Outcome { status, seen: _ } = netlabel(alloc, &words, &mut depot, &mut sink);
-    Some((status, Vec::from_slice(alloc, sink.bytes()).ok()?))
+/// The status and the report of `show` on this file.
+fn show<R: Abort + Threads + Wait + Sync>(
+    rt: &R,
+    alloc: Global,
+    file: &[u8],
+    piece: usize,
+) -> (u8, Vec<u8>) {
+    let mut depot = folder(rt, alloc, 0, piece, "c.pcap", file);
+    run(rt, alloc, "show c.pcap", &mut depot, 0)
 }
 
 #[test]
-fn shows_frames_of_each_link_type(rt: HostRuntime) -> Result<(), Fail> {
+fn shows_frames_of_each_link_type(rt: HostRuntime) {
     let alloc = rt.alloc();
     for (little, nanos) in [(true, false), (true, true), (false, false), (false, true)] {
         for link in [1, 101, 228, 229] {
@@ -127,7 +126,7 @@ fn shows_frames_of_each_link_type(rt: HostRuntime) -> Result<(), Fail> {
                 &rt,
                 "there is memory",
             );
-            let (status, printed) = show(alloc, &file, 4096).expect(&rt, "there is memory");
+            let (status, printed) = show(&rt, alloc, &file, 4096);
             assert_eq!(rt; status, 0, "of link type {link}");
             assert_eq!(rt;
                 printed.as_slice(),
@@ -136,7 +135,6 @@ fn shows_frames_of_each_link_type(rt: HostRuntime) -> Result<(), Fail> {
             );
         }
     }
-    Ok(())
 }
 
 /// Three packets without a label, link type 101.
@@ -150,13 +148,13 @@ const LINES: &str = "packet 1 unlbl\npacket 2 unlbl\npacket 3 unlbl\n";
 
 // The whole capture has 156 octets: 24, and 44 for each packet.
 #[test]
-fn shows_a_cut_capture_up_to_its_end(rt: HostRuntime) -> Result<(), Fail> {
+fn shows_a_cut_capture_up_to_its_end(rt: HostRuntime) {
     let alloc = rt.alloc();
     let (file, _) = capture(alloc, true, false, 101, &THREE).expect(&rt, "there is memory");
     assert_eq!(rt; file.len(), 156);
     for n in 0..157usize {
         let shown = n.saturating_sub(24) / 44;
-        let (status, printed) = show(alloc, &file[..n], 4096).expect(&rt, "there is memory");
+        let (status, printed) = show(&rt, alloc, &file[..n], 4096);
         let whole = n == 24 || n == 68 || n == 112 || n == 156;
         let end = if whole {
             format!(in alloc; "end packets {shown}\n").expect(&rt, "there is memory")
@@ -173,7 +171,6 @@ fn shows_a_cut_capture_up_to_its_end(rt: HostRuntime) -> Result<(), Fail> {
             "of {n} octets"
         );
     }
-    Ok(())
 }
 
 /// Octets that are changed in that capture, and its report.
@@ -187,13 +184,13 @@ const CHANGES: [(usize, u8, &str); 6] = [
 ];
 
 #[test]
-fn tells_the_first_fault_of_a_capture(rt: HostRuntime) -> Result<(), Fail> {
+fn tells_the_first_fault_of_a_capture(rt: HostRuntime) {
     let alloc = rt.alloc();
     for (octet, value, report) in CHANGES {
         let (mut file, _) = capture(alloc, true, false, 101, &THREE).expect(&rt, "there is memory");
         assert!(rt; octet < file.len());
         file[octet] = value;
-        let (got, printed) = show(alloc, &file, 9).expect(&rt, "there is memory");
+        let (got, printed) = show(&rt, alloc, &file, 9);
         assert_eq!(rt; got, 5, "with {octet} as {value}");
         assert_eq!(rt;
             printed.as_slice(),
@@ -201,39 +198,6 @@ fn tells_the_first_fault_of_a_capture(rt: HostRuntime) -> Result<(), Fail> {
             "with {octet} as {value}"
         );
     }
-    Ok(())
-}
-
-/// The capture that is written of one packet without a label at second 1.
-const WRITTEN: [u8; 40] = [
-    0xd4, 0xc3, 0xb2, 0xa1, 2, 0, 4, 0, 0, 0, 0, 0, 0, 0, 0, 0, 0, 0, 4, 0, 0x65, 0, 0, 0, 1, 0, 0,
-    0, 0, 0, 0, 0, 0x1c, 0, 0, 0, 0x1c, 0, 0, 0,
-];
-
-#[test]
-fn shows_what_is_written(rt: HostRuntime) -> Result<(), Fail> {
-    let alloc = rt.alloc();
-    let head = FrameHead {
-        seconds: 1,
-        fraction: 0,
-    };
-    let mut file = Vec::new(alloc);
-    write_head(false, &mut file).expect(&rt, "there is memory");
-    let (status, printed) = show(alloc, &file, 100).expect(&rt, "there is memory");
-    assert_eq!(rt; status, 0);
-    assert_eq!(rt; printed.as_slice(), b"end packets 0\n".as_slice());
-    write_frame(head, &PLAIN_4, &mut file).expect(&rt, "there is memory");
-    assert!(rt; file.starts_with(&WRITTEN));
-    assert!(rt; file.ends_with(&PLAIN_4));
-    assert_eq!(rt; file.len(), 68);
-    write_frame(head, &LABELLED_4, &mut file).expect(&rt, "there is memory");
-    let (status, printed) = show(alloc, &file, 100).expect(&rt, "there is memory");
-    assert_eq!(rt; status, 0);
-    assert_eq!(rt;
-        printed.as_slice(),
-        b"packet 1 unlbl\npacket 2 cipsov4 doi 16 tag 1 s2:c1,c3 octet 20\nend packets 2\n".as_slice()
-    );
-    Ok(())
 }
 
 /// How many octets of that capture there are, which read and which write fails (0: none), the status, and how many octets of the report
@@ -255,62 +219,29 @@ const FAILURES: [(usize, u32, u32, u8, usize); 13] = [
 ];
 
 #[test]
-fn tells_calls_that_fail_in_mid_capture(rt: HostRuntime) -> Result<(), Fail> {
+fn tells_calls_that_fail_in_mid_capture(rt: HostRuntime) {
     let alloc = rt.alloc();
-    let words = words_of(alloc, "show c.pcap").expect(&rt, "there is memory");
     let (file, report) = capture(alloc, true, false, 101, &THREE).expect(&rt, "there is memory");
     assert_eq!(rt; file.len(), 156);
-    for (length, read, write, status, printed) in FAILURES {
-        let mut depot = MemoryDepot::new(alloc, &[read], 7).expect(&rt, "there is memory");
+    for (length, read, write, status, count) in FAILURES {
         assert!(rt; length <= file.len());
-        depot
-            .put("c.pcap", &file[..length])
-            .expect(&rt, "there is memory");
-        let mut sink = MemorySink::new(alloc, &[write], 7).expect(&rt, "there is memory");
-        let Outcome {
-            status: got,
-            seen: _,
-        } = netlabel(alloc, &words, &mut depot, &mut sink);
+        let mut depot = folder(&rt, alloc, read, 7, "c.pcap", &file[..length]);
+        let (got, printed) = run(&rt, alloc, "show c.pcap", &mut depot, write);
         assert_eq!(rt;
             got,
             status,
             "of {length} octets, at read {read}, write {write}"
         );
         assert_eq!(rt;
-            sink.bytes().len(),
-            printed,
+            printed.len(),
+            count,
             "of {length} octets, at read {read}, write {write}"
         );
-        if length == 156 {
-            assert!(rt; report.as_str().as_bytes().starts_with(sink.bytes()));
+        let whole = if length == 156 {
+            report.as_str().as_bytes()
         } else {
-            assert!(rt;
-                b"packet 1 unlbl\npacket 2 unlbl\ncapture 1 octet 150 Short\n".starts_with(
-                    sink.bytes()
-                )
-            );
-        }
+            b"packet 1 unlbl\npacket 2 unlbl\ncapture 1 octet 150 Short\n".as_slice()
+        };
+        assert!(rt; whole.starts_with(&printed));
     }
-    Ok(())
-}
-
-// Lines 1 to 971 are the first that make a piece: 16,399 octets.
-#[test]
-fn hands_a_report_on_by_pieces(rt: HostRuntime) -> Result<(), Fail> {
-    let alloc = rt.alloc();
-    let words = words_of(alloc, "show c.pcap").expect(&rt, "there is memory");
-    let mut file = Vec::new(alloc);
-    add_header(&mut file, true, false, 101).expect(&rt, "there is memory");
-    for _ in 0..2000u32 {
-        add_record(&mut file, true, b"", &PLAIN_4).expect(&rt, "there is memory");
-    }
-    for (write, status, printed) in [(1, 4, 0), (2, 4, 16_399), (3, 4, 32_787), (4, 0, 34_910)] {
-        let mut depot = MemoryDepot::new(alloc, &[], 4096).expect(&rt, "there is memory");
-        depot.put("c.pcap", &file).expect(&rt, "there is memory");
-        let mut sink = MemorySink::new(alloc, &[write], 65_536).expect(&rt, "there is memory");
-        let outcome = netlabel(alloc, &words, &mut depot, &mut sink);
-        assert_eq!(rt; outcome.status, status, "at write {write}");
-        assert_eq!(rt; sink.bytes().len(), printed, "at write {write}");
-    }
-    Ok(())
 }

@@ -1,12 +1,11 @@
 //! Scripts checked: worked scripts with their replies, each kind of fault, limits at both sides, and calls that fail.
 
-use super::words_of;
-use crate::outcome::Outcome;
-use crate::top::netlabel;
+use super::{folder, run};
 use decimal_text::write_decimal;
-use net_io::{MemoryDepot, MemorySink};
 use std::alloc::{AllocError, Global};
 use std::process::Abort;
+use std::sync::Wait;
+use std::thread::Threads;
 
 /// A script with a reply of each kind, under the name `s`.
 const REPLIES: &str =
@@ -178,16 +177,14 @@ fn grown(
 }
 
 /// The status and the report of `check` on this script, where the write of this number fails (0: none).
-fn check(rt: &impl Abort, alloc: Global, text: &[u8], write: u32) -> (u8, Vec<u8>) {
-    let mut depot = MemoryDepot::new(alloc, &[], 4096).expect(rt, "there is memory");
-    depot.put("s", text).expect(rt, "there is memory");
-    let words = words_of(alloc, "check s").expect(rt, "there is memory");
-    let mut sink = MemorySink::new(alloc, &[write], 4096).expect(rt, "there is memory");
-    let Outcome { status, seen: _ } = netlabel(alloc, &words, &mut depot, &mut sink);
-    (
-        status,
-        Vec::from_slice(alloc, sink.bytes()).expect(rt, "there is memory"),
-    )
+fn check<R: Abort + Threads + Wait + Sync>(
+    rt: &R,
+    alloc: Global,
+    text: &[u8],
+    write: u32,
+) -> (u8, Vec<u8>) {
+    let mut depot = folder(rt, alloc, 0, 4096, "s", text);
+    run(rt, alloc, "check s", &mut depot, write)
 }
 
 #[test]

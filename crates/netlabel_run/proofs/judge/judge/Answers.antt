@@ -2,11 +2,11 @@ use Rattle.std.proofs.Common.{◌≤◌, length, ap, refl, sym, subst, inl, arit
 use Rattle.std.specs.Prelude.{Contains}
 use Rattle.std.proofs.lemmas.List.{append-nil}
 use Rattle.netlabel_run.specs.declared.command.Command.TheVariants.{Judge}
-use Rattle.netlabel_run.specs.declared.status.Status.TheVariants.{Done, Limit}
-use Rattle.netlabel_run.specs.Line.{verdict_line}
-use Rattle.netlabel_run.specs.Report.{packet_limit_line}
-use Rattle.netlabel_run.specs.Stages.{reading_stage}
-use Rattle.netlabel_run.specs.Outside.{Outside}
+use Rattle.call_report.specs.declared.status.Status.TheVariants.{Done, Limit}
+use Rattle.report_lines.specs.Denial.{verdict_line}
+use Rattle.report_lines.specs.Fixed.{packet_limit_line}
+use Rattle.call_report.specs.Stages.{reading_stage}
+use Rattle.call_report.specs.Outside.{Outside}
 use Rattle.netlabel_run.proofs.Endings.{ends_printed, ends_unread, ends_unprinted}
 use Rattle.netlabel_run.proofs.Requests.{only_read, knows_judge, limit_due, verdict_due, quiet}
 use Rattle.netlabel_run.proofs.judge.judge.Goals as goal

@@ -1,7 +1,7 @@
 use Rattle.std.proofs.Common.{length, refl, ap, arith}
 use Rattle.pcap_frames.specs.Reader.{Reader}
 use Rattle.pcap_frames.specs.declared.fault.FrameStop.TheVariants.{ReadFault}
-use Rattle.netlabel_run.specs.Outside.{Outside}
+use Rattle.call_report.specs.Outside.{Outside}
 use Rattle.netlabel_run.proofs.Shown.{unmoved, shows_start, ends_unbegun, ends_at_end, ends_at_stop, ends_at_limit, shows_next, ends_at_write}
 use Rattle.netlabel_run.proofs.show.show.Goals as goal
 

@@ -1,6 +1,6 @@
 use Rattle.std.proofs.Common.{◌-◌}
 use Rattle.pcap_frames.specs.Reader.{IsReady}
-use Rattle.netlabel_run.specs.Outside.{Outside}
+use Rattle.call_report.specs.Outside.{Outside}
 use Rattle.netlabel_run.proofs.Shown.{IsShowing}
 use Rattle.netlabel_run.proofs.show.show.Given as goal
 

@@ -1,0 +1,123 @@
+-- A round beside a beginning of the steps, and how a flow ends from its beginning on.
+use Rattle.std.proofs.Common.{◌≡◌, ◌≢◌, ◌<◌, ◌≤◌, ◌⊎◌, ℕ, ◌+◌, ◌-◌, Bool, true, false, nat_eq, not, is_some, IsTrue, IsSome, List, [], ◌∷◌, ◌++◌, length, take, drop, map, All, Option, Some, None, Result, Ok, Err, refl, sym, ap, subst, ◌∙◌, append_assoc, length-append, arith, le_refl, inl, inr}
+use Rattle.std.proofs.lemmas.List.{append-nil, length-map, length-take-le, take_at, take_all}
+use Rattle.flow_lines.specs.declared.hop.Hop.{Hop}
+use Rattle.command_forms.specs.declared.command.Step.{Step}
+use Rattle.std.specs.Prelude.{IsOk, OnOk, IfOk}
+use Rattle.std.proofs.Common.{Vec, Global}
+use Rattle.node_tables.specs.declared.reply.Reply.{Reply}
+use Rattle.node_tables.specs.Tables.{TableState}
+use Rattle.shared_tables.specs.Plan.{PlanState, network_after}
+use Rattle.shared_tables.proofs.Law.{beginnings_agree}
+use Rattle.shared_tables.specs.Board.{ViewerState, PublisherState}
+use Rattle.packet_walk.specs.declared.packet.PacketIn.{PacketIn}
+use Rattle.label_flow.specs.Pair.{PairState}
+use Rattle.label_flow.specs.Round.{IsRound, AreReplies}
+use Rattle.label_flow.specs.Walked.{AreWalked}
+use Rattle.label_flow.specs.Schedule.{AreLawful, versions_in}
+use Rattle.label_flow.proofs.Law.{rounds_are_lawful, rounds_walk_each_packet, flows_agree_on_a_beginning}
+use Rattle.flow_run.specs.declared.end.FlowEnd.{FlowEnd}
+use Rattle.flow_run.specs.declared.end.FlowEnd.TheVariants.{GoesOn, Broken, TooMany, Stopped}
+use Rattle.flow_run.specs.declared.end.FlowStop.{FlowStop}
+use Rattle.flow_run.specs.Ends.{HasEnded, HasSteps}
+use Rattle.net_io.specs.Depot.{DepotState}
+use Rattle.net_io.specs.Sink.{SinkState}
+use Rattle.flow_lines.specs.declared.flow.FlowLine.{FlowLine}
+use Rattle.flow_run.specs.declared.end.FlowStop.TheVariants as the_stop
+use Rattle.flow_run.specs.declared.source.Source.{Source}
+use Rattle.label_flow.specs.Feed.{AreBegun}
+use Rattle.flow_run.specs.inside.Output.{IsThere}
+use Rattle.flow_run.specs.inside.Source.{IsFed, packets_left, file_of}
+use Rattle.flow_run.specs.inside.Taken.{Moment, moment_at}
+use Rattle.flow_run.proofs.Steps.{taken_begins, taken_out}
+use Rattle.flow_run.specs.inside.Flown.{Gives, HasFlown}
+use Rattle.flow_run.proofs.Beginnings.{replies_first}
+
+abbrev part_of : PlanState → ℕ → PlanState
+part_of plan m = record plan { steps = take m plan.steps }
+
+abbrev seat : ℕ → PlanState → ℕ → ViewerState
+seat board plan seen = record { board = board; plan = plan; seen = seen }
+
+module _ (plan : PlanState) (m board before w : ℕ) (hops : List Hop) (packets : List PacketIn) (pairs : List PairState) (olds news : List ViewerState)
+    (seats : All (λ v. v ≡ seat board (part_of plan m) before) olds) (count : length olds ≡ w) (some : 0 < w) (within : m ≤ length plan.steps) (low : before ≤ m)
+    (round : IsRound hops 0 packets pairs olds news) where
+  steps_are : length (take m plan.steps) ≡ m
+  steps_are = length-take-le m plan.steps within
+
+  each : AreWalked (part_of plan m) hops packets pairs × All (λ (pair : PairState). All (λ v. v ≤ length (take m plan.steps)) pair.walked.versions) pairs
+  each = rounds_walk_each_packet (part_of plan m) hops packets pairs olds news (omega (arith, count, some)) (λ k d less. ap (λ (v : ViewerState). v.plan) (seats k d less)) round
+
+  pub round_walked : AreWalked plan hops packets pairs
+  round_walked =
+      flows_agree_on_a_beginning.walked plan hops m packets pairs
+      (subst (λ n. All (λ (pair : PairState). All (λ v. v ≤ n) pair.walked.versions) pairs) steps_are each.1) each.0
+
+  pub round_lawful : AreLawful plan hops w before m packets (versions_in pairs)
+  round_lawful =
+      let part = rounds_are_lawful (part_of plan m) hops before packets pairs olds news (omega (arith, low, steps_are))
+      (λ k d less. (ap (λ (v : ViewerState). v.plan) (seats k d less), ap (λ (v : ViewerState). v.seen) (seats k d less))) round in
+      flows_agree_on_a_beginning.lawful plan hops w before m m packets (versions_in pairs) (le_refl m)
+      (subst (λ n. AreLawful (part_of plan m) hops n before m packets (versions_in pairs)) count
+      (subst (λ n. AreLawful (part_of plan m) hops (length olds) before n packets (versions_in pairs)) steps_are part))
+
+none_begun : (left : Option (List PacketIn)) → AreBegun left []
+none_begun None = tt
+none_begun (Some packets) = (packets, refl)
+
+pub ok_of : {T E : Type 0} (P : Type 0) (result : Result T E) → IsOk result → OnOk result P → P
+ok_of P (Ok given) ok fact = fact
+ok_of P (Err stop) ok fact = absurd (let none : false ≡ true = ok in cc)
+
+-- the tables and replies of a flow that goes on
+pub steps_flown : (plan : PlanState) (m from : ℕ) (end : FlowEnd) (driven : Result (Vec Reply Global) FlowStop) (network : List TableState) (old new : PublisherState)
+    → (HasEnded end → IsOk driven) → IfOk driven (λ replies. Gives end network replies.items)
+    → IfOk driven (λ replies. (new.version ≡ m) × (old.version + length replies.items ≡ m) × AreReplies old.plan old.version replies.items)
+    → network ≡ network_after new.plan new.version → new.plan ≡ old.plan → old.plan ≡ part_of plan m → old.version ≡ from → HasSteps plan from m end
+steps_flown plan m from (GoesOn tables answers) (Ok replies) network old new done gives are closed same is at =
+    let replied : AreReplies (part_of plan m) from answers.items =
+    subst (λ (rs : List Reply). AreReplies (part_of plan m) from rs) (sym gives.1)
+    (subst (λ n. AreReplies (part_of plan m) n replies.items) at (subst (λ (p : PlanState). AreReplies p old.version replies.items) is are.2)) in
+    let count : from + length answers.items ≡ m = omega (arith, are.1, at, ap length gives.1) in (
+      gives.0 ∙ closed ∙ ap (λ (p : PlanState). network_after p new.version) (same ∙ is) ∙ ap (network_after (part_of plan m)) are.0 ∙ (beginnings_agree plan m m (le_refl m)).0,
+      count,
+      replies_first plan m from answers.items (omega (arith, count)) replied,
+    )
+steps_flown plan m from (GoesOn tables answers) (Err stop) network old new done gives are closed same is at = absurd (let none : false ≡ true = done tt in cc)
+steps_flown plan m from (Broken fault) driven network old new done gives are closed same is at = tt
+steps_flown plan m from TooMany driven network old new done gives are closed same is at = tt
+steps_flown plan m from (Stopped why) driven network old new done gives are closed same is at = tt
+
+-- the same, of a folder, a stream and a report that ended so
+pub flown_at : (plan : PlanState) (names : List (List ℕ)) (workers number upto : ℕ) (flow : FlowLine) (was : Moment) (seen : List (List ℕ)) (end : FlowEnd)
+    (folder folder' : DepotState) (stream stream' : SinkState) (waits waits' : List ℕ) → folder' ≡ folder → stream' ≡ stream → waits' ≡ waits
+    → HasFlown plan names workers number upto flow was (record { folder = folder; stream = stream }) waits seen end
+    → HasFlown plan names workers number upto flow was (record { folder = folder'; stream = stream' }) waits' seen end
+flown_at plan names workers number upto flow was seen end folder folder' stream stream' waits waits' same-folder same-stream same-waits flown =
+    subst (λ (x : DepotState). HasFlown plan names workers number upto flow was (record { folder = x; stream = stream' }) waits' seen end) (sym same-folder)
+    (subst (λ (x : SinkState). HasFlown plan names workers number upto flow was (record { folder = folder; stream = x }) waits' seen end) (sym same-stream)
+    (subst (λ (x : List ℕ). HasFlown plan names workers number upto flow was (record { folder = folder; stream = stream }) x seen end) (sym same-waits) flown))
+
+-- no packet was read, since memory ran out
+pub flown_none : (plan : PlanState) (names : List (List ℕ)) (workers number upto : ℕ) (flow : FlowLine) (folder : DepotState) (stream : SinkState) (lines octets : List ℕ) (source : Source)
+    (waits : List ℕ) (seen : List (List ℕ)) → seen ≡ [] → flow.before ≤ upto → source.behind ≡ None → IsThere flow.output folder → IsFed folder source
+    → HasFlown plan names workers number upto flow (moment_at folder stream lines octets [] 0 0 source None) (record { folder = folder; stream = stream }) waits seen (Stopped the_stop.OutOfMemory)
+flown_none plan names workers number upto flow folder stream lines octets source waits seen none low behind there fed = record {
+  now = moment_at folder stream lines octets [] 0 0 source (Some the_stop.OutOfMemory);
+  packets = [];
+  pairs = [];
+  taken = taken_out number names flow _ folder stream lines octets [] 0 0 source [] (taken_begins number names flow (moment_at folder stream lines octets [] 0 0 source None) refl behind there);
+  folder = refl;
+  stream = refl;
+  seen_is = none;
+  stop = refl;
+  waits_are = tt;
+  whole = λ ended. absurd ended;
+  behind = tt;
+  fed = fed;
+  begun = none_begun (packets_left folder.tells source (file_of folder source));
+  all = λ ended. absurd ended;
+  walked = tt;
+  lawful = record { count = refl; walks = λ k less. tt; rises = λ k less. low };
+  steps = tt;
+}

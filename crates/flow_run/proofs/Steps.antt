@@ -1,0 +1,588 @@
+-- What a fetch, and what an accepted packet, make of what a flow has done so far.
+use Rattle.std.proofs.Common.{◌≡◌, ◌≢◌, ◌<◌, ◌≤◌, ◌⊎◌, ℕ, suc, get_or, ◌+◌, ◌-◌, Bool, true, false, cond, IsTrue, List, [], ◌∷◌, ◌++◌, length, take, drop, map, Option, Some, None, Result, Ok, Err, refl, sym, ap, subst, ◌∙◌, append_assoc, length-append, arith, le_refl, inl, inr}
+use Rattle.std.specs.Result.{IsErrOf}
+use Rattle.std.proofs.lemmas.List.{append-nil, drop-drop, map-append, length-map}
+use Rattle.std.proofs.Math.Seq.{drop-cons}
+use Rattle.net_io.specs.Depot.{DepotState, octets_of}
+use Rattle.net_io.specs.Sink.{SinkState}
+use Rattle.net_io.specs.Faults.{Rose, SameCounts}
+use Rattle.net_io.specs.declared.fault.IoFault.{IoFault}
+use Rattle.net_io.specs.declared.fault.IoFault.TheVariants as io
+use Rattle.flow_lines.specs.declared.flow.FlowLine.{FlowLine}
+use Rattle.pcap_frames.specs.declared.record.FrameHead.{FrameHead}
+use Rattle.pcap_frames.specs.Record.{Frame}
+use Rattle.pcap_frames.specs.Written.{frame_octets, frames_octets}
+use Rattle.pcap_frames.proofs.Law.{frames_are_written_in_their_order}
+use Rattle.packet_walk.specs.declared.walked.Walked.{Walked}
+use Rattle.label_flow.specs.Pair.{PairState, pair}
+use Rattle.label_flow.specs.Schedule.{versions_in}
+use Rattle.pcap_frames.specs.Reader.{Reader, ReaderStandsIn}
+use Rattle.report_lines.specs.Flow.{walked_line}
+use Rattle.call_report.specs.Printing.{HandsOn}
+use Rattle.call_report.proofs.Law.{nothing_is_handed_on}
+use Rattle.flow_run.specs.declared.end.FlowStop.{FlowStop}
+use Rattle.flow_run.specs.declared.end.FlowStop.TheVariants as the_stop
+use Rattle.flow_run.specs.declared.source.Source.{Source}
+use Rattle.flow_run.specs.declared.source.Behind.{Behind}
+use Rattle.flow_run.specs.declared.source.Behind.TheVariants.{Whole, Broken, TooMany, Failed, NoMemory}
+use Rattle.flow_run.specs.Run.{is_denied, passed_in, denied_in, walked_lines}
+use Rattle.flow_run.specs.Ends.{IsHandedOn}
+use Rattle.flow_run.specs.inside.Output.{IsAppended, IsThere, AppendsMove, HasAppended, frame_of}
+use Rattle.flow_run.specs.inside.Source.{IsSame, HasOnlyRead, HasMoved, HasStepped, ReadsMove, pending, frames_left, heads_left, file_of, IsFed, StandsBy}
+use Rattle.flow_run.specs.inside.Taken.{Moment, moment_at, IsPrintedTo, print_stop, HasHanded, kept_by, IsMoved, outside_of, HasTaken, IsGoing}
+use Rattle.flow_run.proofs.Outputs.{appended_more, appended_cut, appended_stops}
+use Rattle.flow_run.proofs.Prints.{cut_off, print_fails, print_goes, lines_more}
+use Rattle.flow_run.proofs.Reading.{reads_more, same_more, stands_same}
+
+-- ---- what may follow
+
+reads_after : (behind behind' : Option Behind) (name : List ℕ) (a b c : List ℕ → ℕ) → behind' ≡ behind → ReadsMove behind name a b → SameCounts b c → ReadsMove behind' name a c
+reads_after behind behind' name a b c same moved more = subst (λ (x : Option Behind). ReadsMove x name a c) (sym same) (by_case behind moved)
+  where
+    by_case : (behind : Option Behind) → ReadsMove behind name a b → ReadsMove behind name a c
+    by_case None moved = λ other. more other ∙ moved other
+    by_case (Some Whole) moved = λ other. more other ∙ moved other
+    by_case (Some (Broken fault)) moved = moved
+    by_case (Some TooMany) moved = λ other. more other ∙ moved other
+    by_case (Some Failed) (inl rose) = inl (omega (arith, rose, more name))
+    by_case (Some Failed) (inr end) = inr (more name ∙ end)
+    by_case (Some NoMemory) moved = moved
+
+rose_same : (a b c : ℕ) → b ≡ a → Rose b c → Rose a c
+rose_same a b c same rose = subst (λ (n : ℕ). Rose n c) same rose
+
+-- a stop of a read, or for want of memory
+lines_stop : (behind : Option Behind) (text waits waits' : List ℕ) (a b : SinkState) → IsHandedOn text waits waits' a b → IsPrintedTo (pending behind) text waits waits' a b
+lines_stop None text waits waits' a b hands = hands
+lines_stop (Some Whole) text waits waits' a b hands = hands
+lines_stop (Some (Broken fault)) text waits waits' a b hands = hands
+lines_stop (Some TooMany) text waits waits' a b hands = hands
+lines_stop (Some Failed) text waits waits' a b hands = hands
+lines_stop (Some NoMemory) text waits waits' a b hands = cut_off text waits waits' a b hands
+
+stop_failed : (behind : Option Behind) → pending behind ≡ Some the_stop.Read → behind ≡ Some Failed
+stop_failed None is = absurd cc
+stop_failed (Some Whole) is = absurd cc
+stop_failed (Some (Broken fault)) is = absurd cc
+stop_failed (Some TooMany) is = absurd cc
+stop_failed (Some Failed) is = refl
+stop_failed (Some NoMemory) is = absurd cc
+
+pub end_pending : (behind : Option Behind) (stop : FlowStop) → behind ≡ None → pending behind ≡ Some stop → ⊥
+end_pending None stop none is = absurd cc
+end_pending (Some b) stop none is = absurd cc
+
+-- where nothing stopped it, numbers that didn't move since
+moved_stop : (flow : FlowLine) (behind : Option Behind) (was now : Moment) → IsMoved flow None (outside_of was) (outside_of now) → IsMoved flow (pending behind) (outside_of was) (outside_of now)
+moved_stop flow None was now moved = moved
+moved_stop flow (Some Whole) was now moved = moved
+moved_stop flow (Some (Broken fault)) was now moved = moved
+moved_stop flow (Some TooMany) was now moved = moved
+moved_stop flow (Some Failed) was now moved = tt
+moved_stop flow (Some NoMemory) was now moved = tt
+
+-- ---- one pair more
+
+kept_none : (heads : List FrameHead) → kept_by heads [] ≡ []
+kept_none [] = refl
+kept_none (head ∷ heads) = refl
+
+cond_append : (t : Bool) (frame : Frame) (frames more : List Frame) → cond t frames (frame ∷ frames) ++ more ≡ cond t (frames ++ more) (frame ∷ (frames ++ more))
+cond_append true frame frames more = refl
+cond_append false frame frames more = refl
+
+kept_more : (heads : List FrameHead) (pairs : List PairState) (p : PairState) → kept_by heads (pairs ++ p ∷ []) ≡ kept_by heads pairs ++ kept_by (drop (length pairs) heads) (p ∷ [])
+kept_more heads [] p = ap (λ fs. fs ++ kept_by heads (p ∷ [])) (sym (kept_none heads))
+kept_more [] (q ∷ pairs) p = refl
+kept_more (head ∷ heads) (q ∷ pairs) p =
+    let frame : Frame = record { head = head; octets = q.octets } in
+    ap (λ fs. cond (is_denied q.walked.end) fs (frame ∷ fs)) (kept_more heads pairs p)
+    ∙ sym (cond_append (is_denied q.walked.end) frame (kept_by heads pairs) (kept_by (drop (length pairs) heads) (p ∷ [])))
+
+kept_one : (t : Bool) (head : FrameHead) (rest : List Frame) (octets : List ℕ) → rest ≡ []
+    → frames_octets (cond t rest (record { head = head; octets = octets } ∷ rest)) ≡ cond t [] (frame_octets head octets)
+kept_one true head rest octets none = ap frames_octets none
+kept_one false head rest octets none = ap (λ fs. frame_octets head octets ++ frames_octets fs) none ∙ append-nil (frame_octets head octets)
+
+kept_frame : (head : FrameHead) (heads : List FrameHead) (walked : Walked) (packet : List ℕ)
+    → frames_octets (kept_by (head ∷ heads) (pair walked packet ∷ [])) ≡ frame_of head walked.end packet
+kept_frame head heads walked packet = kept_one (is_denied walked.end) head (kept_by heads []) packet (kept_none heads)
+
+passed_append : (pairs : List PairState) (p : PairState) → passed_in (pairs ++ p ∷ []) ≡ passed_in pairs + cond (is_denied p.walked.end) 0 1
+passed_append [] p = omega arith
+passed_append (q ∷ pairs) p = omega (arith, passed_append pairs p)
+
+denied_append : (pairs : List PairState) (p : PairState) → denied_in (pairs ++ p ∷ []) ≡ denied_in pairs + cond (is_denied p.walked.end) 1 0
+denied_append [] p = omega arith
+denied_append (q ∷ pairs) p = omega (arith, denied_append pairs p)
+
+one_counts : (t : Bool) → cond t 0 1 + cond t 1 0 ≡ 1
+one_counts true = refl
+one_counts false = refl
+
+-- ---- the stop of an append, or of a print
+
+printed_by : (stop : Option FlowStop) (output : Option (List ℕ)) (a b : List ℕ → ℕ) → AppendsMove stop output a b → (text waits still : List ℕ) (s t : SinkState)
+    → IsHandedOn text waits still s t → IsPrintedTo stop text waits still s t
+printed_by None output a b moved text waits still s t hands = hands
+printed_by (Some the_stop.Read) output a b moved text waits still s t hands = hands
+printed_by (Some the_stop.Create) output a b moved text waits still s t hands = hands
+printed_by (Some the_stop.Append) output a b moved text waits still s t hands = hands
+printed_by (Some the_stop.Print) output a b moved text waits still s t hands = absurd moved
+printed_by (Some the_stop.OutOfMemory) output a b moved text waits still s t hands = cut_off text waits still s t hands
+
+no_read : (stop : Option FlowStop) (output : Option (List ℕ)) (a b : List ℕ → ℕ) → AppendsMove stop output a b → stop ≡ Some the_stop.Read → ⊥
+no_read stop output a b moved is = subst (λ (s : Option FlowStop). AppendsMove s output a b) is moved
+
+print_not_read : (fault : IoFault) → (let one : Option FlowStop = Some (print_stop fault) in one ≡ Some the_stop.Read) → ⊥
+print_not_read io.Failed is = absurd cc
+print_not_read io.OutOfMemory is = absurd cc
+
+moved_more : (flow : FlowLine) (stop : Option FlowStop) (was now new : Moment) → IsMoved flow None (outside_of was) (outside_of now)
+    → AppendsMove stop flow.output now.folder.appends new.folder.appends → new.stream.faults ≡ now.stream.faults → IsMoved flow stop (outside_of was) (outside_of new)
+moved_more flow None was now new before more faults = (λ name. more name ∙ before.0 name, faults ∙ before.1)
+moved_more flow (Some the_stop.Read) was now new before more faults = absurd more
+moved_more flow (Some the_stop.Create) was now new before more faults = absurd more
+moved_more flow (Some the_stop.Append) was now new before more faults = (more.0, more.1, rose_same _ _ _ (before.0 more.0) more.2)
+moved_more flow (Some the_stop.Print) was now new before more faults = absurd more
+moved_more flow (Some the_stop.OutOfMemory) was now new before more faults = tt
+
+moved_print : (flow : FlowLine) (fault : IoFault) (was now new : Moment) → IsMoved flow None (outside_of was) (outside_of now)
+    → (IsErrOf {T = Unit {0}} (Err fault) io.Failed → Rose now.stream.faults new.stream.faults) → IsMoved flow (Some (print_stop fault)) (outside_of was) (outside_of new)
+moved_print flow io.Failed was now new before cause = rose_same _ _ _ before.1 (cause refl)
+moved_print flow io.OutOfMemory was now new before cause = tt
+
+module _ (number : ℕ) (names : List (List ℕ)) (flow : FlowLine) (was now : Moment) (pairs : List PairState) (taken : HasTaken number names flow was now pairs) where
+  module _ (none : now.stop ≡ None) where
+    lines_none : IsHandedOn (walked_lines number (length was.seen + 1) names flow.hops pairs) was.lines now.lines was.stream now.stream
+    lines_none = subst (λ (s : Option FlowStop). IsPrintedTo s (walked_lines number (length was.seen + 1) names flow.hops pairs) was.lines now.lines was.stream now.stream) none taken.lines
+
+    moved_none : IsMoved flow None (outside_of was) (outside_of now)
+    moved_none = subst (λ (s : Option FlowStop). IsMoved flow s (outside_of was) (outside_of now)) none taken.moved
+
+    text_of : List PairState → List ℕ
+    text_of ps = was.octets ++ frames_octets (kept_by (heads_left was.source (file_of was.folder was.source)) ps)
+
+    output_none : IsTrue was.folder.tells → (name : List ℕ) → flow.output ≡ Some name → IsAppended None (text_of pairs) now.octets (was.folder.held name) (now.folder.held name)
+    unfolding text_of
+    output_none told name is = subst (λ (s : Option FlowStop). IsAppended s (text_of pairs) now.octets (was.folder.held name) (now.folder.held name)) none (taken.output told name is)
+
+    -- ---- a fetch
+
+    same_then : (new : Moment) → HasMoved now.source new.source now.folder new.folder → (IsTrue now.folder.tells → (name : List ℕ) → new.folder.held name ≡ now.folder.held name)
+    same_then new (inl one) told name = one.1.kept told name
+    same_then new (inr stays) told name = ap (λ (d : DepotState). d.held name) stays.1
+
+    reads_then : (new : Moment) → now.source.frames.name ≡ flow.input → HasMoved now.source new.source now.folder new.folder → ReadsMove new.source.behind flow.input was.folder.reads new.folder.reads
+    reads_then new input (inl one) =
+        reads_more new.source.behind flow.input was.folder.reads now.folder.reads new.folder.reads
+        (subst (λ (b : Option Behind). ReadsMove b flow.input was.folder.reads now.folder.reads) one.0 taken.reads)
+        (subst (λ (n : List ℕ). ReadsMove new.source.behind n now.folder.reads new.folder.reads) input one.1.reads)
+    reads_then new input (inr stays) =
+        reads_after now.source.behind new.source.behind flow.input was.folder.reads now.folder.reads new.folder.reads stays.0 taken.reads (λ name. ap (λ (d : DepotState). d.reads name) stays.1)
+
+    appends_then : (new : Moment) → HasMoved now.source new.source now.folder new.folder → SameCounts now.folder.appends new.folder.appends
+    appends_then new (inl one) = one.1.appends
+    appends_then new (inr stays) = λ name. ap (λ (d : DepotState). d.appends name) stays.1
+
+    creates_then : (new : Moment) → HasMoved now.source new.source now.folder new.folder → SameCounts now.folder.creates new.folder.creates
+    creates_then new (inl one) = one.1.creates
+    creates_then new (inr stays) = λ name. ap (λ (d : DepotState). d.creates name) stays.1
+
+    told_then : (new : Moment) → HasMoved now.source new.source now.folder new.folder → new.folder.tells ≡ now.folder.tells
+    told_then new (inl one) = one.1.told
+    told_then new (inr stays) = ap (λ (d : DepotState). d.tells) stays.1
+
+    -- the file of the input is what it was
+    file_now : flow.output ≢ Some flow.input → was.source.frames.name ≡ flow.input → IsTrue was.folder.tells → file_of now.folder now.source ≡ file_of was.folder was.source
+    file_now apart input told =
+        ap (λ n. octets_of (now.folder.held n)) taken.source.name
+        ∙ ap (λ n. octets_of (now.folder.held n)) input
+        ∙ ap octets_of (taken.others told flow.input apart)
+        ∙ ap (λ n. octets_of (was.folder.held n)) (sym input)
+
+    -- nothing but the folder, the source and the stop has changed
+    pub taken_fetched : (new : Moment) → now.source.frames.name ≡ flow.input → flow.output ≢ Some flow.input
+        → new.stream ≡ now.stream → new.lines ≡ now.lines → new.octets ≡ now.octets → new.seen ≡ now.seen → new.passed ≡ now.passed → new.denied ≡ now.denied
+        → HasStepped now.source new.source now.folder new.folder → (new.stop ≡ None) ⊎ (new.stop ≡ pending new.source.behind) → HasTaken number names flow was new pairs
+    unfolding text_of
+    taken_fetched new input apart stream lines octets seen passed denied stepped stop =
+        let moved = stepped.moved in
+        let text = walked_lines number (length was.seen + 1) names flow.hops pairs in
+        let was_input : was.source.frames.name ≡ flow.input = sym taken.source.name ∙ input in
+        let handed : IsHandedOn text was.lines new.lines was.stream new.stream =
+        subst (λ (w : List ℕ). IsHandedOn text was.lines w was.stream new.stream) (sym lines) (subst (λ (s : SinkState). IsHandedOn text was.lines now.lines was.stream s) (sym stream) lines_none) in
+        let still_moved : IsMoved flow None (outside_of was) (outside_of new) =
+        (λ name. appends_then new moved name ∙ moved_none.0 name, ap (λ (s : SinkState). s.faults) stream ∙ moved_none.1) in
+        record {
+          folder_told = told_then new moved ∙ taken.folder_told;
+          stream_told = ap (λ (s : SinkState). s.tells) stream ∙ taken.stream_told;
+          lines = elim stop [
+            | inl none' ↦ subst (λ (s : Option FlowStop). IsPrintedTo s text was.lines new.lines was.stream new.stream) (sym none') handed
+            | inr at ↦ subst (λ (s : Option FlowStop). IsPrintedTo s text was.lines new.lines was.stream new.stream) (sym at) (lines_stop new.source.behind text was.lines new.lines was.stream new.stream handed)
+          ];
+          seen = seen ∙ taken.seen;
+          passed = passed ∙ taken.passed;
+          denied = denied ∙ taken.denied;
+          source = same_more was.source now.source new.source taken.source stepped.same;
+          heads = λ told.
+              let told' : IsTrue now.folder.tells = subst IsTrue (sym taken.folder_told) told in
+              subst (λ (f : List ℕ). heads_left new.source f ≡ heads_left now.source f) (file_now apart was_input told) (stepped.heads told') ∙ taken.heads told;
+          output = λ told name is.
+              let told' : IsTrue now.folder.tells = subst IsTrue (sym taken.folder_told) told in
+              let one : IsAppended None (text_of pairs) new.octets (was.folder.held name) (new.folder.held name) =
+              subst (λ (h : Option (List ℕ)). IsAppended None (text_of pairs) new.octets (was.folder.held name) h) (sym (same_then new moved told' name))
+              (subst (λ (w : List ℕ). IsAppended None (text_of pairs) w (was.folder.held name) (now.folder.held name)) (sym octets) (output_none told name is)) in
+              appended_stops new.stop (text_of pairs) new.octets (was.folder.held name) (new.folder.held name) one;
+          others = λ told name other.
+              let told' : IsTrue now.folder.tells = subst IsTrue (sym taken.folder_told) told in
+              same_then new moved told' name ∙ taken.others told name other;
+          reads = reads_then new input moved;
+          failed = λ is. elim stop [
+            | inl none' ↦ absurd (let no_stop : None ≡ Some the_stop.Read = sym none' ∙ is in cc)
+            | inr at ↦ stop_failed new.source.behind (sym at ∙ is)
+          ];
+          creates = λ name. creates_then new moved name ∙ taken.creates name;
+          still = λ no_output name. appends_then new moved name ∙ taken.still no_output name;
+          moved = elim stop [
+            | inl none' ↦ subst (λ (s : Option FlowStop). IsMoved flow s (outside_of was) (outside_of new)) (sym none') still_moved
+            | inr at ↦ subst (λ (s : Option FlowStop). IsMoved flow s (outside_of was) (outside_of new)) (sym at) (moved_stop flow new.source.behind was new still_moved)
+          ];
+          faults = omega (arith, taken.faults, ap (λ (s : SinkState). s.faults) stream);
+        }
+
+    -- ---- memory runs out for the versions of a packet
+
+    pub taken_unkept : (new : Moment) → new.folder ≡ now.folder → new.stream ≡ now.stream → new.lines ≡ now.lines → new.octets ≡ now.octets → new.seen ≡ now.seen
+        → new.passed ≡ now.passed → new.denied ≡ now.denied → new.source ≡ now.source → new.stop ≡ Some the_stop.OutOfMemory → HasTaken number names flow was new pairs
+    unfolding text_of
+    taken_unkept new folder stream lines octets seen passed denied source stop =
+        let text = walked_lines number (length was.seen + 1) names flow.hops pairs in
+        let handed : IsHandedOn text was.lines new.lines was.stream new.stream =
+        subst (λ (w : List ℕ). IsHandedOn text was.lines w was.stream new.stream) (sym lines) (subst (λ (s : SinkState). IsHandedOn text was.lines now.lines was.stream s) (sym stream) lines_none) in
+        record {
+          folder_told = ap (λ (d : DepotState). d.tells) folder ∙ taken.folder_told;
+          stream_told = ap (λ (s : SinkState). s.tells) stream ∙ taken.stream_told;
+          lines = subst (λ (s : Option FlowStop). IsPrintedTo s text was.lines new.lines was.stream new.stream) (sym stop) (cut_off text was.lines new.lines was.stream new.stream handed);
+          seen = seen ∙ taken.seen;
+          passed = passed ∙ taken.passed;
+          denied = denied ∙ taken.denied;
+          source = subst (λ (s : Source). IsSame was.source s) (sym source) taken.source;
+          heads = λ told. ap (λ (s : Source). heads_left s (file_of was.folder was.source)) source ∙ taken.heads told;
+          output = λ told name is.
+              let one : IsAppended None (text_of pairs) new.octets (was.folder.held name) (new.folder.held name) =
+              subst (λ (d : DepotState). IsAppended None (text_of pairs) new.octets (was.folder.held name) (d.held name)) (sym folder)
+              (subst (λ (w : List ℕ). IsAppended None (text_of pairs) w (was.folder.held name) (now.folder.held name)) (sym octets) (output_none told name is)) in
+              appended_stops new.stop (text_of pairs) new.octets (was.folder.held name) (new.folder.held name) one;
+          others = λ told name other. ap (λ (d : DepotState). d.held name) folder ∙ taken.others told name other;
+          reads = reads_after now.source.behind new.source.behind flow.input was.folder.reads now.folder.reads new.folder.reads (ap (λ (s : Source). s.behind) source) taken.reads
+              (λ name. ap (λ (d : DepotState). d.reads name) folder);
+          failed = λ is. absurd (let no_stop : Some the_stop.OutOfMemory ≡ Some the_stop.Read = sym stop ∙ is in cc);
+          creates = λ name. ap (λ (d : DepotState). d.creates name) folder ∙ taken.creates name;
+          still = λ no_output name. ap (λ (d : DepotState). d.appends name) folder ∙ taken.still no_output name;
+          moved = subst (λ (s : Option FlowStop). IsMoved flow s (outside_of was) (outside_of new)) (sym stop) tt;
+          faults = omega (arith, taken.faults, ap (λ (s : SinkState). s.faults) stream);
+        }
+
+    -- ---- a packet's line and frame
+
+    -- the source uses up one time
+    module _ (walked : Walked) (packet : List ℕ) (head : FrameHead) (new : Moment) (place : ℕ)
+        (seen : new.seen ≡ now.seen ++ walked.versions ∷ []) (at : place ≡ length new.seen)
+        (passed : new.passed ≡ now.passed + (cond (is_denied walked.end) 0 1)) (denied : new.denied ≡ now.denied + (cond (is_denied walked.end) 1 0))
+        (same : IsSame now.source new.source) (behind : new.source.behind ≡ now.source.behind)
+        (heads : (file : List ℕ) → heads_left now.source file ≡ head ∷ heads_left new.source file) where
+      p : PairState
+      p = pair walked packet
+
+      file : List ℕ
+      file = file_of was.folder was.source
+
+      line : List ℕ
+      line = walked_line number place names flow.hops walked
+
+      versions_more : new.seen ≡ was.seen ++ versions_in (pairs ++ p ∷ [])
+      unfolding p
+      versions_more =
+          seen
+          ∙ ap (λ s. s ++ walked.versions ∷ []) taken.seen
+          ∙ append_assoc was.seen (versions_in pairs) (walked.versions ∷ [])
+          ∙ ap (λ s. was.seen ++ s) (sym (map-append (λ (q : PairState). q.walked.versions) pairs (p ∷ [])))
+
+      place_is : place ≡ (length was.seen + 1) + length pairs
+      place_is = omega (arith, at, ap length seen, ap length taken.seen, length-append now.seen (walked.versions ∷ []), length-append was.seen (versions_in pairs), length-map pairs (λ (q : PairState). q.walked.versions))
+
+      text_more : walked_lines number (length was.seen + 1) names flow.hops (pairs ++ p ∷ []) ≡ walked_lines number (length was.seen + 1) names flow.hops pairs ++ line
+      unfolding p line
+      text_more =
+          lines_more number (length was.seen + 1) names flow.hops pairs p
+          ∙ ap (λ n. walked_lines number (length was.seen + 1) names flow.hops pairs ++ walked_line number n names flow.hops walked) (sym place_is)
+
+      heads_now : IsTrue was.folder.tells → drop (length pairs) (heads_left was.source file) ≡ head ∷ heads_left new.source file
+      unfolding file
+      heads_now told = sym (taken.heads told) ∙ heads (file_of was.folder was.source)
+
+      heads_more : IsTrue was.folder.tells → heads_left new.source file ≡ drop (length (pairs ++ p ∷ [])) (heads_left was.source file)
+      heads_more told =
+          let count : 1 + length pairs ≡ length (pairs ++ p ∷ []) = omega (arith, length-append pairs (p ∷ [])) in
+          let one = drop-drop 1 (length pairs) (heads_left was.source file) in
+          sym (ap (drop 1) (heads_now told)) ∙ one ∙ ap (λ n. drop n (heads_left was.source file)) (let turn : length pairs + 1 ≡ length (pairs ++ p ∷ []) = omega (arith, count) in turn)
+
+      frames_more : IsTrue was.folder.tells → text_of (pairs ++ p ∷ []) ≡ text_of pairs ++ frame_of head walked.end packet
+      unfolding text_of file p
+      frames_more told =
+          let before = heads_left was.source (file_of was.folder was.source) in
+          ap (λ fs. was.octets ++ frames_octets fs) (kept_more before pairs p)
+          ∙ ap (λ t. was.octets ++ t) (frames_are_written_in_their_order (kept_by before pairs) (kept_by (drop (length pairs) before) (p ∷ [])))
+          ∙ ap (λ hs. was.octets ++ (frames_octets (kept_by before pairs) ++ frames_octets (kept_by hs (p ∷ [])))) (heads_now told)
+          ∙ ap (λ t. was.octets ++ (frames_octets (kept_by before pairs) ++ t)) (kept_frame head (heads_left new.source (file_of was.folder was.source)) walked packet)
+          ∙ sym (append_assoc was.octets (frames_octets (kept_by before pairs)) (frame_of head walked.end packet))
+
+      passed_more : new.passed ≡ was.passed + passed_in (pairs ++ p ∷ [])
+      unfolding p
+      passed_more = omega (arith, passed, taken.passed, passed_append pairs (pair walked packet))
+
+      denied_more : new.denied ≡ was.denied + denied_in (pairs ++ p ∷ [])
+      unfolding p
+      denied_more = omega (arith, denied, taken.denied, denied_append pairs (pair walked packet))
+
+      handed_text : (still : List ℕ) (b : SinkState) → IsPrintedTo new.stop (walked_lines number (length was.seen + 1) names flow.hops pairs ++ line) was.lines still was.stream b
+          → IsPrintedTo new.stop (walked_lines number (length was.seen + 1) names flow.hops (pairs ++ p ∷ [])) was.lines still was.stream b
+      handed_text still b printed = subst (λ (t : List ℕ). IsPrintedTo new.stop t was.lines still was.stream b) (sym text_more) printed
+
+      -- the line was printed
+      pub taken_handed : IsHandedOn (walked_line number place names flow.hops walked) now.lines new.lines now.stream new.stream
+          → HasAppended new.stop flow.output (frame_of head walked.end packet) now.octets new.octets now.folder new.folder → HasTaken number names flow was new (pairs ++ pair walked packet ∷ [])
+      unfolding p line text_of file
+      taken_handed hands appended =
+          let ready : IsTrue was.folder.tells → IsTrue now.folder.tells = λ told. subst IsTrue (sym taken.folder_told) told in
+          record {
+            folder_told = appended.told ∙ taken.folder_told;
+            stream_told = hands.told ∙ taken.stream_told;
+            lines = handed_text new.lines new.stream
+                (printed_by new.stop flow.output now.folder.appends new.folder.appends appended.moved _ was.lines new.lines was.stream new.stream
+                (print_goes _ _ was.lines now.lines new.lines was.stream now.stream new.stream lines_none hands));
+            seen = versions_more;
+            passed = passed_more;
+            denied = denied_more;
+            source = same_more was.source now.source new.source taken.source same;
+            heads = heads_more;
+            output = λ told name is.
+                subst (λ (t : List ℕ). IsAppended new.stop t new.octets (was.folder.held name) (new.folder.held name)) (sym (frames_more told))
+                (appended_more new.stop (text_of pairs) (frame_of head walked.end packet) now.octets new.octets _ _ _ (output_none told name is) (appended.here (ready told) name is));
+            others = λ told name other. appended.others (ready told) name other ∙ taken.others told name other;
+            reads = reads_after now.source.behind new.source.behind flow.input was.folder.reads now.folder.reads new.folder.reads behind taken.reads appended.reads;
+            failed = λ is. absurd (no_read new.stop flow.output now.folder.appends new.folder.appends appended.moved is);
+            creates = λ name. appended.creates name ∙ taken.creates name;
+            still = λ no_output name. appended.still no_output name ∙ taken.still no_output name;
+            moved = moved_more flow new.stop was now new moved_none appended.moved hands.counts.ok;
+            faults = omega (arith, taken.faults, hands.counts.no_less);
+          }
+
+      -- the print has failed
+      pub taken_unprinted : (fault : IoFault) → new.stop ≡ Some (print_stop fault)
+          → HandsOn {T = Unit {0}} (walked_line number place names flow.hops walked) now.lines new.lines (Err fault) now.stream new.stream
+          → new.folder ≡ now.folder → new.octets ≡ now.octets → HasTaken number names flow was new (pairs ++ pair walked packet ∷ [])
+      unfolding p line text_of file
+      taken_unprinted fault stop hands folder octets = record {
+        folder_told = ap (λ (d : DepotState). d.tells) folder ∙ taken.folder_told;
+        stream_told = hands.told ∙ taken.stream_told;
+        lines = handed_text new.lines new.stream
+            (subst (λ (s : Option FlowStop). IsPrintedTo s (walked_lines number (length was.seen + 1) names flow.hops pairs ++ line) was.lines new.lines was.stream new.stream) (sym stop)
+            (print_fails fault (walked_lines number (length was.seen + 1) names flow.hops pairs) line was.lines now.lines new.lines was.stream now.stream new.stream lines_none hands));
+        seen = versions_more;
+        passed = passed_more;
+        denied = denied_more;
+        source = same_more was.source now.source new.source taken.source same;
+        heads = heads_more;
+        output = λ told name is.
+            let one = appended_cut (print_stop fault) (text_of pairs) (frame_of head walked.end packet) now.octets new.octets _ _ (output_none told name is) in
+            let there = subst (λ (d : DepotState). IsAppended (Some (print_stop fault)) (text_of pairs ++ frame_of head walked.end packet) new.octets (was.folder.held name) (d.held name)) (sym folder) one in
+            let stopped = subst (λ (s : Option FlowStop). IsAppended s (text_of pairs ++ frame_of head walked.end packet) new.octets (was.folder.held name) (new.folder.held name)) (sym stop) there in
+            subst (λ (t : List ℕ). IsAppended new.stop t new.octets (was.folder.held name) (new.folder.held name)) (sym (frames_more told)) stopped;
+        others = λ told name other. ap (λ (d : DepotState). d.held name) folder ∙ taken.others told name other;
+        reads = reads_after now.source.behind new.source.behind flow.input was.folder.reads now.folder.reads new.folder.reads behind taken.reads (λ name. ap (λ (d : DepotState). d.reads name) folder);
+        failed = λ is. absurd (print_not_read fault (sym stop ∙ is));
+        creates = λ name. ap (λ (d : DepotState). d.creates name) folder ∙ taken.creates name;
+        still = λ no_output name. ap (λ (d : DepotState). d.appends name) folder ∙ taken.still no_output name;
+        moved = subst (λ (s : Option FlowStop). IsMoved flow s (outside_of was) (outside_of new)) (sym stop) (moved_print flow fault was now new moved_none hands.counts.cause);
+        faults = omega (arith, taken.faults, hands.counts.no_less);
+      }
+
+      handed_more : HasHanded new.stop (walked_line number place names flow.hops walked) flow.output (frame_of head walked.end packet) now.lines new.lines now.octets new.octets
+          now.folder new.folder now.stream new.stream → HasTaken number names flow was new (pairs ++ pair walked packet ∷ [])
+      handed_more (inl done) = taken_handed done.0 done.1
+      handed_more (inr failed) = taken_unprinted failed.0 failed.1 failed.2 failed.3 failed.4
+
+      pub taken_more : (stop : Option FlowStop) → new.stop ≡ stop
+          → HasHanded stop (walked_line number place names flow.hops walked) flow.output (frame_of head walked.end packet) now.lines new.lines now.octets new.octets
+          now.folder new.folder now.stream new.stream → HasTaken number names flow was new (pairs ++ pair walked packet ∷ [])
+      taken_more stop is handed =
+          handed_more (subst (λ (s : Option FlowStop). HasHanded s (walked_line number place names flow.hops walked) flow.output (frame_of head walked.end packet) now.lines new.lines
+          now.octets new.octets now.folder new.folder now.stream new.stream) (sym is) handed)
+
+-- ---- what a feed needs, behind a packet
+
+handed_told : (stop : Option FlowStop) (text : List ℕ) (output : Option (List ℕ)) (frame waits waits' octets octets' : List ℕ) (a b : DepotState) (s t : SinkState)
+    → HasHanded stop text output frame waits waits' octets octets' a b s t → b.tells ≡ a.tells
+handed_told stop text output frame waits waits' octets octets' a b s t (inl done) = done.1.told
+handed_told stop text output frame waits waits' octets octets' a b s t (inr failed) = ap (λ (d : DepotState). d.tells) failed.3
+
+handed_others : (stop : Option FlowStop) (text : List ℕ) (output : Option (List ℕ)) (frame waits waits' octets octets' : List ℕ) (a b : DepotState) (s t : SinkState)
+    → HasHanded stop text output frame waits waits' octets octets' a b s t → IsTrue a.tells → (name : List ℕ) → output ≢ Some name → b.held name ≡ a.held name
+handed_others stop text output frame waits waits' octets octets' a b s t (inl done) told name other = done.1.others told name other
+handed_others stop text output frame waits waits' octets octets' a b s t (inr failed) told name other = ap (λ (d : DepotState). d.held name) failed.3
+
+handed_there : (stop : Option FlowStop) (text : List ℕ) (output : Option (List ℕ)) (frame waits waits' octets octets' : List ℕ) (a b : DepotState) (s t : SinkState)
+    → HasHanded stop text output frame waits waits' octets octets' a b s t → IsThere output a → IsThere output b
+handed_there stop text output frame waits waits' octets octets' a b s t (inl done) there =
+    λ told name is.
+    let here = done.1.here (subst IsTrue done.1.told told) name is in
+    (here.held ++ here.sent, here.now)
+handed_there stop text output frame waits waits' octets octets' a b s t (inr failed) there = subst (λ (d : DepotState). IsThere output d) (sym failed.3) there
+
+pub fed_kept : (a b : DepotState) (s s' : Source) → b.tells ≡ a.tells → (IsTrue a.tells → b.held s.frames.name ≡ a.held s.frames.name)
+    → s'.frames ≡ s.frames → s'.most ≡ s.most → s'.read ≡ s.read → s'.behind ≡ s.behind → IsFed a s → IsFed b s'
+fed_kept a b s s' told held frames most read behind fed = record {
+  ready = λ told'.
+      let before = subst IsTrue told told' in
+      subst (λ (r : Reader). ReaderStandsIn r (octets_of (b.held r.name))) (sym frames)
+      (subst (λ (h : Option (List ℕ)). ReaderStandsIn s.frames (octets_of h)) (sym (held before)) (fed.ready before));
+  stands = λ told'.
+      let before = subst IsTrue told told' in
+      let here = ap (λ (r : Reader). octets_of (b.held r.name)) frames ∙ ap octets_of (held before) in
+      subst (λ (f : List ℕ). StandsBy s'.behind s' f) (sym here)
+      (subst (λ (x : Option Behind). StandsBy x s' (file_of a s)) (sym behind) (stands_same s.behind s s' (file_of a s) frames most read (fed.stands before)));
+  within = subst (λ n. s'.read ≤ n) (sym most) (subst (λ n. n ≤ s.most) (sym read) fed.within);
+}
+
+fed_handed : (flow : FlowLine) (now new : Moment) (stop : Option FlowStop) (text frame : List ℕ) → IsGoing flow now → IsFed now.folder now.source
+    → new.source.frames ≡ now.source.frames → new.source.most ≡ now.source.most → new.source.read ≡ now.source.read → new.source.behind ≡ now.source.behind
+    → HasHanded stop text flow.output frame now.lines new.lines now.octets new.octets now.folder new.folder now.stream new.stream → IsFed new.folder new.source
+fed_handed flow now new stop text frame going fed frames most read behind handed =
+    fed_kept now.folder new.folder now.source new.source (handed_told stop text flow.output frame _ _ _ _ now.folder new.folder now.stream new.stream handed)
+    (λ told. handed_others stop text flow.output frame _ _ _ _ now.folder new.folder now.stream new.stream handed told now.source.frames.name (λ is. going.apart (is ∙ ap Some going.input)))
+    frames most read behind fed
+
+going_handed : (flow : FlowLine) (now new : Moment) (stop : Option FlowStop) (text frame : List ℕ) (versions : List ℕ) (denied : Bool) → IsGoing flow now
+    → new.source.frames ≡ now.source.frames → new.seen ≡ now.seen ++ versions ∷ [] → new.passed ≡ now.passed + cond denied 0 1 → new.denied ≡ now.denied + cond denied 1 0
+    → HasHanded stop text flow.output frame now.lines new.lines now.octets new.octets now.folder new.folder now.stream new.stream → IsGoing flow new
+going_handed flow now new stop text frame versions denied going frames seen passed more handed = record {
+  input = ap (λ (r : Reader). r.name) frames ∙ going.input;
+  apart = going.apart;
+  present = handed_there stop text flow.output frame _ _ _ _ now.folder new.folder now.stream new.stream handed going.present;
+  counts = omega (arith, going.counts, ap length seen, length-append now.seen (versions ∷ []), passed, more, one_counts denied);
+}
+
+pub ready_handed : (flow : FlowLine) (now new : Moment) (stop : Option FlowStop) (text frame : List ℕ) (versions : List ℕ) (denied : Bool) → IsFed now.folder now.source × IsGoing flow now
+    → new.source.frames ≡ now.source.frames → new.source.most ≡ now.source.most → new.source.read ≡ now.source.read → new.source.behind ≡ now.source.behind
+    → new.seen ≡ now.seen ++ versions ∷ [] → new.passed ≡ now.passed + cond denied 0 1 → new.denied ≡ now.denied + cond denied 1 0
+    → HasHanded stop text flow.output frame now.lines new.lines now.octets new.octets now.folder new.folder now.stream new.stream → IsFed new.folder new.source × IsGoing flow new
+ready_handed flow now new stop text frame versions denied ready frames most read behind seen passed more handed =
+    (fed_handed flow now new stop text frame ready.1 ready.0 frames most read behind handed, going_handed flow now new stop text frame versions denied ready.1 frames seen passed more handed)
+
+-- the first time that isn't used yet
+pub head_first : (source : Source) (d : FrameHead) (file : List ℕ) → source.at < length source.heads.items → d ≡ get_or source.heads.items source.at d
+    → heads_left source file ≡ d ∷ heads_left (record source { at = source.at + 1 }) file
+head_first source d file less first =
+    let one : suc source.at ≡ source.at + 1 = omega arith in
+    ap (λ hs. hs ++ map (λ (f : Frame). f.head) (frames_left source file)) (drop-cons source.heads.items source.at d less)
+    ∙ ap (λ n. (get_or source.heads.items source.at d ∷ drop n source.heads.items) ++ map (λ (f : Frame). f.head) (frames_left source file)) one
+    ∙ ap (λ x. x ∷ heads_left (record source { at = source.at + 1 }) file) (sym first)
+
+-- ---- the beginning, and the end
+
+pub taken_begins : (number : ℕ) (names : List (List ℕ)) (flow : FlowLine) (was : Moment) → was.stop ≡ None → was.source.behind ≡ None → IsThere flow.output was.folder → HasTaken number names flow was was []
+taken_begins number names flow was none fetched there = record {
+  folder_told = refl;
+  stream_told = refl;
+  lines = subst (λ (s : Option FlowStop). IsPrintedTo s [] was.lines was.lines was.stream was.stream) (sym none)
+      (subst (λ (w : List ℕ). IsHandedOn [] was.lines w was.stream was.stream) (append-nil was.lines) (nothing_is_handed_on [] was.lines tt was.stream));
+  seen = sym (append-nil was.seen);
+  passed = omega arith;
+  denied = omega arith;
+  source = record { name = refl; header = refl; most = refl };
+  heads = λ told. refl;
+  output = λ told name is.
+      let held = there told name is in
+      record {
+        held = held.0;
+        sent = [];
+        rest = was.octets;
+        was = held.1;
+        now = held.1 ∙ ap Some (sym (append-nil held.0));
+        all = sym (append-nil was.octets) ∙ ap (λ fs. was.octets ++ frames_octets fs) (sym (kept_none (heads_left was.source (file_of was.folder was.source))));
+        left = λ _. refl;
+      };
+  others = λ told name other. refl;
+  reads = subst (λ (b : Option Behind). ReadsMove b flow.input was.folder.reads was.folder.reads) (sym fetched) (λ name. refl);
+  failed = λ is. absurd (let no_stop : None ≡ Some the_stop.Read = sym none ∙ is in cc);
+  creates = λ name. refl;
+  still = λ no_output name. refl;
+  moved = subst (λ (s : Option FlowStop). IsMoved flow s (outside_of was) (outside_of was)) (sym none) (λ name. refl, refl);
+  faults = le_refl _;
+}
+
+-- the same under other names
+pub taken_at : (number number' : ℕ) (names names' : List (List ℕ)) (flow flow' : FlowLine) (was : Moment) (folder : DepotState) (stream : SinkState) (lines octets : List ℕ) (seen : List (List ℕ))
+    (passed denied : ℕ) (source : Source) (stop stop' : Option FlowStop) (pairs : List PairState) → number' ≡ number → names' ≡ names → flow' ≡ flow → stop' ≡ stop
+    → HasTaken number' names' flow' was (moment_at folder stream lines octets seen passed denied source stop') pairs
+    → HasTaken number names flow was (moment_at folder stream lines octets seen passed denied source stop) pairs
+taken_at number number' names names' flow flow' was folder stream lines octets seen passed denied source stop stop' pairs n m f s taken =
+    subst (λ (x : ℕ). HasTaken x names flow was (moment_at folder stream lines octets seen passed denied source stop) pairs) n
+    (subst (λ (x : List (List ℕ)). HasTaken number' x flow was (moment_at folder stream lines octets seen passed denied source stop) pairs) m
+    (subst (λ (x : FlowLine). HasTaken number' names' x was (moment_at folder stream lines octets seen passed denied source stop) pairs) f
+    (subst (λ (x : Option FlowStop). HasTaken number' names' flow' was (moment_at folder stream lines octets seen passed denied source x) pairs) s taken)))
+
+-- memory ran out behind what was done
+pub taken_out : (number : ℕ) (names : List (List ℕ)) (flow : FlowLine) (was : Moment) (folder : DepotState) (stream : SinkState) (lines octets : List ℕ) (seen : List (List ℕ))
+    (passed denied : ℕ) (source : Source) (pairs : List PairState) → HasTaken number names flow was (moment_at folder stream lines octets seen passed denied source None) pairs
+    → HasTaken number names flow was (moment_at folder stream lines octets seen passed denied source (Some the_stop.OutOfMemory)) pairs
+taken_out number names flow was folder stream lines octets seen passed denied source pairs taken =
+    taken_unkept number names flow was (moment_at folder stream lines octets seen passed denied source None) pairs taken refl
+    (moment_at folder stream lines octets seen passed denied source (Some the_stop.OutOfMemory)) refl refl refl refl refl refl refl refl refl
+
+-- where the end is known, memory may still run out
+pub taken_ends : (number : ℕ) (names : List (List ℕ)) (flow : FlowLine) (was : Moment) (folder : DepotState) (stream : SinkState) (lines octets : List ℕ) (seen : List (List ℕ))
+    (passed denied : ℕ) (source : Source) (stop : Option FlowStop) (pairs : List PairState) → (stop ≡ None) ⊎ (stop ≡ Some the_stop.OutOfMemory)
+    → HasTaken number names flow was (moment_at folder stream lines octets seen passed denied source None) pairs
+    → HasTaken number names flow was (moment_at folder stream lines octets seen passed denied source stop) pairs
+taken_ends number names flow was folder stream lines octets seen passed denied source stop pairs (inl none) taken =
+    subst (λ (x : Option FlowStop). HasTaken number names flow was (moment_at folder stream lines octets seen passed denied source x) pairs) (sym none) taken
+taken_ends number names flow was folder stream lines octets seen passed denied source stop pairs (inr out) taken =
+    subst (λ (x : Option FlowStop). HasTaken number names flow was (moment_at folder stream lines octets seen passed denied source x) pairs) (sym out)
+    (taken_out number names flow was folder stream lines octets seen passed denied source pairs taken)
+
+-- what waits is appended
+pub taken_appended : (number : ℕ) (names : List (List ℕ)) (flow : FlowLine) (was : Moment) (folder folder' : DepotState) (stream : SinkState) (lines octets octets' : List ℕ) (seen : List (List ℕ))
+    (passed denied : ℕ) (source : Source) (stop : Option FlowStop) (pairs : List PairState)
+    → HasTaken number names flow was (moment_at folder stream lines octets seen passed denied source None) pairs → HasAppended stop flow.output [] octets octets' folder folder'
+    → HasTaken number names flow was (moment_at folder' stream lines octets' seen passed denied source stop) pairs
+taken_appended number names flow was folder folder' stream lines octets octets' seen passed denied source stop pairs taken appended =
+    let ready : IsTrue was.folder.tells → IsTrue folder.tells = λ told. subst IsTrue (sym taken.folder_told) told in
+    let text = was.octets ++ frames_octets (kept_by (heads_left was.source (file_of was.folder was.source)) pairs) in
+    record {
+      folder_told = appended.told ∙ taken.folder_told;
+      stream_told = taken.stream_told;
+      lines = printed_by stop flow.output folder.appends folder'.appends appended.moved (walked_lines number (length was.seen + 1) names flow.hops pairs) was.lines lines was.stream stream taken.lines;
+      seen = taken.seen;
+      passed = taken.passed;
+      denied = taken.denied;
+      source = taken.source;
+      heads = taken.heads;
+      output = λ told name is.
+          subst (λ (t : List ℕ). IsAppended stop t octets' (was.folder.held name) (folder'.held name)) (append-nil text)
+          (appended_more stop text [] octets octets' (was.folder.held name) (folder.held name) (folder'.held name) (taken.output told name is) (appended.here (ready told) name is));
+      others = λ told name other. appended.others (ready told) name other ∙ taken.others told name other;
+      reads = reads_after source.behind source.behind flow.input was.folder.reads folder.reads folder'.reads refl taken.reads appended.reads;
+      failed = λ is. absurd (no_read stop flow.output folder.appends folder'.appends appended.moved is);
+      creates = λ name. appended.creates name ∙ taken.creates name;
+      still = λ no_output name. appended.still no_output name ∙ taken.still no_output name;
+      moved = moved_more flow stop was (moment_at folder stream lines octets seen passed denied source None) (moment_at folder' stream lines octets' seen passed denied source stop) taken.moved appended.moved refl;
+      faults = taken.faults;
+    }
+
+pub fed_appended : (stop : Option FlowStop) (output : Option (List ℕ)) (octets waits waits' : List ℕ) (a b : DepotState) (source : Source) → HasAppended stop output octets waits waits' a b
+    → output ≢ Some source.frames.name → IsFed a source → IsFed b source
+fed_appended stop output octets waits waits' a b source appended apart fed =
+    fed_kept a b source source appended.told (λ told. appended.others told source.frames.name apart) refl refl refl refl fed

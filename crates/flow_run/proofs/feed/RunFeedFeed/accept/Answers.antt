@@ -1,0 +1,49 @@
+use Rattle.std.proofs.Common.{rules, None, refl, inl, inr, ap, Some, ◌∙◌, sym, ◌+◌, ◌++◌, ◌∷◌, drop, map, arith}
+use Rattle.pcap_frames.specs.Record.{Frame}
+use Rattle.flow_run.specs.Run.{is_denied}
+use Rattle.flow_run.specs.inside.Source.{frames_left}
+use Rattle.flow_run.proofs.Steps.{taken_unkept, taken_more, ready_handed, head_first}
+use Rattle.flow_run.proofs.feed.RunFeedFeed.accept.Goals as goal
+
+pub returns-in-Err-clause-cut : goal.returns-in-Err-clause-cut
+returns-in-Err-clause-cut g c was h t =
+    inl (t.0, t.1, t.2, t.3, t.4, t.5, taken_unkept _ _ _ _ _ _ t.6 c.in-None.is _ refl refl refl refl c.in-Err.ensures.err refl refl refl (ap Some c.in-Err.ensures.stop))
+
+pub returns-in-Ok-hand_on-clause-took : goal.returns-in-Ok-hand_on-clause-took
+returns-in-Ok-hand_on-clause-took g c was h t = (
+  t.0,
+  t.1,
+  t.2,
+  t.3,
+  t.4,
+  t.5,
+  taken_more _ _ _ _ _ _ t.6 c.in-None.is c.args.walked.now c.args.packet.now c.index-head.result.now _ c.len.result
+      c.in-Ok.ensures.ok c.len.ensures c.count.ensures.passed c.count.ensures.denied (record { name = refl; header = refl; most = refl }) refl
+      (λ file. head_first c.args.self.now.source c.index-head.result.now file (omega (arith, c.requires.due)) (search (rules, c.index-head.ensures)))
+      None c.in-None.is c.in-Ok-hand_on.ensures,
+)
+
+pub returns-in-Err-hand_on-clause-cut : goal.returns-in-Err-hand_on-clause-cut
+returns-in-Err-hand_on-clause-cut g c was h t =
+    inr (
+      t.0,
+      t.1,
+      t.2,
+      t.3,
+      t.4,
+      t.5,
+      taken_more _ _ _ _ _ _ t.6 c.in-None.is c.args.walked.now c.args.packet.now c.index-head.result.now _ c.len.result
+          c.in-Ok.ensures.ok c.len.ensures c.count.ensures.passed c.count.ensures.denied (record { name = refl; header = refl; most = refl }) refl
+          (λ file. head_first c.args.self.now.source c.index-head.result.now file (omega (arith, c.requires.due)) (search (rules, c.index-head.ensures)))
+          (Some c.in-Err-hand_on.stop) refl c.in-Err-hand_on.ensures,
+    )
+
+pub returns-in-Ok-hand_on-clause-ready : goal.returns-in-Ok-hand_on-clause-ready
+returns-in-Ok-hand_on-clause-ready g c =
+    ready_handed _ _ _ _ _ _ c.args.walked.now.versions (is_denied c.args.walked.now.end) c.requires.ready refl refl refl refl
+    c.in-Ok.ensures.ok c.count.ensures.passed c.count.ensures.denied c.in-Ok-hand_on.ensures
+
+pub returns-in-Err-hand_on-clause-ready : goal.returns-in-Err-hand_on-clause-ready
+returns-in-Err-hand_on-clause-ready g c =
+    ready_handed _ _ _ _ _ _ c.args.walked.now.versions (is_denied c.args.walked.now.end) c.requires.ready refl refl refl refl
+    c.in-Ok.ensures.ok c.count.ensures.passed c.count.ensures.denied c.in-Err-hand_on.ensures

@@ -1,0 +1,22 @@
+use Rattle.std.proofs.Common.{◌≡◌, ◌≤◌, ◌-◌, IsTrue, length, None}
+use Rattle.pcap_frames.specs.Reader.{IsReady}
+use Rattle.flow_run.specs.inside.Source.{IsAmid, HasGot, HasOnlyRead, file_of}
+use Rattle.flow_run.proofs.source.fill.Given as goal
+
+abbrev pub decreases-loop-alloc : goal.decreases-loop-alloc
+decreases-loop-alloc g l = 1024 - length l.batch.items
+
+-- so many packets were read, one behind the other, and the reader stands in front of the next
+abbrev pub invariant-loop-alloc : goal.invariant-loop-alloc
+invariant-loop-alloc g l =
+    let before = g.D.Depot.state l.fn.depot in
+    let now = g.D.Depot.state l.depot in
+    record {
+      within : l.source.read ≤ l.source.most;
+      ready : IsReady now l.source.frames;
+      amid : IsTrue before.tells → IsAmid l.source (file_of before l.fn.source);
+      reads : HasOnlyRead None l.fn.source.frames.name before now;
+      got : HasGot before.tells (file_of before l.fn.source) l.fn.source l.source l.fn.batch.items l.batch.items;
+      behind : l.source.behind ≡ None;
+      few : length l.batch.items ≤ 1024;
+    }

@@ -1,0 +1,4 @@
+pub mod Input
+pub mod Run
+pub mod Ends
+pub mod inside

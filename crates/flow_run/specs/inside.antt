@@ -1,0 +1,4 @@
+pub mod Source
+pub mod Output
+pub mod Taken
+pub mod Flown

@@ -1,0 +1,146 @@
+-- How a flow begins, and how far it has come where it ends.
+use Rattle.std.specs.Prelude.{ℕ, ◌≡◌, ◌≢◌, IsTrue, IsSome, List, [], ◌++◌, length, Option, Some, None, Ok}
+use Rattle.net_io.specs.Depot.{DepotState, octets_of, SameHeld}
+use Rattle.net_io.specs.Faults.{Rose, SameCounts}
+use Rattle.flow_lines.specs.declared.flow.FlowLine.{FlowLine}
+use Rattle.pcap_frames.specs.declared.fault.FrameStop.{FrameStop}
+use Rattle.pcap_frames.specs.declared.fault.FrameStop.TheVariants as frame_stop
+use Rattle.pcap_frames.specs.Header.{capture_header}
+use Rattle.pcap_frames.specs.Written.{capture_head_octets}
+use Rattle.packet_walk.specs.declared.packet.PacketIn.{PacketIn}
+use Rattle.node_tables.specs.declared.reply.Reply.{Reply}
+use Rattle.node_tables.specs.Tables.{TableState}
+use Rattle.shared_tables.specs.Plan.{PlanState}
+use Rattle.label_flow.specs.Pair.{PairState}
+use Rattle.label_flow.specs.Feed.{AreBegun, AreWhole}
+use Rattle.label_flow.specs.Walked.{AreWalked}
+use Rattle.label_flow.specs.Schedule.{AreLawful, versions_in}
+use Rattle.report_lines.specs.Flow.{flow_end_line}
+use Rattle.call_report.specs.Outside.{Outside}
+use Rattle.flow_run.specs.declared.end.FlowEnd.{FlowEnd}
+use Rattle.flow_run.specs.declared.end.FlowEnd.TheVariants.{GoesOn, Broken, TooMany, Stopped}
+use Rattle.flow_run.specs.declared.end.FlowStop.{FlowStop}
+use Rattle.flow_run.specs.declared.end.FlowStop.TheVariants as the_stop
+use Rattle.flow_run.specs.declared.source.Source.{Source}
+use Rattle.flow_run.specs.declared.source.Behind.{Behind}
+use Rattle.flow_run.specs.declared.source.Behind.TheVariants as the_behind
+use Rattle.flow_run.specs.Ends.{HasEnded, HasSteps}
+use Rattle.flow_run.specs.inside.Source.{IsFed, packets_left, file_of}
+use Rattle.flow_run.specs.inside.Taken.{Moment, HasTaken}
+
+-- nothing was read of this capture but its header
+pub record IsFresh (input : List ℕ) (most : ℕ) (source : Source) : Type 0 where
+  pub name : source.frames.name ≡ input
+  pub place : source.frames.place ≡ 24
+  pub most_is : source.most ≡ most
+  pub read : source.read ≡ 0
+  pub behind : source.behind ≡ None
+  pub heads : source.heads.items ≡ []
+  pub at : source.at ≡ 0
+
+-- the numbers of makings that have failed
+abbrev pub CreatesMove : Option FlowStop → Option (List ℕ) → (List ℕ → ℕ) → (List ℕ → ℕ) → Type 0
+CreatesMove None output old new = SameCounts old new
+CreatesMove (Some the_stop.Read) output old new = ⊥
+CreatesMove (Some the_stop.Create) output old new = (name : List ℕ) × (output ≡ Some name) × Rose (old name) (new name)
+CreatesMove (Some the_stop.Append) output old new = ⊥
+CreatesMove (Some the_stop.Print) output old new = ⊥
+CreatesMove (Some the_stop.OutOfMemory) output old new = Unit {0}
+
+-- An output was made, if there is one; or it holds what it held.
+pub record HasCreated (stop : Option FlowStop) (output : Option (List ℕ)) (old new : DepotState) : Type 0 where
+  pub told : new.tells ≡ old.tells
+  pub here : stop ≡ None → IsTrue old.tells → (name : List ℕ) → output ≡ Some name → new.held name ≡ Some []
+  pub kept : stop ≢ None → IsTrue old.tells → (name : List ℕ) → new.held name ≡ old.held name
+  pub others : IsTrue old.tells → (name : List ℕ) → output ≢ Some name → new.held name ≡ old.held name
+  pub reads : SameCounts old.reads new.reads
+  pub appends : SameCounts old.appends new.appends
+  pub still : output ≡ None → SameCounts old.creates new.creates
+  pub moved : CreatesMove stop output old.creates new.creates
+
+-- the head of a capture waits for the output, if there is one
+abbrev pub HasHead : Option (List ℕ) → Source → List ℕ → Type 0
+HasHead output source octets = (name : List ℕ) → output ≡ Some name → octets ≡ capture_head_octets source.frames.header.nanos
+
+-- The header of a flow's input was read.
+pub record HasRead (flow : FlowLine) (most : ℕ) (before folder : DepotState) (source : Source) : Type 0 where
+  pub told : folder.tells ≡ before.tells
+  pub fresh : IsFresh flow.input most source
+  pub header : IsTrue before.tells → capture_header (octets_of (before.held flow.input)) ≡ Ok source.frames.header
+  pub present : IsTrue before.tells → IsSome (before.held flow.input)
+  pub kept : IsTrue before.tells → SameHeld before.held folder.held
+  pub fed : IsFed folder source
+  pub reads : SameCounts before.reads folder.reads
+  pub creates : SameCounts before.creates folder.creates
+  pub appends : SameCounts before.appends folder.appends
+
+-- A flow begins: the header of its input was read, and its output made.
+pub record IsStart (flow : FlowLine) (most : ℕ) (before folder : DepotState) (source : Source) (octets : List ℕ) : Type 0 where
+  pub told : folder.tells ≡ before.tells
+  pub fresh : IsFresh flow.input most source
+  pub header : IsTrue before.tells → capture_header (octets_of (before.held flow.input)) ≡ Ok source.frames.header
+  pub present : IsTrue before.tells → IsSome (before.held flow.input)
+  pub here : IsTrue before.tells → (name : List ℕ) → flow.output ≡ Some name → folder.held name ≡ Some []
+  pub others : IsTrue before.tells → (name : List ℕ) → flow.output ≢ Some name → folder.held name ≡ before.held name
+  pub head : HasHead flow.output source octets
+  pub fed : IsFed folder source
+  pub reads : SameCounts before.reads folder.reads
+  pub creates : SameCounts before.creates folder.creates
+  pub appends : SameCounts before.appends folder.appends
+
+abbrev pub stop_of : FlowEnd → Option FlowStop
+stop_of (GoesOn network replies) = None
+stop_of (Broken fault) = None
+stop_of TooMany = None
+stop_of (Stopped why) = Some why
+
+-- how a flow ends whose input can't be begun
+abbrev pub end_at : FrameStop → FlowEnd
+end_at (frame_stop.Capture fault) = Broken fault
+end_at frame_stop.ReadFault = Stopped the_stop.Read
+end_at frame_stop.OutOfMemory = Stopped the_stop.OutOfMemory
+
+-- the next flow comes under these tables, with these replies in between
+abbrev pub Gives : FlowEnd → List TableState → List Reply → Type 0
+Gives (GoesOn network replies) tables answers = (network ≡ tables) × (replies.items ≡ answers)
+Gives (Broken fault) tables answers = Unit {0}
+Gives TooMany tables answers = Unit {0}
+Gives (Stopped why) tables answers = Unit {0}
+
+-- what waits for the stream at the end
+abbrev pub WaitsFor : ℕ → FlowEnd → Moment → List ℕ → Type 0
+WaitsFor number (GoesOn network replies) now waits = waits ≡ now.lines ++ flow_end_line number (length now.seen) now.passed now.denied
+WaitsFor number (Broken fault) now waits = waits ≡ now.lines
+WaitsFor number TooMany now waits = waits ≡ now.lines
+WaitsFor number (Stopped the_stop.Read) now waits = waits ≡ now.lines
+WaitsFor number (Stopped the_stop.Create) now waits = waits ≡ now.lines
+WaitsFor number (Stopped the_stop.Append) now waits = waits ≡ now.lines
+WaitsFor number (Stopped the_stop.Print) now waits = Unit {0}
+WaitsFor number (Stopped the_stop.OutOfMemory) now waits = Unit {0}
+
+-- what stands behind the last packet
+abbrev pub IsBehind : FlowEnd → Option Behind → Type 0
+IsBehind (GoesOn network replies) behind = behind ≡ Some the_behind.Whole
+IsBehind (Broken fault) behind = behind ≡ Some (the_behind.Broken fault)
+IsBehind TooMany behind = behind ≡ Some the_behind.TooMany
+IsBehind (Stopped why) behind = Unit {0}
+
+-- From a moment on a flow has come so far, and ends so.
+pub record HasFlown (plan : PlanState) (names : List (List ℕ)) (workers number upto : ℕ) (flow : FlowLine) (was : Moment) (after : Outside) (waits : List ℕ) (seen : List (List ℕ)) (end : FlowEnd) : Type 0 where
+  pub now : Moment
+  pub packets : List PacketIn
+  pub pairs : List PairState
+  pub taken : HasTaken number names flow was now pairs
+  pub folder : after.folder ≡ now.folder
+  pub stream : after.stream ≡ now.stream
+  pub seen_is : seen ≡ now.seen
+  pub stop : now.stop ≡ stop_of end
+  pub waits_are : WaitsFor number end now waits
+  pub whole : HasEnded end → (name : List ℕ) → flow.output ≡ Some name → now.octets ≡ []
+  pub behind : IsBehind end now.source.behind
+  pub fed : IsFed now.folder now.source
+  pub begun : AreBegun (packets_left was.folder.tells was.source (file_of was.folder was.source)) packets
+  pub all : HasEnded end → AreWhole (packets_left was.folder.tells was.source (file_of was.folder was.source)) packets
+  pub walked : AreWalked plan flow.hops packets pairs
+  pub lawful : AreLawful plan flow.hops workers flow.before upto packets (versions_in pairs)
+  pub steps : HasSteps plan flow.before upto end

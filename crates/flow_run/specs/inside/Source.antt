@@ -1,0 +1,143 @@
+-- A source of packets: what it has left of its capture, and what reads change.
+use Rattle.std.specs.Prelude.{ℕ, ◌≡◌, ◌≤◌, ◌<◌, ◌⊎◌, ◌-◌, IsSome, Bool, true, false, IsTrue, List, [], ◌++◌, length, take, drop, map, All, Option, Some, None, Ok}
+use Rattle.net_io.specs.Depot.{DepotState, octets_of, SameHeld}
+use Rattle.net_io.specs.Faults.{Rose, SameCounts}
+use Rattle.pcap_frames.specs.declared.record.FrameHead.{FrameHead}
+use Rattle.pcap_frames.specs.Record.{Frame}
+use Rattle.pcap_frames.specs.Capture.{Capture, Records, records_at, capture_of}
+use Rattle.pcap_frames.specs.Reader.{Reader, IsReady}
+use Rattle.packet_walk.specs.declared.packet.PacketIn.{PacketIn}
+use Rattle.report_lines.specs.Capture.{capture_line}
+use Rattle.report_lines.specs.Fixed.{packets_limit_line}
+use Rattle.call_report.specs.Event.{Event, capture_event}
+use Rattle.flow_run.specs.Input.{packet_in}
+use Rattle.flow_run.specs.declared.end.FlowStop.{FlowStop}
+use Rattle.flow_run.specs.declared.end.FlowStop.TheVariants as the_stop
+use Rattle.flow_run.specs.declared.source.Source.{Source}
+use Rattle.flow_run.specs.declared.source.Behind.{Behind}
+use Rattle.flow_run.specs.declared.source.Behind.TheVariants.{Whole, Broken, TooMany, Failed, NoMemory}
+
+-- the records from a reader's place on
+abbrev pub records_left : Reader → List ℕ → Records
+records_left reader file = records_at reader.header.order reader.place (drop reader.place file)
+
+-- the frames that may still be read
+abbrev pub frames_left : Source → List ℕ → List Frame
+frames_left source file = take (source.most - source.read) (records_left source.frames file).frames
+
+-- the same of packets, where the folder tells what it holds
+abbrev pub packets_left : Bool → Source → List ℕ → Option (List PacketIn)
+packets_left true source file = Some (map (packet_in source.frames.header.link) (frames_left source file))
+packets_left false source file = None
+
+-- what a folder holds of a source's file
+abbrev pub file_of : DepotState → Source → List ℕ
+file_of folder source = octets_of (folder.held source.frames.name)
+
+-- the times of the frames that aren't used yet
+abbrev pub heads_left : Source → List ℕ → List FrameHead
+heads_left source file = drop source.at source.heads.items ++ map (λ frame. frame.head) (frames_left source file)
+
+-- so many frames stand in front of the reader's place as were read
+pub record IsAmid (source : Source) (file : List ℕ) : Type 0 where
+  pub front : List Frame
+  pub count : length front ≡ source.read
+  pub all : capture_of file ≡ Ok (record { header = source.frames.header; frames = front ++ (records_left source.frames file).frames; fault = (records_left source.frames file).fault })
+
+-- the event that stands behind the frames that were read, in the capture of this number
+abbrev pub event_of : ℕ → Behind → Option Event
+event_of number Whole = None
+event_of number (Broken fault) = Some (record { status = 5; line = capture_line number fault })
+event_of number TooMany = Some (record { status = 7; line = packets_limit_line })
+event_of number Failed = None
+event_of number NoMemory = None
+
+-- all was read, up to this event
+pub record IsAtEnd (source : Source) (file : List ℕ) (behind : Behind) : Type 0 where
+  pub capture : Capture
+  pub is : capture_of file ≡ Ok capture
+  pub event : (number : ℕ) → capture_event number source.most capture ≡ event_of number behind
+  pub none : frames_left source file ≡ []
+
+abbrev pub StandsBy : Option Behind → Source → List ℕ → Type 0
+StandsBy None source file = IsAmid source file
+StandsBy (Some Whole) source file = IsAtEnd source file Whole
+StandsBy (Some (Broken fault)) source file = IsAtEnd source file (Broken fault)
+StandsBy (Some TooMany) source file = IsAtEnd source file TooMany
+StandsBy (Some Failed) source file = IsAmid source file
+StandsBy (Some NoMemory) source file = IsAmid source file
+
+-- the stop that is to be answered
+abbrev pub pending : Option Behind → Option FlowStop
+pending None = None
+pending (Some Whole) = None
+pending (Some (Broken fault)) = None
+pending (Some TooMany) = None
+pending (Some Failed) = Some the_stop.Read
+pending (Some NoMemory) = Some the_stop.OutOfMemory
+
+-- whether the input was read to its end, or to its event
+abbrev pub is_end : Option Behind → Bool
+is_end None = false
+is_end (Some Whole) = true
+is_end (Some (Broken fault)) = true
+is_end (Some TooMany) = true
+is_end (Some Failed) = false
+is_end (Some NoMemory) = false
+
+-- the same reader of the same capture
+pub record IsSame (old new : Source) : Type 0 where
+  pub name : new.frames.name ≡ old.frames.name
+  pub header : new.frames.header ≡ old.frames.header
+  pub most : new.most ≡ old.most
+
+-- Frames were read from a source into a batch, behind those that it has.
+pub record HasGot (tells : Bool) (file : List ℕ) (old new : Source) (batch batch' : List PacketIn) : Type 0 where
+  pub frames : List Frame
+  pub same : IsSame old new
+  pub heads : new.heads.items ≡ old.heads.items ++ map (λ frame. frame.head) frames
+  pub at : new.at ≡ old.at
+  pub packets : batch' ≡ batch ++ map (packet_in old.frames.header.link) frames
+  pub short : All (λ packet. length packet.bytes ≤ 262144) (map (packet_in old.frames.header.link) frames)
+  pub left : IsTrue tells → frames_left old file ≡ frames ++ frames_left new file
+
+-- the number of reads that have failed: one more where one did; in front of a fault of the capture, and where memory ran out, it isn't told
+abbrev pub ReadsMove : Option Behind → List ℕ → (List ℕ → ℕ) → (List ℕ → ℕ) → Type 0
+ReadsMove None name old new = SameCounts old new
+ReadsMove (Some Whole) name old new = SameCounts old new
+ReadsMove (Some (Broken fault)) name old new = Unit {0}
+ReadsMove (Some TooMany) name old new = SameCounts old new
+ReadsMove (Some Failed) name old new = Rose (old name) (new name)
+ReadsMove (Some NoMemory) name old new = Unit {0}
+
+-- A folder was only read, up to this.
+pub record HasOnlyRead (behind : Option Behind) (name : List ℕ) (old new : DepotState) : Type 0 where
+  pub told : new.tells ≡ old.tells
+  pub kept : IsTrue old.tells → SameHeld old.held new.held
+  pub reads : ReadsMove behind name old.reads new.reads
+  pub creates : SameCounts old.creates new.creates
+  pub appends : SameCounts old.appends new.appends
+
+-- what a source needs of a folder, and leaves
+pub record IsFed (folder : DepotState) (source : Source) : Type 0 where
+  pub ready : IsReady folder source.frames
+  pub stands : IsTrue folder.tells → StandsBy source.behind source (file_of folder source)
+  pub within : source.read ≤ source.most
+
+-- a batch was read, or nothing where what stands behind the last packet is known already
+abbrev pub HasMoved : Source → Source → DepotState → DepotState → Type 0
+HasMoved old new before after = ((old.behind ≡ None) × HasOnlyRead new.behind old.frames.name before after) ⊎ ((new.behind ≡ old.behind) × (after ≡ before))
+
+-- An empty batch was filled.
+pub record HasFilled (before after : DepotState) (old new : Source) (batch : List PacketIn) : Type 0 where
+  pub fed : IsFed after new
+  pub got : HasGot before.tells (file_of before old) old new [] batch
+  pub few : length batch ≤ 1024
+  pub some : (0 < length batch) ⊎ IsSome new.behind
+  pub moved : HasMoved old new before after
+
+-- Packets moved to a batch; the times of what is to come stay.
+pub record HasStepped (old new : Source) (before after : DepotState) : Type 0 where
+  pub same : IsSame old new
+  pub heads : IsTrue before.tells → heads_left new (file_of before old) ≡ heads_left old (file_of before old)
+  pub moved : HasMoved old new before after

@@ -1,0 +1,111 @@
+-- What a flow has done since a moment: the lines that it printed, what it appended to its output, what it keeps of both, and what has failed.
+use Rattle.std.specs.Prelude.{ℕ, zero, suc, ◌≡◌, ◌≢◌, ◌≤◌, ◌⊎◌, ◌+◌, IsTrue, List, [], ◌∷◌, ◌++◌, length, drop, map, if◌then◌else◌, Option, Some, None, Result, Ok, Err}
+use Rattle.net_io.specs.Depot.{DepotState}
+use Rattle.net_io.specs.Sink.{SinkState}
+use Rattle.net_io.specs.Faults.{Rose, SameCounts}
+use Rattle.net_io.specs.declared.fault.IoFault.{IoFault}
+use Rattle.net_io.specs.declared.fault.IoFault.TheVariants as io
+use Rattle.flow_lines.specs.declared.flow.FlowLine.{FlowLine}
+use Rattle.pcap_frames.specs.declared.record.FrameHead.{FrameHead}
+use Rattle.pcap_frames.specs.Record.{Frame}
+use Rattle.pcap_frames.specs.Written.{frames_octets}
+use Rattle.label_flow.specs.Pair.{PairState}
+use Rattle.label_flow.specs.Schedule.{versions_in}
+use Rattle.call_report.specs.Outside.{Outside}
+use Rattle.call_report.specs.Printing.{Breaks, HandsOn}
+use Rattle.flow_run.specs.declared.end.FlowStop.{FlowStop}
+use Rattle.flow_run.specs.declared.end.FlowStop.TheVariants as the_stop
+use Rattle.flow_run.specs.declared.source.Source.{Source}
+use Rattle.flow_run.specs.Run.{is_denied, passed_in, denied_in, walked_lines}
+use Rattle.flow_run.specs.Ends.{IsHandedOn, IsCutOff}
+use Rattle.flow_run.specs.inside.Output.{IsAppended, IsThere, HasAppended}
+use Rattle.flow_run.specs.declared.source.Behind.TheVariants.{Failed}
+use Rattle.flow_run.specs.inside.Source.{IsSame, ReadsMove, heads_left, file_of}
+
+-- a flow at a moment: the folder and the stream, what waits for the stream and for the output, the versions that were kept, how many packets
+-- passed and were denied, and the last stop
+pub record Moment : Type 0 where
+  pub folder : DepotState
+  pub stream : SinkState
+  pub lines : List ℕ
+  pub octets : List ℕ
+  pub seen : List (List ℕ)
+  pub passed : ℕ
+  pub denied : ℕ
+  pub source : Source
+  pub stop : Option FlowStop
+
+abbrev pub stop_in : {T : Type 0} → Result T FlowStop → Option FlowStop
+stop_in (Ok given) = None
+stop_in (Err stop) = Some stop
+
+abbrev pub moment_at : DepotState → SinkState → List ℕ → List ℕ → List (List ℕ) → ℕ → ℕ → Source → Option FlowStop → Moment
+moment_at folder stream lines octets seen passed denied source stop =
+    record { folder = folder; stream = stream; lines = lines; octets = octets; seen = seen; passed = passed; denied = denied; source = source; stop = stop }
+
+-- the stop where a write was refused
+abbrev pub print_stop : IoFault → FlowStop
+print_stop io.Failed = the_stop.Print
+print_stop io.OutOfMemory = the_stop.OutOfMemory
+
+-- A line was printed, and then octets added to an output; or the print has failed, and then nothing was added.
+abbrev pub HasHanded : Option FlowStop → List ℕ → Option (List ℕ) → List ℕ → List ℕ → List ℕ → List ℕ → List ℕ → DepotState → DepotState → SinkState → SinkState → Type 0
+HasHanded stop line output frame waits waits' octets octets' folder folder' stream stream' =
+    (IsHandedOn line waits waits' stream stream' × HasAppended stop output frame octets octets' folder folder')
+    ⊎ ((fault : IoFault) × (stop ≡ Some (print_stop fault)) × HandsOn {T = Unit {0}} line waits waits' (Err fault) stream stream' × (folder' ≡ folder) × (octets' ≡ octets))
+
+-- a text was printed up to this stop
+abbrev pub IsPrintedTo : Option FlowStop → List ℕ → List ℕ → List ℕ → SinkState → SinkState → Type 0
+IsPrintedTo None text waits waits' before after = IsHandedOn text waits waits' before after
+IsPrintedTo (Some the_stop.Read) text waits waits' before after = IsHandedOn text waits waits' before after
+IsPrintedTo (Some the_stop.Create) text waits waits' before after = IsHandedOn text waits waits' before after
+IsPrintedTo (Some the_stop.Append) text waits waits' before after = IsHandedOn text waits waits' before after
+IsPrintedTo (Some the_stop.Print) text waits waits' before after =
+    (after.tells ≡ before.tells) × Rose before.faults after.faults × Breaks (waits ++ text) before after
+IsPrintedTo (Some the_stop.OutOfMemory) text waits waits' before after = IsCutOff text waits before after
+
+-- the frames that aren't denied, by the times of all
+abbrev pub kept_by : List FrameHead → List PairState → List Frame
+kept_by [] pairs = []
+kept_by (head ∷ heads) [] = []
+kept_by (head ∷ heads) (pair ∷ pairs) =
+    if is_denied pair.walked.end then kept_by heads pairs else record { head = head; octets = pair.octets } ∷ kept_by heads pairs
+
+-- the numbers of failed appends and prints: none more where nothing stopped it, and one where that did
+abbrev pub IsMoved : FlowLine → Option FlowStop → Outside → Outside → Type 0
+IsMoved flow None before after = SameCounts before.folder.appends after.folder.appends × (after.stream.faults ≡ before.stream.faults)
+IsMoved flow (Some the_stop.Read) before after = Unit {0}
+IsMoved flow (Some the_stop.Create) before after = ⊥
+IsMoved flow (Some the_stop.Append) before after = (name : List ℕ) × (flow.output ≡ Some name) × Rose (before.folder.appends name) (after.folder.appends name)
+IsMoved flow (Some the_stop.Print) before after = Rose before.stream.faults after.stream.faults
+IsMoved flow (Some the_stop.OutOfMemory) before after = Unit {0}
+
+abbrev pub outside_of : Moment → Outside
+outside_of moment = record { folder = moment.folder; stream = moment.stream }
+
+-- From a moment on, at which nothing was fetched or stopped, these pairs were accepted, in the flow of this number.
+pub record HasTaken (number : ℕ) (names : List (List ℕ)) (flow : FlowLine) (was now : Moment) (pairs : List PairState) : Type 0 where
+  pub folder_told : now.folder.tells ≡ was.folder.tells
+  pub stream_told : now.stream.tells ≡ was.stream.tells
+  pub lines : IsPrintedTo now.stop (walked_lines number (length was.seen + 1) names flow.hops pairs) was.lines now.lines was.stream now.stream
+  pub seen : now.seen ≡ was.seen ++ versions_in pairs
+  pub passed : now.passed ≡ was.passed + passed_in pairs
+  pub denied : now.denied ≡ was.denied + denied_in pairs
+  pub source : IsSame was.source now.source
+  pub heads : IsTrue was.folder.tells → heads_left now.source (file_of was.folder was.source) ≡ drop (length pairs) (heads_left was.source (file_of was.folder was.source))
+  pub output : IsTrue was.folder.tells → (name : List ℕ) → flow.output ≡ Some name
+      → IsAppended now.stop (was.octets ++ frames_octets (kept_by (heads_left was.source (file_of was.folder was.source)) pairs)) now.octets (was.folder.held name) (now.folder.held name)
+  pub others : IsTrue was.folder.tells → (name : List ℕ) → flow.output ≢ Some name → now.folder.held name ≡ was.folder.held name
+  pub reads : ReadsMove now.source.behind flow.input was.folder.reads now.folder.reads
+  pub failed : now.stop ≡ Some the_stop.Read → now.source.behind ≡ Some Failed
+  pub creates : SameCounts was.folder.creates now.folder.creates
+  pub still : flow.output ≡ None → SameCounts was.folder.appends now.folder.appends
+  pub moved : IsMoved flow now.stop (outside_of was) (outside_of now)
+  pub faults : was.stream.faults ≤ now.stream.faults
+
+-- What is true of a flow at each moment, and what its calls need.
+pub record IsGoing (flow : FlowLine) (now : Moment) : Type 0 where
+  pub input : now.source.frames.name ≡ flow.input
+  pub apart : flow.output ≢ Some flow.input
+  pub present : IsThere flow.output now.folder
+  pub counts : now.passed + now.denied ≡ length now.seen

@@ -1,0 +1,53 @@
+//! Where a flow stands in its script, and how it ends.
+
+use address_text::Name;
+use command_forms::Step;
+use node_tables::{Network, Reply};
+use pcap_frames::CaptureFault;
+
+/// Where a flow stands in its script.
+#[derive(Drop)]
+pub struct FlowPlace<'a> {
+    /// The flow's number, counted from 1.
+    pub number: u32,
+    /// How many packets may still be read.
+    pub most: u64,
+    /// How many steps are made beside the flow, those above it counted too.
+    pub upto: u32,
+    /// How many workers walk packets.
+    pub workers: usize,
+    /// The names of all nodes.
+    pub names: &'a [Name],
+    /// All steps of the script.
+    pub steps: &'a [Step],
+}
+
+/// Why a flow was stopped.
+#[derive(Clone, Copy, Debug, PartialEq, Eq)]
+pub enum FlowStop {
+    /// A read of the input has failed.
+    Read,
+    /// The making of the output has failed.
+    Create,
+    /// An append to the output has failed.
+    Append,
+    /// A write to the stream out has failed.
+    Print,
+    OutOfMemory,
+}
+
+/// How a flow ends.
+#[derive(Drop)]
+pub enum FlowEnd {
+    /// All its packets were walked, and the next flow comes under these tables; these are the replies to the steps beside it.
+    GoesOn {
+        network: Network,
+        replies: Vec<Reply>,
+    },
+    /// Its capture has a fault behind its last packet.
+    Broken(CaptureFault),
+    /// Its capture has more packets than may be read.
+    TooMany,
+    /// It was stopped.
+    Stopped(FlowStop),
+}

@@ -1,0 +1,131 @@
+//! What waits for the output of a flow.
+
+ghost use Rattle.std.specs.Prelude.{◌≡◌, ◌≤◌, ℕ, List, [], length, Some, OnOk, IfOk};
+ghost use Rattle.pcap_frames.specs.Written.{capture_head_octets, frame_octets};
+ghost use Rattle.flow_run.specs.Run.{is_denied};
+ghost use Rattle.flow_run.specs.inside.Output.{HasAppended, IsThere, frame_of};
+ghost use Rattle.flow_run.specs.inside.Taken.{stop_in};
+ghost use Rattle.flow_run.specs.inside.Flown.{HasCreated};
+
+use crate::end::FlowStop;
+use flow_lines::FileName;
+use net_io::{Depot, IoFault, append_all};
+use packet_walk::{End, Walked};
+use pcap_frames::{FrameHead, write_frame, write_head};
+use std::alloc::Global;
+
+/// How many octets are gathered before they are appended.
+const PIECE: usize = 16384;
+
+/// Appends all that waits.
+pub(crate) fn append_waiting<D: Depot>(
+    depot: &mut D,
+    name: &FileName,
+    octets: &mut Vec<u8>,
+) -> Result<(), FlowStop>
+    requires { IsThere (Some name.now) (D.state depot.old) }
+    ensures appended { HasAppended (stop_in result) (Some name.now) [] octets.old.items octets.new.items (D.state depot.old) (D.state depot.new) }
+    ensures empty { OnOk result (octets.new.items ≡ []) }
+{
+    match append_all(depot, name.text(), octets.as_slice()) {
+        Ok(()) => {
+            octets.clear();
+            Ok(())
+        }
+        Err(IoFault::Failed) => Err(FlowStop::Append),
+        Err(IoFault::OutOfMemory) => Err(FlowStop::OutOfMemory),
+    }
+}
+
+/// Whether a walk was denied.
+pub(crate) fn is_denied(walked: &Walked) -> bool
+    ensures { result ≡ is_denied walked.now.end }
+{
+    match &walked.end {
+        End::Denied { .. } => true,
+        End::Delivered { .. } | End::Sent { .. } => false,
+    }
+}
+
+// The frame of a packet waits, and what waits is appended where that is a piece.
+fn add_kept<D: Depot>(
+    depot: &mut D,
+    name: &FileName,
+    octets: &mut Vec<u8>,
+    head: FrameHead,
+    packet: &[u8],
+) -> Result<(), FlowStop>
+    requires there { IsThere (Some name.now) (D.state depot.old) }
+    requires short { length packet.now ≤ 262144 }
+    ensures { HasAppended (stop_in result) (Some name.now) (frame_octets head packet.now) octets.old.items octets.new.items (D.state depot.old) (D.state depot.new) }
+{
+    let Ok(()) = write_frame(head, packet, octets) else {
+        return Err(FlowStop::OutOfMemory);
+    };
+    if octets.len() < PIECE {
+        return Ok(());
+    }
+    append_waiting(depot, name, octets)
+}
+
+/// The frame of a packet that wasn't denied waits for the output, if there is one; what waits is appended where that is a piece.
+pub(crate) fn add_frame<D: Depot>(
+    depot: &mut D,
+    output: &Option<FileName>,
+    octets: &mut Vec<u8>,
+    head: FrameHead,
+    walked: &Walked,
+    packet: &[u8],
+) -> Result<(), FlowStop>
+    requires there { IsThere output.now (D.state depot.old) }
+    requires short { length packet.now ≤ 262144 }
+    ensures { HasAppended (stop_in result) output.now (frame_of head walked.now.end packet.now) octets.old.items octets.new.items (D.state depot.old) (D.state depot.new) }
+{
+    if is_denied(walked) {
+        return Ok(());
+    }
+    match output {
+        Some(name) => add_kept(depot, name, octets, head, packet),
+        None => Ok(()),
+    }
+}
+
+/// Makes the output of a flow, if it has one, and gives the head of a capture that is to be appended to it.
+pub(crate) fn create_output<D: Depot>(
+    alloc: Global,
+    depot: &mut D,
+    output: &Option<FileName>,
+    nanos: bool,
+) -> Result<Vec<u8>, FlowStop>
+    ensures created { HasCreated (stop_in result) output.now (D.state depot.old) (D.state depot.new) }
+    ensures head { IfOk result (λ octets. (name : List ℕ) → output.now ≡ Some name → octets.items ≡ capture_head_octets nanos) }
+{
+    let mut octets = Vec::new(alloc);
+    let Some(name) = output else {
+        return Ok(octets);
+    };
+    let Ok(()) = write_head(nanos, &mut octets) else {
+        return Err(FlowStop::OutOfMemory);
+    };
+    match depot.create(name.text()) {
+        Ok(()) => Ok(octets),
+        Err(IoFault::Failed) => Err(FlowStop::Create),
+        Err(IoFault::OutOfMemory) => Err(FlowStop::OutOfMemory),
+    }
+}
+
+/// Appends what waits for the output, if there is one.
+pub(crate) fn append_rest<D: Depot>(
+    depot: &mut D,
+    output: &Option<FileName>,
+    octets: &mut Vec<u8>,
+) -> Result<(), FlowStop>
+    requires { IsThere output.now (D.state depot.old) }
+    ensures appended { HasAppended (stop_in result) output.now [] octets.old.items octets.new.items (D.state depot.old) (D.state depot.new) }
+    ensures empty { OnOk result ((name : List ℕ) → output.now ≡ Some name → octets.new.items ≡ []) }
+{
+    match output {
+        Some(name) => append_waiting(depot, name, octets),
+        None => Ok(()),
+    }
+}

@@ -1,0 +1,373 @@
+//! One flow over a folder and a stream in memory, whose steps are all made beside it, in front of the first look.
+
+ghost use Rattle.std.specs.Prelude.{◌≡◌, ◌≢◌, ◌<◌, length, All, Some};
+ghost use Rattle.flow_lines.specs.Hop.{node_of};
+ghost use Rattle.node_tables.specs.Steps.{tables_after};
+
+use super::*;
+use address_text::read_name;
+use call_report::{FlowSeen, Report};
+use command_forms::{Step, command_of, read_said};
+use flow_lines::{FlowLine, Flows, NodeNames, read_flow};
+use label_flow::Gate;
+use net_io::{DepotCall, MemoryDepot, MemorySink};
+use node_tables::Network;
+use pcap_frames::{CaptureFault, CaptureKind};
+use script_lines::words_into;
+use std::alloc::Global;
+use std::process::Abort;
+use std::str::from_utf8;
+use std::sync::Wait;
+use std::sync::atomic::{AtomicU64, Ordering};
+use std::thread::{Threads, yield_now};
+
+const LINES: [&str; 4] = [
+    "unlbl accept on",
+    "unlbl add default address:10.0.0.0/8 label:s1:c2",
+    "map add default protocol:unlbl",
+    "receiver add address:10.0.0.2 domain:sink_t level:s1:c2",
+];
+
+const FLOW: &str = "in.pcap out.pcap receive:r,eth0";
+
+/// The header of a capture of packets alone.
+const HEADER: [u8; 24] = [
+    0xd4, 0xc3, 0xb2, 0xa1, 2, 0, 4, 0, 0, 0, 0, 0, 0, 0, 0, 0, 0, 0, 4, 0, 101, 0, 0, 0,
+];
+
+/// In front of the octets of one, in seconds and millionths.
+const PACKET_HEAD: [u8; 16] = [1, 0, 0, 0, 2, 0, 0, 0, 28, 0, 0, 0, 28, 0, 0, 0];
+
+/// UDP from 10.0.0.1 to 10.0.0.2 without a label.
+const PACKET: [u8; 28] = [
+    0x45, 0x00, 0x00, 0x1c, 0x00, 0x00, 0x40, 0x00, 0x40, 0x11, 0x26, 0xcf, 0x0a, 0x00, 0x00, 0x01,
+    0x0a, 0x00, 0x00, 0x02, 0x03, 0xe8, 0x00, 0x35, 0x00, 0x08, 0xe7, 0xbe,
+];
+
+/// The same from 172.16.0.1, for whom no label is set.
+const STRANGER: [u8; 28] = [
+    0x45, 0x00, 0x00, 0x1c, 0x00, 0x00, 0x40, 0x00, 0x40, 0x11, 0x84, 0xbe, 0xac, 0x10, 0x00, 0x01,
+    0x0a, 0x00, 0x00, 0x02, 0x03, 0xe8, 0x00, 0x35, 0x00, 0x08, 0x45, 0xae,
+];
+
+/// The header of a capture of Ethernet in billionths of a second, and that of what is made of it.
+const ETHERNET: [u8; 24] = [
+    0x4d, 0x3c, 0xb2, 0xa1, 2, 0, 4, 0, 0, 0, 0, 0, 0, 0, 0, 0, 0xff, 0xff, 0, 0, 1, 0, 0, 0,
+];
+
+const ITS_OUTPUT: [u8; 24] = [
+    0x4d, 0x3c, 0xb2, 0xa1, 2, 0, 4, 0, 0, 0, 0, 0, 0, 0, 0, 0, 0, 0, 4, 0, 101, 0, 0, 0,
+];
+
+/// ARP, of which only the front is there.
+const ARP: [u8; 30] = [
+    1, 0, 0, 0, 7, 0, 0, 0, 14, 0, 0, 0, 14, 0, 0, 0, 2, 0, 0, 0, 0, 2, 2, 0, 0, 0, 0, 1, 8, 6,
+];
+
+/// The front of a frame behind a tag of IEEE 802.1Q, and that of one without; 1 and 3 seconds, and 999,999,999 and 8 billionths.
+const TAGGED: [u8; 34] = [
+    1, 0, 0, 0, 0xff, 0xc9, 0x9a, 0x3b, 46, 0, 0, 0, 46, 0, 0, 0, 2, 0, 0, 0, 0, 2, 2, 0, 0, 0, 0,
+    1, 0x81, 0, 0, 100, 8, 0,
+];
+
+const PLAIN: [u8; 30] = [
+    3, 0, 0, 0, 8, 0, 0, 0, 42, 0, 0, 0, 42, 0, 0, 0, 2, 0, 0, 0, 0, 2, 2, 0, 0, 0, 0, 1, 8, 0,
+];
+
+/// The fronts of the tagged and the plain frame's packets in the output.
+const FIRST_HEAD: [u8; 16] = [1, 0, 0, 0, 0xff, 0xc9, 0x9a, 0x3b, 28, 0, 0, 0, 28, 0, 0, 0];
+
+const SECOND_HEAD: [u8; 16] = [3, 0, 0, 0, 8, 0, 0, 0, 28, 0, 0, 0, 28, 0, 0, 0];
+
+const ETHERNET_LINES: &str = "flow 3 in.pcap
+packet 3.1 denied 22 NotIp hop 0 node - versions -
+packet 3.2 delivered s1:c2 to 10.0.0.2 versions 4
+packet 3.3 denied 4 NoStatic hop 1 node r versions 4
+packet 3.4 delivered s1:c2 to 10.0.0.2 versions 4
+end 3 packets 4 passed 2 denied 2
+";
+
+const LAST_LINES: &str = "packet 3.2048 delivered s1:c2 to 10.0.0.2 versions 4
+packet 3.2049 delivered s1:c2 to 10.0.0.2 versions 4
+end 3 packets 2049 passed 2049 denied 0
+";
+
+/// Captures of packets of 44 octets that end somewhere: the file's octets, how many packets may be read, how many are judged, and the end.
+const ENDS: [(usize, u64, usize, Ended); 8] = [
+    (150, 9, 2, Ended::Broken),
+    (112, 1, 1, Ended::TooMany),
+    (100, 1, 1, Ended::Broken),
+    (68, 1, 1, Ended::GoesOn),
+    (68, 0, 0, Ended::TooMany),
+    (30, 0, 0, Ended::Broken),
+    (24, 0, 0, Ended::GoesOn),
+    (20, 9, 0, Ended::Broken),
+];
+
+/// How a flow ends.
+#[derive(Clone, Copy, Debug, PartialEq, Eq)]
+enum Ended {
+    GoesOn,
+    Broken,
+    TooMany,
+    Stopped(FlowStop),
+}
+
+/// What a flow leaves.
+#[derive(Drop)]
+struct Ran {
+    seen: FlowSeen,
+    end: FlowEnd,
+    printed: Vec<u8>,
+}
+
+/// Looks wait for the last step.
+#[derive(Drop)]
+struct Late {
+    stepped: AtomicU64,
+}
+
+impl Gate for Late {
+    fn before_look(&self, _worker: u32, _packet: u64, _hop: u32) {
+        for _turn in 0..1_000_000_000u64 {
+            if self.stepped.load(Ordering::SeqCst) > 0 {
+                return;
+            }
+            yield_now();
+        }
+    }
+
+    fn before_step(&self, _version: u32) {}
+
+    fn after_step(&self, version: u32) {
+        if version == 4 {
+            self.stepped.store(1, Ordering::SeqCst);
+        }
+    }
+}
+
+fn names_of(rt: &impl Abort, alloc: Global) -> NodeNames
+    ensures { length result ≡ 1 }
+{
+    let mut names = NodeNames::empty(alloc);
+    let name = read_name(b"r").expect(rt, "a name");
+    names.add(name).expect(rt, "memory");
+    assert!(rt; names.len() == 1);
+    names
+}
+
+fn flow_of(rt: &impl Abort, alloc: Global, names: &NodeNames) -> FlowLine
+    requires { length names.now ≡ 1 }
+    ensures hops { All (λ hop. node_of hop < 1) result.hops }
+    ensures before { result.before ≡ 0 }
+    ensures apart { result.output ≢ Some result.input }
+{
+    let mut words = Vec::new(alloc);
+    words_into(FLOW.as_bytes(), &mut words).expect(rt, "memory");
+    let flows = Flows::empty(alloc);
+    let Ok(flow) = read_flow("own", names, &flows, 0, FLOW.len(), &words) else {
+        panic!(rt; "a flow")
+    };
+    assert!(rt; flow.before == 0);
+    flow
+}
+
+fn step_of(rt: &impl Abort, alloc: Global, line: &str) -> Step
+    ensures { result.node < 1 }
+{
+    let mut words = Vec::new(alloc);
+    words_into(line.as_bytes(), &mut words).expect(rt, "memory");
+    let said = read_said(alloc, false, &words, line.len()).expect(rt, "said");
+    let command = command_of(said.row, said.fields).expect(rt, "a command");
+    Step { node: 0, command }
+}
+
+fn steps_of(rt: &impl Abort, alloc: Global) -> Vec<Step>
+    ensures count { length result.items ≡ 4 }
+    ensures nodes { All (λ step. step.node < 1) result.items }
+{
+    let mut steps = Vec::new(alloc);
+    for line in LINES.as_slice() {
+        let step = step_of(rt, alloc, line);
+        steps.push(step).expect(rt, "memory");
+    }
+    steps
+}
+
+fn fresh(rt: &impl Abort, alloc: Global, steps: &[Step]) -> Network
+    ensures { result ≡ tables_after 1 steps.now 0 }
+{
+    let _later = steps;
+    Network::fresh(alloc, 1).expect(rt, "memory")
+}
+
+/// The third flow, of which so many packets may be read, over a stream whose write of this number fails (0: none).
+fn called(
+    rt: &(impl Abort + Threads + Wait + Sync),
+    alloc: Global,
+    most: u64,
+    depot: &mut MemoryDepot,
+    write: u32,
+) -> Ran {
+    let nodes = names_of(rt, alloc);
+    let flow = flow_of(rt, alloc, &nodes);
+    let steps = steps_of(rt, alloc);
+    let network = fresh(rt, alloc, &steps);
+    let place = FlowPlace {
+        number: 3,
+        most,
+        upto: 4,
+        workers: 2,
+        names: nodes.as_slice(),
+        steps: &steps,
+    };
+    let gate = Late {
+        stepped: AtomicU64::new(0),
+    };
+    let mut sink = MemorySink::new(alloc, &[write], 4096).expect(rt, "memory");
+    let mut report = Report::new(alloc);
+    let (seen, end) = run_flow(
+        rt,
+        alloc,
+        &place,
+        &flow,
+        network,
+        &mut report,
+        depot,
+        &mut sink,
+        &gate,
+    );
+    let flushed = report.flush(&mut sink);
+    assert!(rt; flushed.is_ok());
+    let printed = Vec::from_slice(alloc, sink.bytes()).expect(rt, "memory");
+    Ran { seen, end, printed }
+}
+
+fn joined(rt: &impl Abort, alloc: Global, parts: &[&[u8]]) -> Vec<u8> {
+    let mut octets = Vec::new(alloc);
+    for part in parts {
+        octets.extend_from_slice(part).expect(rt, "memory");
+    }
+    octets
+}
+
+/// A capture of so many packets.
+fn capture(rt: &impl Abort, alloc: Global, packets: usize) -> Vec<u8> {
+    let mut file = joined(rt, alloc, &[&HEADER]);
+    for _packet in 0..packets {
+        file.extend_from_slice(&PACKET_HEAD).expect(rt, "memory");
+        file.extend_from_slice(&PACKET).expect(rt, "memory");
+    }
+    file
+}
+
+/// A folder with a capture, whose call of this number fails (0: none).
+fn folder(rt: &impl Abort, alloc: Global, input: &[u8], fails: u32) -> MemoryDepot {
+    let mut depot = MemoryDepot::new(alloc, &[fails], 4096).expect(rt, "memory");
+    depot.put("in.pcap", input).expect(rt, "memory");
+    depot
+}
+
+/// The replies are to the four steps, and a fault is where the file of so many octets ends.
+fn end_of(rt: &impl Abort, end: &FlowEnd, octets: usize) -> Ended {
+    match end {
+        FlowEnd::GoesOn { network, replies } => {
+            assert!(rt; network.nodes() == 1 && replies.len() == 4);
+            Ended::GoesOn
+        }
+        FlowEnd::Broken(CaptureFault { octet, kind }) => {
+            assert!(rt; *octet == octets as u64 && *kind == CaptureKind::Short);
+            Ended::Broken
+        }
+        FlowEnd::TooMany => Ended::TooMany,
+        FlowEnd::Stopped(stop) => Ended::Stopped(*stop),
+    }
+}
+
+#[test]
+fn frames_give_packets(rt: HostRuntime) {
+    let alloc = rt.alloc();
+    let input = joined(
+        &rt,
+        alloc,
+        &[
+            &ETHERNET, &ARP, &TAGGED, &PACKET, &PLAIN, &STRANGER, &PLAIN, &PACKET,
+        ],
+    );
+    let output = joined(
+        &rt,
+        alloc,
+        &[&ITS_OUTPUT, &FIRST_HEAD, &PACKET, &SECOND_HEAD, &PACKET],
+    );
+    let mut depot = folder(&rt, alloc, &input, 0);
+    let ran = called(&rt, alloc, 4, &mut depot, 0);
+    assert!(rt; end_of(&rt, &ran.end, 0) == Ended::GoesOn);
+    assert_eq!(rt; ran.printed.as_slice(), ETHERNET_LINES.as_bytes());
+    assert!(rt; depot.get("out.pcap") == Some(output.as_slice()));
+    assert!(rt; ran.seen.len() == 4 && ran.seen.packet(0).is_empty());
+    assert!(rt; ran.seen.packet(3) == [4].as_slice());
+}
+
+// Three batches, of which the last has one packet. The output is the input again.
+#[test]
+fn batches_follow_each_other(rt: HostRuntime) {
+    let alloc = rt.alloc();
+    let input = capture(&rt, alloc, 2049);
+    let mut depot = folder(&rt, alloc, &input, 0);
+    let ran = called(&rt, alloc, 4096, &mut depot, 0);
+    assert!(rt; end_of(&rt, &ran.end, 0) == Ended::GoesOn);
+    let text = from_utf8(&ran.printed).expect(&rt, "a text");
+    assert!(rt; text.lines().count() == 2051 && text.ends_with(LAST_LINES));
+    assert!(rt; ran.seen.len() == 2049);
+    assert!(rt; depot.get("out.pcap") == Some(input.as_slice()));
+}
+
+// All packets in front of an end are printed and written. Where no more may be read, what stands behind tells the end.
+#[test]
+fn captures_end_somewhere(rt: HostRuntime) {
+    let alloc = rt.alloc();
+    let whole = capture(&rt, alloc, 3);
+    for (octets, most, packets, wanted) in ENDS {
+        let input = whole.get(..octets).expect(&rt, "a beginning");
+        let mut depot = folder(&rt, alloc, input, 0);
+        let ran = called(&rt, alloc, most, &mut depot, 0);
+        assert!(rt; end_of(&rt, &ran.end, octets) == wanted);
+        let text = from_utf8(&ran.printed).expect(&rt, "a text");
+        let lines = text.lines().filter(|line| line.starts_with("packet "));
+        assert!(rt; lines.count() == packets && ran.seen.len() == packets);
+        let last = text.lines().any(|line| line.starts_with("end "));
+        assert!(rt; last == (wanted == Ended::GoesOn));
+        let output = if octets < 24 {
+            None
+        } else {
+            whole.get(..24 + 44 * packets.min(3))
+        };
+        assert!(rt; depot.get("out.pcap") == output);
+    }
+}
+
+// Each call of the folder fails in turn, and each write.
+#[test]
+fn calls_that_fail_stop_a_flow(rt: HostRuntime) {
+    let alloc = rt.alloc();
+    let input = capture(&rt, alloc, 2);
+    for call in 1..100u32 {
+        let mut depot = folder(&rt, alloc, &input, call);
+        let ran = called(&rt, alloc, 9, &mut depot, 0);
+        let wanted = match depot.failed() {
+            Some(DepotCall::Read) => Ended::Stopped(FlowStop::Read),
+            Some(DepotCall::Create) => Ended::Stopped(FlowStop::Create),
+            Some(DepotCall::Append) => Ended::Stopped(FlowStop::Append),
+            None => Ended::GoesOn,
+        };
+        assert!(rt; end_of(&rt, &ran.end, 0) == wanted);
+        if wanted == Ended::GoesOn {
+            assert!(rt; call > 4);
+            break;
+        }
+    }
+    let many = capture(&rt, alloc, 600);
+    let mut depot = folder(&rt, alloc, &many, 0);
+    let ran = called(&rt, alloc, 4096, &mut depot, 1);
+    assert!(rt; end_of(&rt, &ran.end, 0) == Ended::Stopped(FlowStop::Print));
+}

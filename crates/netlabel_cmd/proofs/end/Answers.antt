@@ -1,0 +1,6 @@
+use Rattle.std.proofs.Common.{◌≡◌, ◌⊎◌, ℕ, subst, sym}
+use Rattle.netlabel_run.specs.CallEnds.{MayEnd}
+use Rattle.netlabel_cmd.proofs.end.Goals as goal
+
+pub returns-in-Ok : goal.returns-in-Ok
+returns-in-Ok g c = subst (λ (n : ℕ). MayEnd n ⊎ (n ≡ 6)) (sym c.from.ensures) c.in-Ok.ensures

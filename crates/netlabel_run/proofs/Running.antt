@@ -1,0 +1,483 @@
+-- How `run` ends whose script was read, over plain values.
+use Rattle.std.proofs.Common.{◌≡◌, ◌≢◌, ◌<◌, ◌≤◌, ℕ, zero, suc, Bool, true, false, List, [], ◌∷◌, ◌++◌, length, map, take, Option, Some, None, Result, Ok, Err, refl, sym, ap, subst, ◌∙◌, append_assoc, append-nil, arith, inl, inr, ◌⊎◌}
+use Rattle.std.specs.Prelude.{IsTrue, IsSome, All, Contains}
+use Rattle.std.specs.Option.{option_map_or}
+use Rattle.std.proofs.lemmas.List.{length-map, length-take-le, length-append, take-append-le}
+use Rattle.std.proofs.lemmas.List.Elements.{All-nil, All-cons}
+use Rattle.label_commands.specs.declared.script.Script.{Script}
+use Rattle.label_commands.specs.declared.stop.ScriptStop.{ScriptStop}
+use Rattle.flow_lines.specs.declared.flow.FlowLine.{FlowLine}
+use Rattle.net_io.specs.Depot.{DepotState, SameHeld}
+use Rattle.net_io.specs.Faults.{Rose, SameCounts}
+use Rattle.net_io.specs.Sink.{WritesPrefix, WritesLess}
+use Rattle.call_report.specs.declared.status.Status.{Status}
+use Rattle.call_report.specs.declared.status.Status.TheVariants.{Done, NoForm, WrongScript, ReadFault, WriteFault, WrongCapture, OutOfMemory, Limit}
+use Rattle.call_report.specs.Numbers.{status_number}
+use Rattle.call_report.specs.Report.{Folder, Versions, Report, report_text, late_report}
+use Rattle.call_report.specs.Event.{Event, packets_limit}
+use Rattle.call_report.specs.Output.{Output, IsBegun, IsMade}
+use Rattle.call_report.specs.Outside.{Outside, ReadRose, CreateRose, AppendRose, NoneFailed}
+use Rattle.call_report.specs.Stages.{Stage, reading_stage}
+use Rattle.call_report.proofs.Law.{a_whole_text_is_a_front, a_part_of_a_text_is_a_front}
+use Rattle.flow_run.specs.Run.{FlowRun}
+use Rattle.shared_tables.specs.Plan.{PlanState}
+use Rattle.script_run.specs.Runs.{plan_of, AreRuns, AreWholeRuns, IsLawfulRun, FlowsStatus, last_event}
+use Rattle.script_run.specs.Report.{pause_text, runs_report, runs_outputs}
+use Rattle.script_run.specs.Ends.{flow_in_hand, last_of, InputRose, OutputRose, EndsBy, IsDue, IsCauseOf, HasRuns, HasFinished, ScriptEnds, due_body, due_line}
+use Rattle.script_run.proofs.Law.{runs_are_determined, done_flows_have_status_0, events_have_their_status}
+use Rattle.netlabel_run.specs.declared.command.Command.{Command}
+use Rattle.netlabel_run.specs.declared.command.Command.TheVariants.{Run}
+use Rattle.netlabel_run.specs.Check.{script_read, script_stop_status}
+use Rattle.report_lines.specs.Script.{script_stop_line}
+use Rattle.netlabel_run.specs.Run.{ByAnswer, ByScript, AreItsRuns, RunMay, flow_stage}
+use Rattle.netlabel_run.specs.Seen.{IsLawful, IsWhole}
+use Rattle.netlabel_run.specs.Report.{HasReport}
+use Rattle.netlabel_run.specs.Status.{HasStatus, IsPossible, IsRefusal}
+use Rattle.netlabel_run.specs.CallEnds.{CallEnds, HasBegun, EndsWith, Prints, Leaves, IsClean, IsWritten, StopsInBody}
+use Rattle.netlabel_run.specs.inside.Ending.{IsOnlyRead, ReadsScript}
+use Rattle.netlabel_run.proofs.Requests.{knows_reading}
+use Rattle.netlabel_run.proofs.Runs.{runs_same, body_begins, report_begins, done_has_no_event, done_is_whole, event_is_whole, input_of_last, output_of_last, none_of_theirs}
+
+-- ---- a file that holds a script
+
+pub as_script : (file : List ℕ) (held : Option (List ℕ)) (text : List ℕ) (script : Script) → held ≡ Some text → script_read file text ≡ Ok script
+    → (absent : Type 0) (refused : ScriptStop → Type 0) (read : Script → Type 0) → read script → ByScript file held absent refused read
+as_script file held text script holds is absent refused read h =
+    subst (λ (o : Option (List ℕ)). ByScript file o absent refused read) (sym holds)
+    (subst (λ (r : Result Script ScriptStop). ByAnswer r refused read) (sym is) h)
+
+pub from_script : (file : List ℕ) (held : Option (List ℕ)) (text : List ℕ) (script : Script) → held ≡ Some text → script_read file text ≡ Ok script
+    → (absent : Type 0) (refused : ScriptStop → Type 0) (read : Script → Type 0) → ByScript file held absent refused read → read script
+from_script file held text script holds is absent refused read h =
+    subst (λ (r : Result Script ScriptStop). ByAnswer r refused read) is
+    (subst (λ (o : Option (List ℕ)). ByScript file o absent refused read) holds h)
+
+-- what a folder tells, or some content in which a file is this text
+pub content_of : Bool → Folder → List ℕ → Folder
+content_of true held text = held
+content_of false held text = λ name. Some text
+
+content_holds : (tells : Bool) (held : Folder) (text file : List ℕ) → (IsTrue tells → held file ≡ Some text) → content_of tells held text file ≡ Some text
+unfolding content_of
+content_holds true held text file holds = holds refl
+content_holds false held text file holds = refl
+
+content_told : (tells : Bool) (held : Folder) (text : List ℕ) → IsTrue tells → SameHeld held (content_of tells held text)
+unfolding content_of
+content_told true held text told = λ name. refl
+content_told false held text told = absurd (let no : false ≡ true = told in cc)
+
+-- ---- numbers of statuses
+
+is_done_by : (status : Status) → status_number status ≡ 0 → status ≡ Done
+is_done_by Done e = refl
+is_done_by NoForm e = absurd (omega (arith, e))
+is_done_by WrongScript e = absurd (omega (arith, e))
+is_done_by ReadFault e = absurd (omega (arith, e))
+is_done_by WriteFault e = absurd (omega (arith, e))
+is_done_by WrongCapture e = absurd (omega (arith, e))
+is_done_by OutOfMemory e = absurd (omega (arith, e))
+is_done_by Limit e = absurd (omega (arith, e))
+
+is_form_by : (status : Status) → status_number status ≡ 1 → status ≡ NoForm
+is_form_by NoForm e = refl
+is_form_by Done e = absurd (omega (arith, e))
+is_form_by WrongScript e = absurd (omega (arith, e))
+is_form_by ReadFault e = absurd (omega (arith, e))
+is_form_by WriteFault e = absurd (omega (arith, e))
+is_form_by WrongCapture e = absurd (omega (arith, e))
+is_form_by OutOfMemory e = absurd (omega (arith, e))
+is_form_by Limit e = absurd (omega (arith, e))
+
+is_read_by : (status : Status) → status_number status ≡ 3 → status ≡ ReadFault
+is_read_by ReadFault e = refl
+is_read_by Done e = absurd (omega (arith, e))
+is_read_by NoForm e = absurd (omega (arith, e))
+is_read_by WrongScript e = absurd (omega (arith, e))
+is_read_by WriteFault e = absurd (omega (arith, e))
+is_read_by WrongCapture e = absurd (omega (arith, e))
+is_read_by OutOfMemory e = absurd (omega (arith, e))
+is_read_by Limit e = absurd (omega (arith, e))
+
+is_write_by : (status : Status) → status_number status ≡ 4 → status ≡ WriteFault
+is_write_by WriteFault e = refl
+is_write_by Done e = absurd (omega (arith, e))
+is_write_by NoForm e = absurd (omega (arith, e))
+is_write_by WrongScript e = absurd (omega (arith, e))
+is_write_by ReadFault e = absurd (omega (arith, e))
+is_write_by WrongCapture e = absurd (omega (arith, e))
+is_write_by OutOfMemory e = absurd (omega (arith, e))
+is_write_by Limit e = absurd (omega (arith, e))
+
+contains_first : (text : List ℕ) → Contains (text ∷ []) text
+contains_first text = (0, omega arith, refl)
+
+by_flows : (flows : List FlowLine) (n : ℕ) → IsSome (last_of (take n flows)) → 0 < length flows
+by_flows [] zero h = absurd (let no : false ≡ true = h in cc)
+by_flows [] (suc n) h = absurd (let no : false ≡ true = h in cc)
+by_flows (flow ∷ flows) n h = omega arith
+
+-- where a flow is in hand, there are flows
+some_flow : (script : Script) (seen : Versions) → IsSome (flow_in_hand script seen) → 0 < length script.flows
+some_flow script seen h = by_flows script.flows (length seen) h
+
+longer_prefix : (text rest whole old new : List ℕ) → text ++ rest ≡ whole → WritesPrefix text old new → WritesPrefix whole old new
+longer_prefix text rest whole old new is p =
+    subst (λ (t : List ℕ). WritesPrefix t old new) is
+    (record { count = p.count; within = omega (arith, p.within, length-append text rest); written = p.written ∙ ap (λ t. old ++ t) (sym (take-append-le p.count text rest p.within)) })
+
+-- stages without an output are of flows without one
+no_outputs : (flows : List FlowLine) → All (λ (stage : Stage). stage.output ≡ None) (map flow_stage flows) → All (λ (flow : FlowLine). flow.output ≡ None) flows
+no_outputs [] none = All-nil (λ (flow : FlowLine). flow.output ≡ None)
+no_outputs (flow ∷ flows) none =
+    All-cons (λ (f : FlowLine). f.output ≡ None) flow flows (none 0 (flow_stage flow) (omega arith)) (no_outputs flows (λ k d less. none (suc k) d (omega (arith, less))))
+
+longer_less : (text rest whole old new : List ℕ) → text ++ rest ≡ whole → WritesLess text old new → WritesLess whole old new
+longer_less text rest whole old new is p =
+    subst (λ (t : List ℕ). WritesLess t old new) is
+    (record { count = p.count; within = omega (arith, p.within, length-append text rest); written = p.written ∙ ap (λ t. old ++ t) (sym (take-append-le p.count text rest (omega (arith, p.within)))) })
+
+module _ (file : List ℕ) (workers : ℕ) (before : Outside) (folder : DepotState) (after : Outside) (text : List ℕ) (script : Script) (seen : Versions) (status : Status)
+    (reads : IsOnlyRead before.folder folder) (counts : SameCounts before.folder.reads folder.reads)
+    (holds : IsTrue before.folder.tells → before.folder.held file ≡ Some text) (is : script_read file text ≡ Ok script)
+    (ends : ScriptEnds script workers (record { folder = folder; stream = before.stream }) after seen status) where
+  abbrev mid : Outside
+  mid = record { folder = folder; stream = before.stream }
+
+  abbrev asked : Option Command
+  asked = Some (Run file workers)
+
+  abbrev stages : List Stage
+  stages = reading_stage file ∷ map flow_stage (take (length seen) script.flows)
+
+  abbrev hand : Option FlowLine
+  hand = flow_in_hand script seen
+
+  begun : HasBegun asked before.folder seen stages
+  begun = record {
+    content = content_of before.folder.tells before.folder.held text;
+    told = content_told before.folder.tells before.folder.held text;
+    are = as_script file (content_of before.folder.tells before.folder.held text file) text script (content_holds before.folder.tells before.folder.held text file holds) is _ _ _ refl;
+    flows = length-map (take (length seen) script.flows) flow_stage ∙ length-take-le (length seen) script.flows ends.begun;
+  }
+
+  -- ---- causes
+
+  read_rose : (name : List ℕ) → Rose (folder.reads name) (after.folder.reads name) → Rose (before.folder.reads name) (after.folder.reads name)
+  read_rose name rose = subst (λ (n : ℕ). Rose n (after.folder.reads name)) (counts name) rose
+
+  input_rose : InputRose hand mid after → ReadRose stages before after ⊎ CreateRose stages before after
+  input_rose rose = elim rose.rose [
+    | inl read ↦ inl (record { name = rose.of.input; counted = inr (input_of_last (take (length seen) script.flows) (reading_stage file) rose.of rose.is); rose = read_rose rose.of.input read })
+    | inr create ↦ inr (record {
+      name = create.0;
+      in_hand = output_of_last (take (length seen) script.flows) (reading_stage file) rose.of rose.is ∙ create.1;
+      rose = subst (λ (n : ℕ). Rose n (after.folder.creates create.0)) (reads.creates create.0) create.2;
+    })
+  ]
+
+  output_rose : OutputRose hand mid after → AppendRose stages before after
+  output_rose rose = record {
+    name = rose.name;
+    in_hand = output_of_last (take (length seen) script.flows) (reading_stage file) rose.of rose.is ∙ rose.makes;
+    rose = subst (λ (n : ℕ). Rose n (after.folder.appends rose.name)) (reads.appends rose.name) rose.rose;
+  }
+
+  -- ---- where the folder tells what it holds
+
+  module _ (told : IsTrue before.folder.tells) where
+    abbrev has : HasRuns script workers mid after seen ends.due status
+    has = ends.runs (subst IsTrue (sym reads.told) told)
+
+    are : AreItsRuns script before.folder.held seen has.runs
+    are = runs_same (plan_of script) before.folder.held folder.held (reads.kept told) 1 packets_limit script.flows seen has.runs has.are
+
+    abbrev report : Report
+    report = runs_report script has.runs
+
+    has_report : HasReport asked before.folder.held seen report
+    has_report = as_script file (before.folder.held file) text script (holds told) is _ _ _ (has.runs, are, refl)
+
+    with_status : (n : ℕ) → FlowsStatus before.folder.held 1 packets_limit script.flows n → HasStatus asked before.folder.held n
+    with_status n status = as_script file (before.folder.held file) text script (holds told) is _ _ _ status
+
+    by_event : (n : ℕ) → EndsBy n has.runs → HasStatus asked before.folder.held n
+    by_event n by = with_status n (subst (FlowsStatus before.folder.held 1 packets_limit script.flows) by.has (events_have_their_status script before.folder.held seen has.runs by.event are by.is))
+
+    -- what is due has its status, or is a refusal
+    due_status : (due : Status) → IsDue script has.runs hand mid after due → HasStatus asked before.folder.held (status_number due) ⊎ IsRefusal (status_number due)
+    due_status Done d = inl (with_status 0 (done_flows_have_status_0 script before.folder.held seen has.runs are d))
+    due_status NoForm d = absurd d
+    due_status WrongScript d = absurd d
+    due_status ReadFault d = inr (inl refl)
+    due_status WriteFault d = inr (inr (inl refl))
+    due_status WrongCapture d = inl (by_event 5 d)
+    due_status OutOfMemory d = inr (inr (inr refl))
+    due_status Limit d = inl (by_event 7 d)
+
+    status_due : HasStatus asked before.folder.held (status_number status) ⊎ IsRefusal (status_number status)
+    status_due = elim has.printed.how [
+      | inl all ↦ subst (λ (s : Status). HasStatus asked before.folder.held (status_number s) ⊎ IsRefusal (status_number s)) (sym all.0) (due_status ends.due has.is_due)
+      | inr rest ↦ elim rest [
+        | inl memory ↦ inr (inr (inr (ap status_number memory.0)))
+        | inr failed ↦ elim failed [
+          | inl broken ↦ inr (inr (inl (ap status_number broken.0)))
+          | inr line ↦ subst (λ (s : Status). HasStatus asked before.folder.held (status_number s) ⊎ IsRefusal (status_number s)) (sym line.0) (due_status ends.due has.is_due)
+        ]
+      ]
+    ]
+
+    -- ---- what was printed
+
+    -- some first octets of what is printed with the event's line
+    due_prefix : IsTrue before.stream.tells → WritesPrefix (due_body script has.runs ends.due ++ due_line script has.runs ends.due) before.stream.written after.stream.written
+    due_prefix out = elim has.printed.how [
+      | inl all ↦ subst (λ (t : List ℕ). WritesPrefix t before.stream.written after.stream.written) (append-nil (due_body script has.runs ends.due ++ due_line script has.runs ends.due))
+          (a_whole_text_is_a_front (due_body script has.runs ends.due ++ due_line script has.runs ends.due) [] before.stream.written after.stream.written (all.2 out))
+      | inr rest ↦ elim rest [
+        | inl memory ↦ memory.1 out
+        | inr failed ↦ elim failed [
+          | inl broken ↦ a_part_of_a_text_is_a_front (due_body script has.runs ends.due) (due_line script has.runs ends.due) before.stream.written after.stream.written (broken.2.written out)
+          | inr line ↦ line.3 out
+        ]
+      ]
+    ]
+
+    part : IsTrue before.stream.tells → IsWritten [] before after
+        ⊎ ((r : Report) × HasReport asked before.folder.held seen r × WritesPrefix (report_text r) before.stream.written after.stream.written)
+    part out =
+        let begins = report_begins script has.runs ends.due in
+        inr (report, has_report, longer_prefix (due_body script has.runs ends.due ++ due_line script has.runs ends.due) begins.0 (report_text report) before.stream.written after.stream.written begins.1 (due_prefix out))
+
+    event_whole : (n : ℕ) → EndsBy n has.runs → AreWholeRuns script has.runs
+    event_whole n by = event_is_whole script before.folder.held 1 packets_limit seen has.runs by.event are by.is
+
+    last_is_none : last_event has.runs ≡ None → report.body ++ [] ≡ report_text report
+    last_is_none none = ap (λ (e : Option Event). report.body ++ option_map_or (λ (x : Event). x.line) e []) (sym none)
+
+    -- the flows have finished, and nothing was left out
+    record Finished (due : Status) : Type 0 where
+      finished : HasFinished due
+      whole : AreWholeRuns script has.runs
+      printed : due_body script has.runs due ++ due_line script has.runs due ≡ report_text report
+
+    clean_due : (due : Status) → IsDue script has.runs hand mid after due → IsClean stages before after (status_number due) → Finished due
+    clean_due Done d clean = record { finished = tt; whole = done_is_whole script before.folder.held 1 packets_limit seen has.runs are d; printed = last_is_none (done_has_no_event script has.runs d) }
+    clean_due NoForm d clean = absurd d
+    clean_due WrongScript d clean = absurd d
+    clean_due ReadFault d clean = absurd (elim clean [ inl e ↦ omega (arith, e) | inr c ↦ elim (input_rose d) [ inl read ↦ c.1 (inr (inl read)) | inr create ↦ c.1 (inr (inr (inl create))) ] ])
+    clean_due WriteFault d clean = absurd (elim clean [ inl e ↦ omega (arith, e) | inr c ↦ c.1 (inr (inr (inr (output_rose d)))) ])
+    clean_due WrongCapture d clean = record { finished = tt; whole = event_whole 5 d; printed = refl }
+    clean_due OutOfMemory d clean = absurd (elim clean [ inl e ↦ omega (arith, e) | inr c ↦ c.0 refl ])
+    clean_due Limit d clean = record { finished = tt; whole = event_whole 7 d; printed = refl }
+
+    no_line : (due : Status) → status_number due ≡ 0 → due_line script has.runs due ≡ []
+    no_line due e = ap (due_line script has.runs) (is_done_by due e)
+
+    -- where nothing was refused
+    clean_ends : IsClean stages before after (status_number status) → Finished ends.due × (IsTrue before.stream.tells → IsWritten (report_text report) before after)
+    clean_ends clean = elim has.printed.how [
+      | inl all ↦
+          let f = clean_due ends.due has.is_due (subst (λ (s : Status). IsClean stages before after (status_number s)) all.0 clean) in
+          (f, λ out. all.2 out ∙ ap (λ t. before.stream.written ++ t) f.printed)
+      | inr rest ↦ absurd (elim rest [
+        | inl memory ↦ elim (subst (λ (s : Status). IsClean stages before after (status_number s)) memory.0 clean) [ inl e ↦ omega (arith, e) | inr c ↦ c.0 refl ]
+        | inr failed ↦ elim failed [
+          | inl broken ↦ elim (subst (λ (s : Status). IsClean stages before after (status_number s)) broken.0 clean) [ inl e ↦ omega (arith, e) | inr c ↦ c.1 (inl broken.1) ]
+          | inr line ↦ elim (subst (λ (s : Status). IsClean stages before after (status_number s)) line.0 clean) [ inl e ↦ omega (arith, line.2, ap length (no_line ends.due e)) | inr c ↦ c.1 (inl line.1) ]
+        ]
+      ])
+    ]
+
+    -- every report of what was asked for has the same texts where a call of the folder can fail
+    pauses : (r : Report) → HasReport asked before.folder.held seen r → Contains r.pauses (pause_text script has.runs)
+    pauses r has' =
+        let h = from_script file (before.folder.held file) text script (holds told) is _ _ _ has' in
+        let same : r ≡ report = h.2 ∙ ap (runs_report script) (runs_are_determined (plan_of script) before.folder.held 1 packets_limit script.flows seen h.0 has.runs h.1 are) in
+        subst (λ (x : Report). Contains x.pauses (pause_text script has.runs)) (sym same) (contains_first (pause_text script has.runs))
+
+    pause : IsTrue before.stream.tells → status_number status ≡ 3
+        → (t : List ℕ) × IsWritten t before after × ((r : Report) → HasReport asked before.folder.held seen r → Contains r.pauses t)
+    pause out e =
+        let read = is_read_by status e in
+        elim has.printed.how [
+          | inl all ↦
+              let due : ends.due ≡ ReadFault = sym all.0 ∙ read in
+              (
+                pause_text script has.runs,
+                all.2 out ∙ ap (λ (d : Status). before.stream.written ++ (due_body script has.runs d ++ due_line script has.runs d)) due ∙ ap (λ t. before.stream.written ++ t) (append-nil (pause_text script has.runs)),
+                pauses,
+              )
+          | inr rest ↦ absurd (elim rest [
+            | inl memory ↦ omega (arith, e, ap status_number memory.0)
+            | inr failed ↦ elim failed [
+              | inl broken ↦ omega (arith, e, ap status_number broken.0)
+              | inr line ↦ omega (arith, line.2, ap (λ (d : Status). length (due_line script has.runs d)) (sym line.0 ∙ read))
+            ]
+          ])
+        ]
+
+    stop : status_number status ≡ 4 → StopsInBody asked before after seen ⊎ AppendRose stages before after
+    stop e =
+        let write = is_write_by status e in
+        elim has.printed.how [
+          | inl all ↦ inr (output_rose (subst (IsDue script has.runs hand mid after) (sym all.0 ∙ write) has.is_due))
+          | inr rest ↦ elim rest [
+            | inl memory ↦ absurd (omega (arith, e, ap status_number memory.0))
+            | inr failed ↦ elim failed [
+              | inl broken ↦
+                  let begins = body_begins script has.runs ends.due in
+                  inl (record {
+                    report = report;
+                    has = has_report;
+                    some = omega (arith, broken.2.some, ap length begins.1, length-append (due_body script has.runs ends.due) begins.0);
+                    part = λ out. longer_less (due_body script has.runs ends.due) begins.0 report.body before.stream.written after.stream.written begins.1 (broken.2.written out);
+                  })
+              | inr line ↦ absurd (omega (arith, line.2, ap (λ (d : Status). length (due_line script has.runs d)) (sym line.0 ∙ write)))
+            ]
+          ]
+        ]
+
+    prints : Prints asked before after (status_number status) seen stages
+    prints = record { whole = λ out clean. (report, has_report, (clean_ends clean).1 out); part = part; pause = pause; stop = stop }
+
+    -- ---- files
+
+    kept : SameHeld before.folder.held folder.held
+    kept = reads.kept told
+
+    begun_here : (output : Output) → IsBegun output folder.held after.folder.held → IsBegun output before.folder.held after.folder.held
+    begun_here output begins = elim begins [ inl same ↦ inl (same ∙ kept output.name) | inr some ↦ inr some ]
+
+    made_here : (output : Output) → IsMade output folder.held after.folder.held → IsMade output before.folder.held after.folder.held
+    made_here output made = (made.0, λ none. made.1 none ∙ kept output.name)
+
+    leaves : Leaves asked before after (status_number status) seen stages
+    leaves = record {
+      outputs = runs_outputs has.runs;
+      are = as_script file (before.folder.held file) text script (holds told) is _ _ _ (has.runs, are, refl);
+      begun = λ k d within. begun_here _ (has.begun k d within);
+      whole = λ clean k d within. made_here _ (has.made (clean_ends clean).0.finished k d within);
+      others = λ name none. has.others name (none_of_theirs has.runs name none) ∙ kept name;
+    }
+
+    lawful : IsLawful asked before.folder.held seen
+    lawful = as_script file (before.folder.held file) text script (holds told) is _ _ _ (has.runs, are, has.lawful)
+
+    whole : IsClean stages before after (status_number status) → IsWhole asked before.folder.held seen
+    whole clean = as_script file (before.folder.held file) text script (holds told) is _ _ _ (has.runs, are, (clean_ends clean).0.whole)
+
+  -- ---- the call
+
+  possible : (s : Status) → IsCauseOf hand s mid after → IsPossible asked (status_number s) ⊎ IsRefusal (status_number s)
+  possible Done cause = inl (text, subst (λ (r : Result Script ScriptStop). RunMay r 0) (sym is) (inl refl))
+  possible NoForm cause = absurd cause
+  possible WrongScript cause = absurd cause
+  possible ReadFault cause = inr (inl refl)
+  possible WriteFault cause = inr (inr (inl refl))
+  possible WrongCapture cause = inl (text, subst (λ (r : Result Script ScriptStop). RunMay r 5) (sym is) (inr (some_flow script seen cause, inl refl)))
+  possible OutOfMemory cause = inr (inr (inr refl))
+  possible Limit cause = inl (text, subst (λ (r : Result Script ScriptStop). RunMay r 7) (sym is) (inr (some_flow script seen cause, inr refl)))
+
+  with_ends : EndsWith asked before after (status_number status) stages
+  with_ends = record {
+    due = status_due;
+    possible = possible status ends.cause;
+    no_form = λ e. absurd (subst (λ (s : Status). IsCauseOf hand s mid after) (is_form_by status e) ends.cause);
+    usage = λ none. absurd cc;
+    read_fault = λ e. input_rose (subst (λ (s : Status). IsCauseOf hand s mid after) (is_read_by status e) ends.cause);
+    write_fault = λ e. elim (subst (λ (s : Status). IsCauseOf hand s mid after) (is_write_by status e) ends.cause) [ inl write ↦ inl write | inr append ↦ inr (output_rose append) ];
+    unmoved = λ e.
+        let none : NoneFailed mid after = subst (λ (s : Status). IsCauseOf hand s mid after) (is_done_by status e) ends.cause in
+        record {
+          reads = λ name. none.reads name ∙ counts name;
+          creates = λ name. none.creates name ∙ reads.creates name;
+          appends = λ name. none.appends name ∙ reads.appends name;
+          writes = none.writes;
+        };
+  }
+
+  pub run_ends : CallEnds asked before after (status_number status) seen
+  run_ends = record {
+    stages = stages;
+    begun = begun;
+    ends = with_ends;
+    prints = prints;
+    leaves = leaves;
+    lawful = lawful;
+    whole = whole;
+    silent = λ out e late. absurd late;
+    still = λ none.
+        let same = ends.still (no_outputs (take (length seen) script.flows) (λ k d less. none (suc k) d (omega (arith, less)))) in
+        (λ name. same.0 name ∙ reads.creates name, λ name. same.1 name ∙ reads.appends name);
+    folder_told = ends.folder_told ∙ reads.told;
+    stream_told = ends.stream_told;
+  }
+
+-- ---- where there is no script
+
+by_read : (refused : ScriptStop → Type 0) (read : Script → Type 0) → ((why : ScriptStop) → refused why) → ((script : Script) → read script) → (answer : Result Script ScriptStop)
+    → ByAnswer answer refused read
+by_read refused read r s (Err why) = r why
+by_read refused read r s (Ok script) = s script
+
+-- what is so of each text is so of the file
+of_each : (file : List ℕ) (absent : Type 0) (refused : ScriptStop → Type 0) (read : Script → Type 0) → absent → ((why : ScriptStop) → refused why) → ((script : Script) → read script) → (held : Option (List ℕ))
+    → ByScript file held absent refused read
+of_each file absent refused read a r s None = a
+of_each file absent refused read a r s (Some text) = by_read refused read r s (script_read file text)
+
+-- a text that is none
+of_refused : (file : List ℕ) (held : Option (List ℕ)) (text : List ℕ) (why : ScriptStop) → held ≡ Some text → script_read file text ≡ Err why
+    → (absent : Type 0) (refused : ScriptStop → Type 0) (read : Script → Type 0) → refused why → ByScript file held absent refused read
+of_refused file held text why holds is absent refused read h =
+    subst (λ (o : Option (List ℕ)). ByScript file o absent refused read) (sym holds) (subst (λ (r : Result Script ScriptStop). ByAnswer r refused read) (sym is) h)
+
+-- its report begins with nothing
+abbrev BeginsSo : List ℕ → Folder → Option (List ℕ) → Report → Type 0
+BeginsSo file held o report = ByScript file o (report ≡ late_report [] []) (λ stop. report ≡ late_report [] (script_stop_line stop))
+    (λ script. (runs : List FlowRun) × AreItsRuns script held [] runs × (report ≡ runs_report script runs))
+
+begins_by : (held : Folder) (answer : Result Script ScriptStop) → (report : Report) × ByAnswer answer (λ stop. report ≡ late_report [] (script_stop_line stop))
+    (λ script. (runs : List FlowRun) × AreItsRuns script held [] runs × (report ≡ runs_report script runs))
+begins_by held (Err why) = (late_report [] (script_stop_line why), refl)
+begins_by held (Ok script) = (runs_report script [], ([], tt, refl))
+
+begins_so : (file : List ℕ) (held : Folder) (o : Option (List ℕ)) → (report : Report) × BeginsSo file held o report
+begins_so file held None = (late_report [] [], refl)
+begins_so file held (Some text) = begins_by held (script_read file text)
+
+none_run : (plan : PlanState) (held : Folder) (number most : ℕ) (flows : List FlowLine) (runs : List FlowRun) → AreRuns plan held number most flows [] runs → runs ≡ []
+none_run plan held number most flows [] h = refl
+none_run plan held number most [] (run ∷ runs) h = absurd h
+none_run plan held number most (flow ∷ flows) (run ∷ runs) h = absurd h
+
+pauses_by : (held : Folder) (answer : Result Script ScriptStop) (r : Report) → ByAnswer answer (λ stop. r ≡ late_report [] (script_stop_line stop))
+    (λ script. (runs : List FlowRun) × AreItsRuns script held [] runs × (r ≡ runs_report script runs)) → Contains r.pauses []
+pauses_by held (Err why) r h = subst (λ (x : Report). Contains x.pauses []) (sym h) (contains_first [])
+pauses_by held (Ok script) r h =
+    let same : r ≡ runs_report script [] = h.2 ∙ ap (runs_report script) (none_run (plan_of script) held 1 packets_limit script.flows h.0 h.1) in
+    subst (λ (x : Report). Contains x.pauses []) (sym same) (contains_first [])
+
+pauses_so : (file : List ℕ) (held : Folder) (o : Option (List ℕ)) (r : Report) → BeginsSo file held o r → Contains r.pauses []
+pauses_so file held None r h = subst (λ (x : Report). Contains x.pauses []) (sym h) (contains_first [])
+pauses_so file held (Some text) r h = pauses_by held (script_read file text) r h
+
+-- what it knows of the file that it reads
+pub run_reads : (file : List ℕ) (workers : ℕ) → ReadsScript (Some (Run file workers)) file
+run_reads file workers = record {
+  form = λ e. absurd cc;
+  knows = λ before after reads told. knows_reading (Some (Run file workers)) file before after
+      (of_each file _ _ _ refl (λ why. refl) (λ script. refl) (before.folder.held file))
+      (of_each file _ _ _ refl (λ why. refl) (λ script. ([], tt, refl)) (before.folder.held file))
+      (of_each file _ _ _ refl (λ why. refl) (λ script. ([], tt, All-nil (IsLawfulRun script workers))) (before.folder.held file))
+      reads told;
+  refused = λ held text why holds is. record {
+    status = of_refused file (held file) text why holds is _ _ _ refl;
+    report = of_refused file (held file) text why holds is _ _ _ refl;
+    whole = of_refused file (held file) text why holds is _ _ _ refl;
+  };
+  may = λ text why is. (text, subst (λ (r : Result Script ScriptStop). RunMay r (script_stop_status why)) (sym is) refl);
+  begins = λ held. let r = begins_so file held (held file) in record { report = r.0; has = r.1; rest = r.0.body; body = refl };
+  pauses = λ held report has. pauses_so file held (held file) report has;
+}

@@ -1,0 +1,37 @@
+use Rattle.std.proofs.Common.{◌≡◌, ℕ, subst, sym, ap, [], Some}
+use Rattle.net_io.specs.Sink.{SinkState}
+use Rattle.command_forms.specs.Form.{with_translations}
+use Rattle.label_commands.proofs.Law.{scripts_are_sound}
+use Rattle.call_report.specs.Outside.{Outside}
+use Rattle.call_report.specs.Report.{Versions}
+use Rattle.call_report.specs.Numbers.{status_number}
+use Rattle.script_run.specs.Ends.{ScriptEnds}
+use Rattle.netlabel_run.specs.declared.command.Command.TheVariants.{Run}
+use Rattle.netlabel_run.specs.CallEnds.{CallEnds}
+use Rattle.netlabel_run.proofs.Running.{run_reads, run_ends}
+use Rattle.netlabel_run.proofs.run.run.Goals as goal
+
+pub run_flows-requires-clause-sound : goal.run_flows-requires-clause-sound
+run_flows-requires-clause-sound g c κs within =
+    (c.args.file.now, scripts_are_sound with_translations c.args.file.now c.in-Ok.ensures.ok.text c.in-Ok.script c.in-Ok.ensures.ok.is)
+
+pub returns-in-Ok : goal.returns-in-Ok
+returns-in-Ok g c =
+    let file = c.args.file.now in
+    let has = c.in-Ok.ensures.ok in
+    let before : Outside = record { folder = g.D.Depot.state c.args.depot.now; stream = g.S.Sink.state c.args.out.now } in
+    let folder = g.D.Depot.state c.script_of.new.depot in
+    let after : Outside = record { folder = g.D.Depot.state c.run_flows.new.depot; stream = g.S.Sink.state c.run_flows.new.out } in
+    let ended = c.run_flows.ensures in
+    let ends = subst (λ (s : SinkState). ScriptEnds c.in-Ok.script c.args.workers (record { folder = folder; stream = s }) after c.run_flows.result.seen ended.0) has.stream ended.2 in
+    subst (λ (n : ℕ). CallEnds (Some (Run file c.args.workers)) before after n c.run_flows.result.seen) (sym ended.1)
+    (run_ends file c.args.workers before folder after has.text c.in-Ok.script c.run_flows.result.seen ended.0 has.reads has.counts has.holds has.is ends)
+
+pub returns-in-Err : goal.returns-in-Err
+returns-in-Err g c =
+    let file = c.args.file.now in
+    let before : Outside = record { folder = g.D.Depot.state c.args.depot.now; stream = g.S.Sink.state c.args.out.now } in
+    let after : Outside = record { folder = g.D.Depot.state c.script_of.new.depot; stream = g.S.Sink.state c.script_of.new.out } in
+    let asked = Some (Run file c.args.workers) in
+    subst (λ (n : ℕ). CallEnds asked before after n c.without_flows.result.seen) (sym c.without_flows.ensures.status)
+    (subst (λ (seen : Versions). CallEnds asked before after (status_number c.in-Err.status) seen) (sym c.without_flows.ensures.seen) (c.in-Err.ensures.err asked (run_reads file c.args.workers)))

@@ -1,0 +1,76 @@
+-- What `run` does with what its file holds.
+use Rattle.std.specs.Prelude.{ℕ, ◌≡◌, ◌⊎◌, ◌<◌, ◌≤◌, List, [], ◌∷◌, length, take, map, All, Option, Some, None, Result, Ok, Err}
+use Rattle.label_commands.specs.declared.script.Script.{Script}
+use Rattle.label_commands.specs.declared.stop.ScriptStop.{ScriptStop}
+use Rattle.flow_lines.specs.declared.flow.FlowLine.{FlowLine}
+use Rattle.call_report.specs.Report.{Folder, Versions, Report, late_report}
+use Rattle.call_report.specs.Event.{packets_limit}
+use Rattle.call_report.specs.Output.{Output}
+use Rattle.call_report.specs.Stages.{Stage, reading_stage}
+use Rattle.report_lines.specs.Script.{script_stop_line}
+use Rattle.flow_run.specs.Run.{FlowRun}
+use Rattle.script_run.specs.Runs.{plan_of, AreRuns, AreWholeRuns, IsLawfulRun, FlowsStatus}
+use Rattle.script_run.specs.Report.{runs_report, runs_outputs}
+use Rattle.netlabel_run.specs.Check.{script_read, script_stop_status}
+
+-- by what is read of a text: no script, or one
+abbrev pub ByAnswer : Result Script ScriptStop → (ScriptStop → Type 0) → (Script → Type 0) → Type 0
+ByAnswer (Err stop) refused read = refused stop
+ByAnswer (Ok script) refused read = read script
+
+-- by what the file holds: it is absent, or a text
+abbrev pub ByScript : List ℕ → Option (List ℕ) → Type 0 → (ScriptStop → Type 0) → (Script → Type 0) → Type 0
+ByScript file None absent refused read = absent
+ByScript file (Some text) absent refused read = ByAnswer (script_read file text) refused read
+
+-- the flows of a script have run so, under the versions that were printed
+abbrev pub AreItsRuns : Script → Folder → Versions → List FlowRun → Type 0
+AreItsRuns script held seen runs = AreRuns (plan_of script) held 1 packets_limit script.flows seen runs
+
+-- nothing is printed before the script is known to be right
+abbrev pub RunReport : List ℕ → Folder → Versions → Report → Type 0
+RunReport file held seen report = ByScript file (held file)
+    (report ≡ late_report [] [])
+    (λ stop. report ≡ late_report [] (script_stop_line stop))
+    (λ script. (runs : List FlowRun) × AreItsRuns script held seen runs × (report ≡ runs_report script runs))
+
+-- the status of the script's first fault or passed limit, else that of the first event of its captures
+abbrev pub RunStatus : List ℕ → Folder → ℕ → Type 0
+RunStatus file held status = ByScript file (held file)
+    ⊥
+    (λ stop. status ≡ script_stop_status stop)
+    (λ script. FlowsStatus held 1 packets_limit script.flows status)
+
+-- where the folder tells nothing: some text has this status, and behind a script with flows a capture may be broken, or have too many packets
+abbrev pub RunMay : Result Script ScriptStop → ℕ → Type 0
+RunMay (Err stop) status = status ≡ script_stop_status stop
+RunMay (Ok script) status = (status ≡ 0) ⊎ ((0 < length script.flows) × ((status ≡ 5) ⊎ (status ≡ 7)))
+
+-- a flow reads its input and makes its output
+abbrev pub flow_stage : FlowLine → Stage
+flow_stage flow = record { input = Some flow.input; output = flow.output }
+
+abbrev pub RunStages : List ℕ → Folder → Versions → List Stage → Type 0
+RunStages file held seen stages = ByScript file (held file)
+    (stages ≡ reading_stage file ∷ [])
+    (λ stop. stages ≡ reading_stage file ∷ [])
+    (λ script. stages ≡ reading_stage file ∷ map flow_stage (take (length seen) script.flows))
+
+abbrev pub RunOutputs : List ℕ → Folder → Versions → List Output → Type 0
+RunOutputs file held seen outputs = ByScript file (held file)
+    (outputs ≡ [])
+    (λ stop. outputs ≡ [])
+    (λ script. (runs : List FlowRun) × AreItsRuns script held seen runs × (outputs ≡ runs_outputs runs))
+
+-- of each flow up to the one in hand, with so many workers
+abbrev pub RunLawful : List ℕ → ℕ → Folder → Versions → Type 0
+RunLawful file workers held seen = ByScript file (held file)
+    (seen ≡ [])
+    (λ stop. seen ≡ [])
+    (λ script. (runs : List FlowRun) × AreItsRuns script held seen runs × All (IsLawfulRun script workers) runs)
+
+abbrev pub RunWhole : List ℕ → Folder → Versions → Type 0
+RunWhole file held seen = ByScript file (held file)
+    (seen ≡ [])
+    (λ stop. seen ≡ [])
+    (λ script. (runs : List FlowRun) × AreItsRuns script held seen runs × AreWholeRuns script runs)

@@ -1,0 +1,66 @@
+-- What is known at the end of a call that makes no file, and of one that reads a script.
+use Rattle.std.specs.Prelude.{◌≡◌, ◌++◌, IsTrue, ℕ, List, [], ◌∷◌, Contains, Option, Some, None, Result, Ok, Err}
+use Rattle.net_io.specs.Depot.{DepotState, SameHeld}
+use Rattle.net_io.specs.Faults.{SameCounts}
+use Rattle.label_commands.specs.declared.script.Script.{Script}
+use Rattle.label_commands.specs.declared.stop.ScriptStop.{ScriptStop}
+use Rattle.report_lines.specs.Script.{script_stop_line}
+use Rattle.call_report.specs.Report.{Folder, Report, late_report}
+use Rattle.call_report.specs.Stages.{Stage, reading_stage}
+use Rattle.call_report.specs.Outside.{Outside}
+use Rattle.netlabel_run.specs.declared.command.Command.{Command}
+use Rattle.netlabel_run.specs.Check.{script_read, script_stop_status}
+use Rattle.netlabel_run.specs.Report.{HasReport}
+use Rattle.netlabel_run.specs.Status.{HasStatus, IsPossible}
+use Rattle.netlabel_run.specs.Stages.{HasOutputs}
+use Rattle.netlabel_run.specs.Seen.{IsLawful, IsWhole}
+use Rattle.netlabel_run.specs.CallEnds.{HasBegun}
+
+-- Of a folder nothing but numbers of failed reads has moved.
+pub record IsOnlyRead (old new : DepotState) : Type 0 where
+  pub told : new.tells ≡ old.tells
+  pub kept : IsTrue old.tells → SameHeld old.held new.held
+  pub creates : SameCounts old.creates new.creates
+  pub appends : SameCounts old.appends new.appends
+
+-- What such a call knows at its end: what it has begun, and what it has left as it was.
+pub record Knows (request : Option Command) (before after : Outside) (stages : List Stage) : Type 0 where
+  pub begun : HasBegun request before.folder [] stages
+  pub outputs : HasOutputs request before.folder.held [] []
+  pub lawful : IsLawful request before.folder.held []
+  pub kept : IsTrue before.folder.tells → SameHeld before.folder.held after.folder.held
+  pub creates : SameCounts before.folder.creates after.folder.creates
+  pub appends : SameCounts before.folder.appends after.folder.appends
+  pub folder_told : after.folder.tells ≡ before.folder.tells
+  pub stream_told : after.stream.tells ≡ before.stream.tells
+
+-- its body begins so
+pub record Begins (request : Option Command) (held : Folder) (text : List ℕ) : Type 0 where
+  pub report : Report
+  pub has : HasReport request held [] report
+  pub rest : List ℕ
+  pub body : report.body ≡ text ++ rest
+
+-- what is due where a text is no script
+pub record IsRefused (asked : Option Command) (held : Folder) (why : ScriptStop) : Type 0 where
+  pub status : HasStatus asked held (script_stop_status why)
+  pub report : HasReport asked held [] (late_report [] (script_stop_line why))
+  pub whole : IsWhole asked held []
+
+-- What such a call knows of the file: what is due where it is no script, and that nothing is printed before it is read.
+pub record ReadsScript (asked : Option Command) (file : List ℕ) : Type 0 where
+  pub form : asked ≡ None → ⊥
+  pub knows : (before after : Outside) → IsOnlyRead before.folder after.folder → after.stream.tells ≡ before.stream.tells → Knows asked before after (reading_stage file ∷ [])
+  pub refused : (held : Folder) (text : List ℕ) (why : ScriptStop) → held file ≡ Some text → script_read file text ≡ Err why → IsRefused asked held why
+  pub may : (text : List ℕ) (why : ScriptStop) → script_read file text ≡ Err why → IsPossible asked (script_stop_status why)
+  pub begins : (held : Folder) → Begins asked held []
+  pub pauses : (held : Folder) (report : Report) → HasReport asked held [] report → Contains report.pauses []
+
+-- The file's text was read, and is a script.
+pub record HasScript (file : List ℕ) (before after : Outside) (script : Script) : Type 0 where
+  pub reads : IsOnlyRead before.folder after.folder
+  pub counts : SameCounts before.folder.reads after.folder.reads
+  pub stream : after.stream ≡ before.stream
+  pub text : List ℕ
+  pub holds : IsTrue before.folder.tells → before.folder.held file ≡ Some text
+  pub is : script_read file text ≡ Ok script

@@ -1,0 +1,9 @@
+pub mod Names
+pub mod Runs
+pub mod Handing
+pub mod Answering
+pub mod Underway
+pub mod Turning
+pub mod Starting
+pub mod Statuses
+pub mod Law

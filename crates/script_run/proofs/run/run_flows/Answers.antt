@@ -1,0 +1,126 @@
+use Rattle.std.proofs.Common.{◌≡◌, ◌<◌, ◌+◌, [], ◌∷◌, ◌++◌, length, length-append, refl, ap, ◌∙◌, arith, Some}
+use Rattle.std.specs.Prelude.{slice_get}
+use Rattle.flow_lines.specs.declared.flow.FlowLine.{FlowLine}
+use Rattle.flow_lines.specs.declared.hop.Hop.{Hop}
+use Rattle.flow_lines.specs.Hop.{node_of}
+use Rattle.std.specs.Prelude.{All}
+use Rattle.label_commands.specs.Script.{before}
+use Rattle.call_report.specs.Outside.{Outside}
+use Rattle.script_run.specs.Runs.{plan_of}
+use Rattle.script_run.proofs.Names.{input_is_kept}
+use Rattle.script_run.proofs.Answering.{at_place}
+use Rattle.script_run.proofs.Underway.{under_way_at_first}
+use Rattle.script_run.proofs.Turning.{network_next, next_begins, call_ends}
+use Rattle.script_run.proofs.Starting.{ends_between, ends_behind, above_is, at_lent}
+use Rattle.script_run.proofs.run.run_flows.Goals as goal
+
+pub loop-done-init : goal.loop-done-init
+loop-done-init g c =
+    let script = c.args.script.now in
+    record {
+      within = omega arith;
+      count = ap length c.new-seen.ensures.items;
+      tables = c.requires.network;
+      runs = λ start way.
+          let first : Outside = record { folder = g.D.Depot.state c.args.depot.now; stream = start } in
+          let now : Outside = record { folder = g.D.Depot.state c.args.depot.now; stream = g.S.Sink.state c.args.out.now } in
+          rw c.new-seen.ensures.items (under_way_at_first script c.args.workers first now c.args.next.report.waiting.items refl way);
+    }
+
+pub returns-then-is_err : goal.returns-then-is_err
+returns-then-is_err g c = λ start way.
+    let script = c.args.script.now in
+    let inv = c.loop-done.invariant in
+    let first : Outside = record { folder = g.D.Depot.state c.args.depot.now; stream = start } in
+    let now : Outside = record { folder = g.D.Depot.state c.loop-done.depot; stream = g.S.Sink.state c.loop-done.out } in
+    rw (c.of.ensures, c.reserve.ensures.items)
+    (ends_between script c.args.workers first now c.loop-done.next.report.waiting.items c.loop-done.left c.loop-done.seen.items (inv.runs start way) (omega (arith, inv.count, inv.within)))
+
+pub run_flow-lists-requires-clause-step_nodes : goal.run_flow-lists-requires-clause-step_nodes
+run_flow-lists-requires-clause-step_nodes g c = λ κs lives. rw (c.place_of-place.ensures.names, c.place_of-place.ensures.steps) c.requires.sound.1.step_nodes
+
+pub end_turn-requires-clause-nodes : goal.end_turn-requires-clause-nodes
+end_turn-requires-clause-nodes g c = rw (c.place_of-place.ensures.names, c.place_of-place.ensures.steps) c.requires.sound.1.step_nodes
+
+pub run_flow-lists-requires-clause-hop_nodes : goal.run_flow-lists-requires-clause-hop_nodes
+run_flow-lists-requires-clause-hop_nodes g c =
+    let script = c.args.script.now in
+    let k = c.loop-done.done in
+    let flow = c.index-flows-done.result in
+    let at : slice_get script.flows k ≡ Some flow = at_lent script.flows c.as_slice-flows.result.now k flow c.as_slice-flows.ensures c.loop-done-test.true c.index-flows-done.is in
+    λ κs lives. rw c.place_of-place.ensures.names (at_place (λ (f : FlowLine). All (λ (hop : Hop). node_of hop < length script.nodes) f.hops) script.flows k flow c.requires.sound.1.hop_nodes at)
+
+pub run_flow-lists-requires-clause-upto : goal.run_flow-lists-requires-clause-upto
+run_flow-lists-requires-clause-upto g c =
+    let script = c.args.script.now in
+    let k = c.loop-done.done in
+    let flow = c.index-flows-done.result in
+    let at : slice_get script.flows k ≡ Some flow = at_lent script.flows c.as_slice-flows.result.now k flow c.as_slice-flows.ensures c.loop-done-test.true c.index-flows-done.is in
+    let order = c.requires.sound.1.order k in
+    let above = above_is script k flow at in
+    λ κs lives. rw (c.place_of-place.ensures.steps, c.place_of-place.ensures.upto) (omega (arith, order.0, above), order.1)
+
+pub run_flow-lists-requires-clause-network : goal.run_flow-lists-requires-clause-network
+run_flow-lists-requires-clause-network g c =
+    let script = c.args.script.now in
+    let k = c.loop-done.done in
+    let flow = c.index-flows-done.result in
+    let at : slice_get script.flows k ≡ Some flow = at_lent script.flows c.as_slice-flows.result.now k flow c.as_slice-flows.ensures c.loop-done-test.true c.index-flows-done.is in
+    λ κs lives. rw (c.place_of-place.ensures.names, c.place_of-place.ensures.steps) (rw (above_is script k flow at) at c.loop-done.invariant.tables)
+
+pub run_flow-lists-requires-clause-apart : goal.run_flow-lists-requires-clause-apart
+run_flow-lists-requires-clause-apart g c =
+    let script = c.args.script.now in
+    let k = c.loop-done.done in
+    let flow = c.index-flows-done.result in
+    let at : slice_get script.flows k ≡ Some flow = at_lent script.flows c.as_slice-flows.result.now k flow c.as_slice-flows.ensures c.loop-done-test.true c.index-flows-done.is in
+    λ κs lives same. input_is_kept c.requires.sound.0 script.flows c.requires.sound.1.apart k k flow flow at at same
+
+pub returns-in-Err : goal.returns-in-Err
+returns-in-Err g c = λ start way.
+    let script = c.args.script.now in
+    let k = c.loop-done.done in
+    let inv = c.loop-done.invariant in
+    let flow = c.index-flows-done.result in
+    let at : slice_get script.flows k ≡ Some flow = at_lent script.flows c.as_slice-flows.result.now k flow c.as_slice-flows.ensures c.loop-done-test.true c.index-flows-done.is in
+    let first : Outside = record { folder = g.D.Depot.state c.args.depot.now; stream = start } in
+    let now : Outside = record { folder = g.D.Depot.state c.loop-done.depot; stream = g.S.Sink.state c.loop-done.out } in
+    let mid : Outside = record { folder = g.D.Depot.state c.run_flow-lists.new.depot; stream = g.S.Sink.state c.run_flow-lists.new.out } in
+    let ran = rw (c.place_of-place.ensures.names, c.place_of-place.ensures.steps, c.place_of-place.ensures.number, c.place_of-place.ensures.most, c.place_of-place.ensures.upto, c.place_of-place.ensures.workers) at c.run_flow-lists.ensures in
+    let ends = rw (c.place_of-place.ensures.names, c.place_of-place.ensures.steps, c.place_of-place.ensures.number, c.place_of-place.ensures.upto) at c.in-Err.ensures in
+    rw (c.of-in-Err.ensures, c.push_reserved.ensures.items, c.reserve.ensures.items)
+    (call_ends c.requires.sound.0 script c.requires.sound.1 c.args.workers first now mid c.loop-done.next.report.waiting.items c.run_flow-lists.new.report.waiting.items c.loop-done.left k c.loop-done.seen.items
+    (inv.runs start way) inv.count flow at c.run_flow-lists.result.0 c.run_flow-lists.result.1 (g.S.Sink.state c.end_turn.new.out) c.in-Err.status ran ends)
+
+pub loop-done-preserved : goal.loop-done-preserved
+loop-done-preserved g c =
+    let script = c.args.script.now in
+    let k = c.loop-done.done in
+    let inv = c.loop-done.invariant in
+    let flow = c.index-flows-done.result in
+    let at : slice_get script.flows k ≡ Some flow = at_lent script.flows c.as_slice-flows.result.now k flow c.as_slice-flows.ensures c.loop-done-test.true c.index-flows-done.is in
+    let ran = rw (c.place_of-place.ensures.names, c.place_of-place.ensures.steps, c.place_of-place.ensures.number, c.place_of-place.ensures.most, c.place_of-place.ensures.upto, c.place_of-place.ensures.workers) at c.run_flow-lists.ensures in
+    let ends = rw (c.place_of-place.ensures.names, c.place_of-place.ensures.steps, c.place_of-place.ensures.number, c.place_of-place.ensures.upto) at c.in-Ok.ensures in
+    let longer : c.push_reserved.new.self.items ≡ c.loop-done.seen.items ++ c.run_flow-lists.result.0 ∷ [] = rw c.reserve.ensures.items at c.push_reserved.ensures.items in
+    record {
+      within = omega (arith, c.loop-done-test.true, ap length c.as_slice-flows.ensures);
+      count = ap length longer ∙ length-append c.loop-done.seen.items (c.run_flow-lists.result.0 ∷ []) ∙ ap (λ n. n + 1) inv.count;
+      tables = network_next (plan_of script) script.nodes (k + 1) flow.before (before script (k + 1)) c.run_flow-lists.result.1 c.run_flow-lists.new.report.waiting.items (g.S.Sink.state c.run_flow-lists.new.out) (g.S.Sink.state c.end_turn.new.out) c.in-Ok.after ran.steps ends;
+      runs = λ start way.
+          let first : Outside = record { folder = g.D.Depot.state c.args.depot.now; stream = start } in
+          let now : Outside = record { folder = g.D.Depot.state c.loop-done.depot; stream = g.S.Sink.state c.loop-done.out } in
+          let mid : Outside = record { folder = g.D.Depot.state c.run_flow-lists.new.depot; stream = g.S.Sink.state c.run_flow-lists.new.out } in
+          rw (longer, c.saturating_sub-left.ensures, c.len.ensures)
+          (next_begins c.requires.sound.0 script c.requires.sound.1 c.args.workers first now mid c.loop-done.next.report.waiting.items c.run_flow-lists.new.report.waiting.items c.loop-done.left k c.loop-done.seen.items
+          (inv.runs start way) inv.count flow at c.run_flow-lists.result.0 c.run_flow-lists.result.1 (g.S.Sink.state c.end_turn.new.out) c.in-Ok.after ran ends);
+    }
+
+pub returns : goal.returns
+returns g c = λ start way.
+    let script = c.args.script.now in
+    let inv = c.loop-done.invariant in
+    let first : Outside = record { folder = g.D.Depot.state c.args.depot.now; stream = start } in
+    let now : Outside = record { folder = g.D.Depot.state c.loop-done.depot; stream = g.S.Sink.state c.loop-done.out } in
+    rw c.of-2.ensures
+    (ends_behind script c.args.workers first now c.loop-done.next.report.waiting.items c.loop-done.left c.loop-done.seen.items (inv.runs start way) (omega (arith, inv.count, inv.within))
+    (g.S.Sink.state c.end_done.new.out) c.end_done.result (omega (arith, inv.count, inv.within, c.loop-done-test.false, ap length c.as_slice-flows.ensures)) c.end_done.ensures)

@@ -1,0 +1,4 @@
+pub mod Runs
+pub mod Report
+pub mod Ends
+pub mod inside

@@ -1,0 +1,30 @@
+//! What the definitions are worth, whatever the code does.
+
+ghost use Rattle.std.specs.Prelude.{◌≡◌, ℕ, List, Some, IsTrue};
+ghost use Rattle.flow_lines.specs.declared.flow.FlowLine.{FlowLine};
+ghost use Rattle.label_commands.specs.declared.script.Script.{Script as ScriptValue};
+ghost use Rattle.shared_tables.specs.Plan.{PlanState};
+ghost use Rattle.call_report.specs.Report.{Folder, Versions};
+ghost use Rattle.call_report.specs.Event.{Event, packets_limit};
+ghost use Rattle.flow_run.specs.Run.{FlowRun};
+ghost use Rattle.script_run.specs.Runs.{plan_of, AreRuns, is_done, last_event, FlowsStatus};
+
+/// Under given versions flows run in one way, and so print one report and make the same files.
+pub fn runs_are_determined()
+    ensures { (plan : PlanState) (held : Folder) (number most : ℕ) (flows : List FlowLine) (seen : Versions) (runs runs' : List FlowRun)
+        → AreRuns plan held number most flows seen runs → AreRuns plan held number most flows seen runs' → runs ≡ runs' }
+{}
+
+/// Where all flows have run to their ends, the status that the captures give is 0, whichever versions there were.
+pub fn done_flows_have_status_0()
+    ensures { (script : ScriptValue) (held : Folder) (seen : Versions) (runs : List FlowRun)
+        → AreRuns (plan_of script) held 1 packets_limit script.flows seen runs → IsTrue (is_done script runs)
+        → FlowsStatus held 1 packets_limit script.flows 0 }
+{}
+
+/// Where an event ends the last flow that has run, the status that the captures give is the event's.
+pub fn events_have_their_status()
+    ensures { (script : ScriptValue) (held : Folder) (seen : Versions) (runs : List FlowRun) (event : Event)
+        → AreRuns (plan_of script) held 1 packets_limit script.flows seen runs → last_event runs ≡ Some event
+        → FlowsStatus held 1 packets_limit script.flows event.status }
+{}

@@ -1,0 +1,100 @@
+//! Replies to steps, handed on one by one.
+
+ghost use Rattle.std.specs.Prelude.{◌≡◌, ◌+◌, ◌<◌, ◌≤◌, All, Some, length, OnOk};
+ghost use Rattle.command_forms.specs.declared.command.Step.{Step as StepValue};
+ghost use Rattle.node_tables.specs.declared.reply.Reply.{Reply as ReplyValue};
+ghost use Rattle.node_tables.specs.Steps.{step_applied, step_reply, tables_after};
+ghost use Rattle.label_flow.specs.Round.{AreReplies};
+ghost use Rattle.reply_lines.specs.Reply.{name_at, reply_text, replies_text};
+ghost use Rattle.call_report.specs.Printing.{HandsOn};
+
+use call_report::{OutOfMemory, Report};
+use label_commands::{Name, Step};
+use net_io::{IoFault, Sink};
+use node_tables::{Network, Reply};
+use reply_lines::write_reply;
+
+/// Carries out the first `upto` steps, one after the other, and hands on what each answers.
+pub fn answer_steps<S: Sink>(
+    names: &[Name],
+    steps: &[Step],
+    upto: usize,
+    network: &mut Network,
+    report: &mut Report,
+    out: &mut S,
+) -> Result<(), IoFault>
+    requires nodes { All (λ (step : StepValue). step.node < length names.now) steps.now }
+    requires within { upto ≤ length steps.now }
+    requires fresh { network.old ≡ tables_after (length names.now) steps.now 0 }
+    ensures replies { HandsOn (replies_text names.now steps.now 0 upto) report.old.waiting.items report.new.waiting.items result (S.state out.old) (S.state out.new) }
+    ensures tables { OnOk result (network.new ≡ tables_after (length names.now) steps.now upto) }
+{
+    let mut done = 0;
+    while done < upto {
+        answer_step(done as u64 + 1, names, &steps[done], network, report, out)?;
+        done += 1;
+    }
+    Ok(())
+}
+
+/// Carries out the step of this number and hands on its reply.
+fn answer_step<S: Sink>(
+    number: u64,
+    names: &[Name],
+    step: &Step,
+    network: &mut Network,
+    report: &mut Report,
+    out: &mut S,
+) -> Result<(), IoFault>
+    requires node { step.now.node < length network.old }
+    requires named { length network.old ≡ length names.now }
+    ensures replied { (reply : ReplyValue) × (step_reply network.old step.now ≡ Some reply)
+        × HandsOn (reply_text number (name_at names.now step.now.node) reply) report.old.waiting.items report.new.waiting.items result (S.state out.old) (S.state out.new) }
+    ensures applied { OnOk result (network.new ≡ step_applied network.old step.now) }
+{
+    let Ok(reply) = network.apply(step) else {
+        return Err(IoFault::OutOfMemory);
+    };
+    hand_on(number, &names[step.node], &reply, report, out)
+}
+
+/// Hands on the replies that were given to the steps behind the first `from`.
+pub(crate) fn hand_on_replies<S: Sink>(
+    names: &[Name],
+    steps: &[Step],
+    from: usize,
+    replies: &[Reply],
+    report: &mut Report,
+    out: &mut S,
+) -> Result<(), IoFault>
+    requires nodes { All (λ (step : StepValue). step.node < length names.now) steps.now }
+    requires within { from + length replies.now ≤ length steps.now }
+    requires given { AreReplies (record { nodes = length names.now; steps = steps.now }) from replies.now }
+    ensures { HandsOn (replies_text names.now steps.now from (length replies.now)) report.old.waiting.items report.new.waiting.items result (S.state out.old) (S.state out.new) }
+{
+    let mut done = 0;
+    while done < replies.len() {
+        let number = (from + done) as u64 + 1;
+        let step = &steps[from + done];
+        let name = &names[step.node];
+        hand_on(number, name, &replies[done], report, out)?;
+        done += 1;
+    }
+    Ok(())
+}
+
+/// Adds a reply to what waits, and hands this on where it is a piece.
+fn hand_on<S: Sink>(
+    number: u64,
+    name: &Name,
+    reply: &Reply,
+    report: &mut Report,
+    out: &mut S,
+) -> Result<(), IoFault>
+    ensures { HandsOn (reply_text number name.now reply.now) report.old.waiting.items report.new.waiting.items result (S.state out.old) (S.state out.new) }
+{
+    match write_reply(number, name, reply, &mut report.waiting) {
+        Ok(()) => report.pass(out),
+        Err(OutOfMemory) => Err(IoFault::OutOfMemory),
+    }
+}

@@ -1,0 +1,89 @@
+//! What comes behind a flow's packets.
+
+ghost use Rattle.std.specs.Prelude.{◌≤◌, ◌<◌, [], All, length, Err};
+ghost use Rattle.command_forms.specs.declared.command.Step.{Step as StepValue};
+ghost use Rattle.report_lines.specs.Capture.{capture_line};
+ghost use Rattle.call_report.specs.declared.status.Status.TheVariants.{WrongCapture};
+ghost use Rattle.call_report.specs.Printing.{Printed};
+ghost use Rattle.flow_run.specs.declared.end.FlowEnd.TheVariants.{Stopped};
+ghost use Rattle.flow_run.specs.Ends.{HasSteps};
+ghost use Rattle.script_run.specs.inside.Turn.{IsTurnEnd};
+
+use crate::replies::hand_on_replies;
+use call_report::{OutOfMemory, Report, Status};
+use flow_lines::FlowLine;
+use flow_run::{FlowEnd, FlowPlace, FlowStop};
+use net_io::Sink;
+use node_tables::Network;
+use pcap_frames::CaptureFault;
+use report_lines::{packets_limit, write_capture};
+use std::alloc::Global;
+
+/// What the next flow begins with.
+#[derive(Drop)]
+pub(crate) struct Next {
+    /// The tables of the nodes.
+    pub network: Network,
+    /// What waits to be printed.
+    pub report: Report,
+}
+
+/// Prints what comes behind a flow's packets: the replies to the steps between it and the next one, or the line of the event that ends
+/// the call. Where the flow was stopped, only what waits.
+pub(crate) fn end_turn<S: Sink>(
+    alloc: Global,
+    place: &FlowPlace<'_>,
+    flow: &FlowLine,
+    end: FlowEnd,
+    report: Report,
+    out: &mut S,
+) -> Result<Next, Status>
+    requires nodes { All (λ (step : StepValue). step.node < length place.now.names.now) place.now.steps.now }
+    requires upto { place.now.upto ≤ length place.now.steps.now }
+    requires steps { HasSteps (record { nodes = length place.now.names.now; steps = place.now.steps.now }) flow.now.before place.now.upto end }
+    ensures { IsTurnEnd place.now.names.now place.now.steps.now place.now.number flow.now.before place.now.upto end report.waiting.items (S.state out.old) (S.state out.new) result }
+{
+    match end {
+        FlowEnd::GoesOn { network, replies } => {
+            let mut report = report;
+            let from = flow.before as usize;
+            match hand_on_replies(place.names, place.steps, from, &replies, &mut report, out) {
+                Ok(()) => Ok(Next { network, report }),
+                Err(fault) => Err(Status::after_write(fault)),
+            }
+        }
+        FlowEnd::Broken(fault) => Err(end_broken(alloc, place.number, fault, report, out)),
+        FlowEnd::TooMany => Err(report.end(out, packets_limit(), Status::Limit)),
+        FlowEnd::Stopped(why) => Err(end_stopped(why, report, out)),
+    }
+}
+
+/// Ends the report at a capture that is broken, by the capture's number.
+fn end_broken<S: Sink>(
+    alloc: Global,
+    number: u32,
+    fault: CaptureFault,
+    report: Report,
+    out: &mut S,
+) -> Status
+    ensures { Printed report.waiting.items (capture_line number fault) WrongCapture result (S.state out.old) (S.state out.new) }
+{
+    let mut line = Vec::new(alloc);
+    match write_capture(u64::from(number), fault, &mut line) {
+        Ok(()) => report.end(out, &line, Status::WrongCapture),
+        Err(OutOfMemory) => Status::OutOfMemory,
+    }
+}
+
+/// Ends the report at a flow that was stopped: what waits is printed where a call of the folder has failed.
+fn end_stopped<S: Sink>(why: FlowStop, report: Report, out: &mut S) -> Status
+    ensures { IsTurnEnd [] [] 0 0 0 (Stopped why) report.waiting.items (S.state out.old) (S.state out.new) (Err result) }
+{
+    match why {
+        FlowStop::Read => report.end(out, b"", Status::ReadFault),
+        FlowStop::Create => report.end(out, b"", Status::ReadFault),
+        FlowStop::Append => report.end(out, b"", Status::WriteFault),
+        FlowStop::Print => Status::WriteFault,
+        FlowStop::OutOfMemory => Status::OutOfMemory,
+    }
+}
