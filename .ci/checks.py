@@ -1,8 +1,10 @@
 """The repository's own checks: links, citations, rows of docs/proved.md, trusted text, and the examples' reports (not with --pages: no program is built then)."""
 import pathlib
 import re
+import shutil
 import subprocess
 import sys
+import tempfile
 
 sys.dont_write_bytecode = True
 import trusted
@@ -73,13 +75,27 @@ for path in sorted(set(re.findall(r"`(\w+/(?:src|proofs|specs)/[\w/]+\.(?:rt|ant
     if not (top / "crates" / path).exists():
         failures.append(f"a page names crates/{path}, which isn't there")
 
-# Each example prints its report. `words` has one word a line; the status is 0 unless a file says otherwise.
+
+def held(folder):
+    """What each file of a folder holds."""
+    return {path.relative_to(folder).as_posix(): path.read_bytes() for path in folder.rglob("*") if path.is_file()}
+
+
+# Each example prints its report and leaves its files as they are, beside the captures that it makes, which are those of `wanted/`. It
+# runs in a copy of its folder. `words` has one word a line; the status is 0 unless a file says otherwise.
 for words in [] if "--pages" in sys.argv else sorted(top.glob("examples/*/words")):
     folder = words.parent
-    run = subprocess.run([top / "netlabel", *words.read_text().splitlines()], cwd=folder, capture_output=True)
+    with tempfile.TemporaryDirectory() as made:
+        copy = shutil.copytree(folder, pathlib.Path(made) / folder.name)
+        run = subprocess.run([top / "netlabel", *words.read_text().splitlines()], cwd=copy, capture_output=True)
+        left = held(copy)
     wanted_status = int((folder / "status").read_text()) if (folder / "status").exists() else 0
     if run.stdout != (folder / "report").read_bytes() or run.returncode != wanted_status:
         failures.append(f"{folder.relative_to(top)}: printed {run.stdout!r} with status {run.returncode}")
+    wanted = held(folder) | held(folder / "wanted")
+    for name in sorted(wanted | left):
+        if wanted.get(name) != left.get(name):
+            failures.append(f"{folder.relative_to(top)}: {name} holds {left[name].hex(' ')}" if name in left else f"{folder.relative_to(top)}: there is no {name}")
 
 print("\n".join(failures) or "the repository's own checks passed")
 sys.exit(1 if failures else 0)

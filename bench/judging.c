@@ -3,13 +3,11 @@
 
    It knows CIPSO in IPv4 alone, and definitions that pass all numbers. A node's tables are read from the same commands; they are
    arrays, and an entry is found by going over them from the front. The checks are those of the product, in the same order. */
-#include <stdint.h>
-#include <stdio.h>
-#include <stdlib.h>
-#include <string.h>
 #include <time.h>
 
-enum { MOST_RUNS = 1952, MOST_ENTRIES = 256, MOST_ADDRESSES = 16, MOST_OCTETS = 65535 };
+#include "wire.h"
+
+enum { MOST_ENTRIES = 256, MOST_ADDRESSES = 16, MOST_OCTETS = 65535 };
 
 /* --- denials ------------------------------------------------------------------------------------------------------------ */
 
@@ -31,37 +29,6 @@ static struct denial at_octet(enum why why, int octet) {
 }
 
 static struct denial because(enum why why) { return at_octet(why, -1); }
-
-/* --- labels ------------------------------------------------------------------------------------------------------------- */
-
-struct run { uint16_t first, last; };
-struct label { uint8_t level; int runs; struct run run[MOST_RUNS]; };
-
-static void add_last(struct label *label, unsigned first, unsigned last) {
-    if (label->runs && label->run[label->runs - 1].last + 1u >= first) {
-        if (label->run[label->runs - 1].last < last) label->run[label->runs - 1].last = last;
-    } else {
-        label->run[label->runs].first = first;
-        label->run[label->runs++].last = last;
-    }
-}
-
-static void assign(struct label *to, const struct label *from) {
-    to->level = from->level;
-    to->runs = from->runs;
-    memcpy(to->run, from->run, from->runs * sizeof from->run[0]);
-}
-
-static int dominates(const struct label *a, const struct label *b) {
-    if (b->level > a->level) return 0;
-    for (int i = 0, k = 0; k < b->runs;) {
-        if (i == a->runs) return 0;
-        if (a->run[i].last < b->run[k].first) i++;
-        else if (a->run[i].first <= b->run[k].first && b->run[k].last <= a->run[i].last) k++;
-        else return 0;
-    }
-    return 1;
-}
 
 /* --- tables ------------------------------------------------------------------------------------------------------------- */
 
@@ -141,9 +108,6 @@ static int is_outside(const char *interface, const struct label *low, const stru
 
 struct packet { const uint8_t *octets; int header, total, place, length, second; };
 
-static unsigned u16_at(const uint8_t *s) { return s[0] << 8 | s[1]; }
-static uint32_t u32_at(const uint8_t *s) { return (uint32_t)u16_at(s) << 16 | u16_at(s + 2); }
-
 static unsigned sum_of(const uint8_t *s, int length) {
     uint32_t sum = 0;
     for (int i = 0; i < length; i += 2) sum += u16_at(s + i);
@@ -177,72 +141,6 @@ static struct denial read_header(const uint8_t *s, int length, struct packet *pa
     return because(NONE);
 }
 
-static void read_bitmap(const uint8_t *bitmap, int octets, struct label *label) {
-    for (int i = 0; i < octets; i++) {
-        for (unsigned bits = bitmap[i]; bits;) {
-            int bit = __builtin_clz(bits) - 24;
-            add_last(label, 8 * i + bit, 8 * i + bit);
-            bits &= ~(0x80u >> bit);
-        }
-    }
-}
-
-/* A number of two octets from low to high: -1, or the octet at fault. */
-static int number_at(const uint8_t *s, int at, int low, int high) {
-    int h = s[at], n = u16_at(s + at);
-    if (low > 256 * h + 255 || 256 * h > high) return at;
-    return low <= n && n <= high ? -1 : at + 1;
-}
-
-static int read_categories(const uint8_t *s, int at, int count, struct label *label) {
-    int low = 0;
-    for (int i = 1; i <= count; i++, at += 2) {
-        int fault = number_at(s, at, low, 65534 - (count - i));
-        if (fault >= 0) return fault;
-        add_last(label, u16_at(s + at), u16_at(s + at));
-        low = u16_at(s + at) + 1;
-    }
-    return -1;
-}
-
-static int read_ranges(const uint8_t *s, int at, int count, struct label *label) {
-    struct run down[7];
-    int upper = 65535, some = (count + 1) / 2;
-    for (int i = 0; i < some; i++, at += 4) {
-        int later = some - 1 - i, fault = number_at(s, at, later, upper - 1);
-        if (fault >= 0) return fault;
-        down[i].last = u16_at(s + at);
-        down[i].first = 0;
-        if (2 * i + 1 < count) {
-            fault = number_at(s, at + 2, later, down[i].last);
-            if (fault >= 0) return fault;
-            down[i].first = u16_at(s + at + 2);
-        }
-        upper = down[i].first;
-    }
-    while (some--) add_last(label, down[some].first, down[some].last);
-    return -1;
-}
-
-/* The label of an option: -1, or its octet at fault. */
-static int read_option(const uint8_t *s, int length, struct label *label, uint32_t *doi, int *tag) {
-    label->runs = 0;
-    if (length < 10 || length > 40) return 1;
-    *doi = u32_at(s + 2);
-    if (*doi == 0) return 5;
-    *tag = s[6];
-    int size = length - 10, even = size % 2 == 0;
-    if (!(*tag == 1 || (*tag == 2 && even) || (*tag == 5 && even && size <= 28))) return 6;
-    if (s[7] != length - 6) return 7;
-    if (s[8] != 0) return 8;
-    label->level = s[9];
-    if (*tag == 1) {
-        read_bitmap(s + 10, size, label);
-        return -1;
-    }
-    return *tag == 2 ? read_categories(s, 10, size / 2, label) : read_ranges(s, 10, size / 2, label);
-}
-
 /* --- the labels of a packet that comes in --------------------------------------------------------------------------------- */
 
 /* Two labels that are lent for each packet: in the numbers of the wire, and in the node's own. */
@@ -263,7 +161,7 @@ static struct denial read_label_of(
         return because(NONE);
     }
     uint32_t doi;
-    int tag, listed = 0, fault = read_option(packet->octets + packet->place, packet->length, &room->wire, &doi, &tag);
+    int tag, listed = 0, fault = read_cipso(packet->octets + packet->place, packet->length, &room->wire, &doi, &tag);
     if (fault >= 0) return at_octet(OPTION, packet->place + fault);
     const struct definition *found = find_definition(doi);
     if (!found) return at_octet(DOI, packet->place + 2);
@@ -517,13 +415,13 @@ static void obey(const char *line) {
 
 static struct room room;
 static struct label *label;
-static struct written out;
+static struct written written;
 static uint32_t to;
 
 static struct denial judge(int what, const uint8_t *s, int size) {
     if (what == 'r') return receive("eth0", s, size, &room, &to);
-    if (what == 'f') return forward("eth0", "eth1", "gate_t", s, size, &room, &out);
-    return send("web_t", "eth1", label, s, size, &room.wire, &out);
+    if (what == 'f') return forward("eth0", "eth1", "gate_t", s, size, &room, &written);
+    return send("web_t", "eth1", label, s, size, &room.wire, &written);
 }
 
 static void show_label(const struct label *label) {
@@ -533,7 +431,7 @@ static void show_label(const struct label *label) {
 }
 
 static void show_carrier(void) {
-    if (out.carrier.is_cipso) printf("Cipso { doi: %u } ", out.carrier.doi);
+    if (written.carrier.is_cipso) printf("Cipso { doi: %u } ", written.carrier.doi);
     else printf("Unlabelled ");
 }
 
@@ -547,7 +445,7 @@ static void show(int what, struct denial denial) {
     else show_carrier();
     if (what != 's') show_label(&room.local);
     if (what == 'f') printf(" ");
-    for (int i = 0; what != 'r' && i < out.length; i++) printf("%s%d", i ? ", " : "[", out.octets[i]);
+    for (int i = 0; what != 'r' && i < written.length; i++) printf("%s%d", i ? ", " : "[", written.octets[i]);
     printf(what == 'r' ? "\n" : "]\n");
 }
 
@@ -556,7 +454,7 @@ static uint64_t judge_all(int what, const uint8_t *octets, int length, int size,
     for (unsigned long n = 0; n < rounds; n++) {
         for (int at = 0; at + size <= length; at += size) {
             if (judge(what, octets + at, size).why) continue;
-            sum += what == 'r' ? room.local.level : out.length;
+            sum += what == 'r' ? room.local.level : written.length;
         }
     }
     return sum;

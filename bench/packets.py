@@ -137,11 +137,11 @@ fn shown(alloc: Global, packet: &[u8]) -> u64 {
 """
 
 
-def header4(identification, options, length):
+def header4(identification, options, length, hops=64, between="0a0000010a000002"):
     """A header of IPv4 with these options and a right checksum."""
     size = 20 + len(options)
     head = bytearray(bytes([0x40 + size // 4, 0]) + length.to_bytes(2, "big") + identification.to_bytes(2, "big")
-                     + bytes.fromhex("000040110000") + bytes.fromhex("0a0000010a000002") + options)
+                     + bytes([0, 0, hops, 17, 0, 0]) + bytes.fromhex(between) + options)
     total = sum(int.from_bytes(head[at:at + 2], "big") for at in range(0, size, 2))
     while total >> 16:
         total = (total & 0xFFFF) + (total >> 16)
