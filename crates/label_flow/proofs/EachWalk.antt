@@ -62,7 +62,7 @@ each_walked plan hops w n [] (r ∷ rs) some count work = absurd (omega (arith, 
 each_walked plan hops w n (x ∷ xs) (r ∷ rs) some count work =
     let here = work_here plan hops (nat_eq (n % w) (n % w)) x (pick (n % w) w (n + 1) xs) r (pick (n % w) w (n + 1) rs) (same (n % w)) (work (n % w) (mod_below n w some)) in
     let behind = each_walked plan hops w (n + 1) xs rs some (omega (arith, count))
-        (λ k less. work_behind plan hops (nat_eq (n % w) k) x (pick k w (n + 1) xs) r (pick k w (n + 1) rs) (work k less)) in
+    (λ k less. work_behind plan hops (nat_eq (n % w) k) x (pick k w (n + 1) xs) r (pick k w (n + 1) rs) (work k less)) in
     ((here.0, behind.0), All-cons (Within (length plan.steps)) r rs here.1 behind.1)
 
 pub round_walked : (plan : PlanState) (hops : List Hop) (packets : List PacketIn) (pairs : List PairState) (olds news : List ViewerState) → 0 < length olds → All (λ (v : ViewerState). v.plan ≡ plan) olds
@@ -71,7 +71,7 @@ round_walked plan hops packets pairs olds news some same h =
     let zero_on : (k : ℕ) → 0 + k ≡ k = λ k. omega arith in
     each_walked plan hops (length olds) 0 packets pairs some h.count
     (λ k less. subst (λ (i : ℕ). IsWorked plan hops (pick i (length olds) 0 packets) (pick i (length olds) 0 pairs)) (zero_on k)
-        (work_at plan hops (length olds) packets pairs 0 olds news same h.each k less))
+    (work_at plan hops (length olds) packets pairs 0 olds news same h.each k less))
 
 -- ---- a beginning of a plan
 
@@ -150,5 +150,5 @@ walked_once plan hops [] (r ∷ rs) (s ∷ ss) x y same = absurd x
 walked_once plan hops (p ∷ ps) (r ∷ rs) (s ∷ ss) x y same =
     let versions : r.walked.versions ≡ s.walked.versions = first_same same in
     let one = walks_end_in_one_way plan hops p s.walked.versions r.walked.end s.walked.end r.octets s.octets
-        (subst (λ (vs : List ℕ). IsWalkOf plan hops p vs r.walked.end r.octets) versions x.0) y.0 in
+    (subst (λ (vs : List ℕ). IsWalkOf plan hops p vs r.walked.end r.octets) versions x.0) y.0 in
     cons_same (pair_same r s one.0 versions one.1) (walked_once plan hops ps rs ss x.1 y.1 (rest_same same))

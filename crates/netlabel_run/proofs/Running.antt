@@ -302,8 +302,7 @@ module _ (file : List ℕ) (workers : ℕ) (before : Outside) (folder : DepotSta
         let read = is_read_by status e in
         elim has.printed.how [
           | inl all ↦
-              let due : ends.due ≡ ReadFault = sym all.0 ∙ read in
-              (
+              let due : ends.due ≡ ReadFault = sym all.0 ∙ read in (
                 pause_text script has.runs,
                 all.2 out ∙ ap (λ (d : Status). before.stream.written ++ (due_body script has.runs d ++ due_line script has.runs d)) due ∙ ap (λ t. before.stream.written ++ t) (append-nil (pause_text script has.runs)),
                 pauses,

@@ -47,12 +47,11 @@ so_far_begins script (run ∷ []) more =
     (behind ++ more, sym (append_assoc text behind more) ∙ ap (λ t. t ++ more) (sym (append-nil (text ++ behind))))
 so_far_begins script (run ∷ next ∷ runs) more =
     let turn = turn_text script run in
-    let begins = so_far_begins script (next ∷ runs) more in
-    (
+    let begins = so_far_begins script (next ∷ runs) more in (
       begins.0,
       append_assoc turn (text_so_far script (next ∷ runs)) begins.0
-      ∙ ap (λ t. turn ++ t) begins.1
-      ∙ sym (append_assoc turn (concat (map (turn_text script) (next ∷ runs))) more),
+          ∙ ap (λ t. turn ++ t) begins.1
+          ∙ sym (append_assoc turn (concat (map (turn_text script) (next ∷ runs))) more),
     )
 
 pause_begins : (script : Script) (runs : List FlowRun) → (rest : List ℕ) × (pause_text script runs ++ rest ≡ (runs_report script runs).body)
@@ -214,6 +213,6 @@ none_of_theirs (run ∷ runs) name all =
     let made = λ (output : Option (List ℕ)). option_map (λ n. (let o : Output = record { name = n; octets = output_capture run } in o)) output in
     All-cons (λ (r : FlowRun). r.flow.output ≢ Some name) run runs
     (λ e.
-        let here : All P (cons_option (Some (record { name = name; octets = output_capture run })) (runs_outputs runs)) = subst (λ (o : Option Output). All P (cons_option o (runs_outputs runs))) (ap made e) all in
-        here 0 (record { name = name; octets = None }) (omega arith) refl)
+    let here : All P (cons_option (Some (record { name = name; octets = output_capture run })) (runs_outputs runs)) = subst (λ (o : Option Output). All P (cons_option o (runs_outputs runs))) (ap made e) all in
+    here 0 (record { name = name; octets = None }) (omega arith) refl)
     (none_of_theirs runs name (cons_rest P (run_output run) (runs_outputs runs) all))

@@ -22,12 +22,7 @@ use std::thread::Threads;
 
 /// Reads a script whole, and carries out its commands and flows in their order. Nothing is printed before the script is known to be
 /// right.
-pub(crate) fn run<
-    D: Depot + Send,
-    S: Sink + Send,
-    G: Gate + Sync,
-    R: Threads + Wait + Sync,
->(
+pub(crate) fn run<D: Depot + Send, S: Sink + Send, G: Gate + Sync, R: Threads + Wait + Sync>(
     rt: &R,
     alloc: Global,
     file: &str,
@@ -48,12 +43,7 @@ pub(crate) fn run<
 }
 
 /// Carries out the commands and flows of a script.
-fn run_flows<
-    D: Depot + Send,
-    S: Sink + Send,
-    G: Gate + Sync,
-    R: Threads + Wait + Sync,
->(
+fn run_flows<D: Depot + Send, S: Sink + Send, G: Gate + Sync, R: Threads + Wait + Sync>(
     rt: &R,
     alloc: Global,
     script: &Script,

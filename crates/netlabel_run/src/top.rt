@@ -31,12 +31,7 @@ use std::thread::Threads;
 /// failed, 5 where a capture is wrong, 6 where memory ran out and 7 where a limit is passed; the first of these events
 /// decides. The clause says what each of them means, what is printed and what is left as it was. The gate is called before each look of a
 /// worker and round each step of the publisher; it has no say on results.
-pub fn netlabel<
-    D: Depot + Send,
-    S: Sink + Send,
-    G: Gate + Sync,
-    R: Threads + Wait + Sync,
->(
+pub fn netlabel<D: Depot + Send, S: Sink + Send, G: Gate + Sync, R: Threads + Wait + Sync>(
     rt: &R,
     alloc: Global,
     words: &[String],
@@ -53,12 +48,7 @@ pub fn netlabel<
 }
 
 /// Carries out what was asked for: a command, or the usage line.
-fn carry_out<
-    D: Depot + Send,
-    S: Sink + Send,
-    G: Gate + Sync,
-    R: Threads + Wait + Sync,
->(
+fn carry_out<D: Depot + Send, S: Sink + Send, G: Gate + Sync, R: Threads + Wait + Sync>(
     rt: &R,
     alloc: Global,
     asked: Option<Command<'_>>,
