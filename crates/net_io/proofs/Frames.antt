@@ -1,15 +1,16 @@
 -- What one call more does to a folder that calls before have left as it was.
-use Rattle.std.proofs.Common.{◌≡◌, ◌≤◌, ◌<◌, ℕ, List, Result, Ok, sym, ◌∙◌, ap, subst, arith}
-use Rattle.std.specs.Prelude.{IsTrue, IsErrOf}
+use Rattle.std.proofs.Common.{ℕ, List, Result, Ok, sym, ◌∙◌, subst, arith}
+use Rattle.std.specs.Prelude.{IsTrue}
 use Rattle.std.proofs.lemmas.Result.{on_ok_weaker}
-use Rattle.net_io.specs.Depot.{DepotState, SameHeld, OnlyReads, OnlyAppends}
-use Rattle.net_io.specs.Faults.{CountsByName, SameCounts, Rose}
+use Rattle.net_io.specs.Depot.{DepotState, OnlyReads, OnlyAppends}
+use Rattle.net_io.specs.Faults.{CountsByName, Rose}
 
 counts_on : {T U E : Type 0} (failed : E) (ok : T) (result : Result U E) (name : List ℕ) (a b c : List ℕ → ℕ)
     → CountsByName {T = T} {E = E} failed (Ok ok) name a b → CountsByName failed result name b c → CountsByName failed result name a c
 counts_on failed ok result name a b c before now = record {
   no_less = λ other. omega (arith, before.no_less other, now.no_less other);
   ok = on_ok_weaker result (λ same other. same other ∙ before.ok other) now.ok;
+  still = λ not_failed other. now.still not_failed other ∙ before.ok other;
   cause = λ e. subst (λ n. Rose n (c name)) (before.ok name) (now.cause e);
 }
 
@@ -34,7 +35,7 @@ appends_on failed ok result name a b c before now = record {
 
 counts_any : {T U E : Type 0} (failed : E) (n : T) (m : U) (name : List ℕ) (a b : List ℕ → ℕ)
     → CountsByName {T = T} {E = E} failed (Ok n) name a b → CountsByName {T = U} {E = E} failed (Ok m) name a b
-counts_any failed n m name a b counts = record { no_less = counts.no_less; ok = counts.ok; cause = λ e. cc }
+counts_any failed n m name a b counts = record { no_less = counts.no_less; ok = counts.ok; still = λ _. counts.ok; cause = λ e. cc }
 
 -- whatever the answer was, where it was one
 pub reads_any : {T U E : Type 0} (failed : E) (n : T) (m : U) (name : List ℕ) (a b : DepotState)

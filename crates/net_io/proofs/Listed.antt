@@ -42,12 +42,14 @@ counts_fault Failed call name old new listed none =
     record {
       no_less = λ other. omega (arith, more other);
       ok = tt;
+      still = λ not_failed. absurd (not_failed refl);
       cause = λ e. inl (omega (arith, more name, one));
     }
 counts_fault OutOfMemory call name old new listed none =
     record {
       no_less = λ other. omega (arith, ap (λ list. failed_in list call other) (none refl));
       ok = tt;
+      still = λ not_failed other. ap (λ list. failed_in list call other) (none refl);
       cause = λ e. cc;
     }
 

@@ -1,5 +1,5 @@
 -- The file system and standard output: they tell no content. Each kind of call has one number of faults, which is that number for every name.
-use Rattle.std.specs.Prelude.{ℕ, false, [], None}
+use Rattle.std.specs.Prelude.{false, [], None}
 use Rattle.net_io.specs.Depot.{DepotState}
 use Rattle.net_io.specs.Sink.{SinkState}
 use Rattle.net_io.specs.declared.real_depot.RealDepot.{RealDepot}

@@ -17,7 +17,7 @@ pub enum IoFault {
     /// The outside refused the call, and counted it.
     #[error("the call failed")]
     Failed,
-    /// No memory was left for what the call keeps.
+    /// No memory was left for what the call keeps. No fault is counted.
     #[error("out of memory")]
     OutOfMemory,
 }
@@ -25,11 +25,11 @@ pub enum IoFault {
 /// Why a file wasn't read whole.
 #[derive(Clone, Copy, Debug, PartialEq, Eq)]
 pub enum WholeFault {
-    /// The file has more octets than the caller allows.
+    /// The file has more octets than the caller allows. No fault is counted.
     TooLong,
     /// A read has failed, and was counted.
     Failed,
-    /// No memory was left for the file's octets.
+    /// No memory was left for the file's octets. No fault is counted.
     OutOfMemory,
 }
 

@@ -1,7 +1,6 @@
 //! Reads that go on until the buffer is full or the file ends.
 ghost use Rattle.std.specs.Prelude.{◌≡◌, ◌<◌, ◌≤◌, ◌+◌, ◌-◌, ◌++◌, ◌^◌, min, ℕ, IsTrue, IsSome, Some, length, take, drop, vec_len, OnOk, OnErr, IfOk, IsErrOf};
 ghost use Rattle.net_io.specs.Depot.{octets_of, IsRead, ChangesFirst, ReadsPrefix, OnlyReads};
-ghost use Rattle.net_io.specs.Faults.{SameCounts};
 
 use crate::piece::new_piece;
 use crate::{Depot, IoFault, WholeFault};
@@ -65,7 +64,6 @@ fn read_more<D: Depot>(
         → length (octets_of ((D.state depot.old).held name.now)) ≤ vec_len whole.old) }
     ensures too_long { IsErrOf result WholeFault.TooLong → IsTrue (D.state depot.old).tells
         → most < length (octets_of ((D.state depot.old).held name.now)) }
-    ensures uncounted { IsErrOf result WholeFault.TooLong → SameCounts (D.state depot.old).reads (D.state depot.new).reads }
     ensures frame { OnlyReads WholeFault.Failed result name.now (D.state depot.old) (D.state depot.new) }
 {
     let room = room_for(most, whole.len(), piece.len());
@@ -89,7 +87,6 @@ pub fn read_whole<D: Depot>(
     ensures most { IfOk result (λ whole. vec_len whole ≤ most) }
     ensures too_long { IsErrOf result WholeFault.TooLong → IsTrue (D.state depot.old).tells
         → most < length (octets_of ((D.state depot.old).held name.now)) }
-    ensures uncounted { IsErrOf result WholeFault.TooLong → SameCounts (D.state depot.old).reads (D.state depot.new).reads }
     ensures frame { OnlyReads WholeFault.Failed result name.now (D.state depot.old) (D.state depot.new) }
 {
     let mut whole = Vec::new(alloc);

@@ -1,5 +1,4 @@
-use Rattle.std.proofs.Common.{◌≡◌, ◌≤◌, ◌-◌, ◌++◌, ℕ, IsTrue, Some, take, length, Ok}
-use Rattle.std.specs.Prelude.{IsSome}
+use Rattle.std.proofs.Common.{◌≤◌, ◌-◌, ◌++◌, ℕ, IsTrue, take, length, Ok}
 use Rattle.net_io.specs.Depot.{octets_of, NowHolds, OnlyAppends}
 use Rattle.net_io.specs.declared.fault.IoFault.TheVariants.{Failed}
 use Rattle.net_io.proofs.writing.append_all.Given as goal
