@@ -113,7 +113,7 @@ module _ (text waits : List ℕ) (a b : SinkState) (way : IsUnderWay text waits 
     how = elim printed.how [
       | inl all ↦ inl (all.0, all.1 ∙ way.faults, all_more last c all.2)
       | inr rest ↦ elim rest [
-        | inl memory ↦ inr (inl (memory.0, prefix_more last c memory.1))
+        | inl memory ↦ inr (inl (memory.0, memory.1 ∙ way.faults, prefix_more last c memory.2))
         | inr failed ↦ elim failed [
           | inl body ↦ inr (inr (inl (body.0, rose_behind c body.1, breaks_behind waits text c way.goes.all body.2)))
           | inr line ↦ inr (inr (inr (line.0, rose_behind c line.1, line.2, prefix_more last c line.3)))
@@ -129,7 +129,7 @@ nothing_is_handed_on text waits x a = record {
   ok = record { sent = []; all = refl; written = λ told. sym (append-nil a.written) };
   err = tt;
   told = refl;
-  counts = record { no_less = omega arith; ok = refl; cause = λ e. absurd cc };
+  counts = record { no_less = omega arith; ok = refl; still = λ _. refl; cause = λ e. absurd cc };
 }
 
 pub a_text_is_handed_on : {T : Type 0} (text waits held still : List ℕ) (result : Result T IoFault) (a b : SinkState) → held ≡ waits ++ text → HandsOn [] held still result a b → HandsOn text waits still result a b
@@ -150,7 +150,7 @@ no_memory_for_a_line line waits still a some = record {
     written = λ told. record { count = 0; within = omega (arith, some, length-append waits line); written = sym (append-nil a.written) };
   };
   told = refl;
-  counts = record { no_less = omega arith; ok = tt; cause = λ e. absurd cc };
+  counts = record { no_less = omega arith; ok = tt; still = λ _. refl; cause = λ e. absurd cc };
 }
 
 pub a_failing_part_is_a_failing_whole : (text more : List ℕ) (a b : SinkState) → Breaks text a b → Breaks (text ++ more) a b
@@ -167,7 +167,12 @@ a_failing_text_fails_with_more text more waits still fault a b hands = record {
   ok = tt;
   err = breaks_as ((waits ++ text) ++ more) (waits ++ (text ++ more)) a b (append_assoc waits text more) (a_failing_part_is_a_failing_whole (waits ++ text) more a b hands.err);
   told = hands.told;
-  counts = record { no_less = hands.counts.no_less; ok = tt; cause = λ e. hands.counts.cause (let same : fault ≡ Failed = cc in ap Err same) };
+  counts = record {
+    no_less = hands.counts.no_less;
+    ok = tt;
+    still = λ not_failed. hands.counts.still (λ e. not_failed (let same : fault ≡ Failed = cc in ap Err same));
+    cause = λ e. hands.counts.cause (let same : fault ≡ Failed = cc in ap Err same);
+  };
 }
 
 -- what was handed on begins a report
@@ -181,7 +186,7 @@ join_ok first second waits mid still x y a b c one two =
       ok = subst (λ (t : List ℕ). Goes t still a c) (append_assoc waits first second) way.goes;
       err = tt;
       told = way.told;
-      counts = record { no_less = omega (arith, way.faults); ok = way.faults; cause = λ e. absurd cc };
+      counts = record { no_less = omega (arith, way.faults); ok = way.faults; still = λ _. way.faults; cause = λ e. absurd cc };
     }
 
 join_err : {T U : Type 0} (first second waits mid still : List ℕ) (x : T) (fault : IoFault) (a b c : SinkState) → HandsOn first waits mid (Ok x) a b → HandsOn {T = U} second mid still (Err fault) b c → HandsOn {T = U} (first ++ second) waits still (Err fault) a c
@@ -194,6 +199,7 @@ join_err first second waits mid still x fault a b c one two =
       counts = record {
         no_less = omega (arith, way.faults, two.counts.no_less);
         ok = tt;
+        still = λ not_failed. two.counts.still not_failed ∙ way.faults;
         cause = λ e. faults_rose_over_a_report (waits ++ first) mid a b way c (two.counts.cause e);
       };
     }
@@ -215,8 +221,8 @@ a_failing_text_ends_a_report text more still last Failed due a b hands = record 
 }
 a_failing_text_ends_a_report text more still last NoMemory due a b hands = record {
   told = hands.told;
-  how = inr (inl (refl, λ told. a_part_of_a_text_is_a_front (text ++ more) last a.written b.written (less_of_a_text_is_less_of_more text more a.written b.written (hands.err.written told))));
+  how = inr (inl (refl, hands.counts.still (λ e. absurd cc), λ told. a_part_of_a_text_is_a_front (text ++ more) last a.written b.written (less_of_a_text_is_less_of_more text more a.written b.written (hands.err.written told))));
 }
 
 pub no_memory_for_a_report : (body last : List ℕ) (due : Status) (a : SinkState) → Printed body last due OutOfMemory a a
-no_memory_for_a_report body last due a = record { told = refl; how = inr (inl (refl, λ told. record { count = 0; within = omega arith; written = sym (append-nil a.written) })) }
+no_memory_for_a_report body last due a = record { told = refl; how = inr (inl (refl, refl, λ told. record { count = 0; within = omega arith; written = sym (append-nil a.written) })) }

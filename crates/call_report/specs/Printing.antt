@@ -31,12 +31,12 @@ pub record IsUnderWay (text waiting : List ℕ) (before now : SinkState) : Type 
   pub told : now.tells ≡ before.tells
   pub faults : now.faults ≡ before.faults
 
--- How a report was printed by a call that is to end so: all of it; or for want of memory some first octets of it; or a write has failed, in the
--- body, or in the line of the event, which came first.
+-- How a report was printed by a call that is to end so: all of it; or for want of memory some first octets of it, and no write has failed; or one
+-- has failed, in the body, or in the line of the event, which came first.
 pub record Printed (body last : List ℕ) (due status : Status) (before after : SinkState) : Type 0 where
   pub told : after.tells ≡ before.tells
   pub how :
       ((status ≡ due) × (after.faults ≡ before.faults) × (IsTrue before.tells → after.written ≡ before.written ++ (body ++ last)))
-      ⊎ ((status ≡ OutOfMemory) × (IsTrue before.tells → WritesPrefix (body ++ last) before.written after.written))
+      ⊎ ((status ≡ OutOfMemory) × (after.faults ≡ before.faults) × (IsTrue before.tells → WritesPrefix (body ++ last) before.written after.written))
       ⊎ ((status ≡ WriteFault) × Rose before.faults after.faults × Breaks body before after)
       ⊎ ((status ≡ due) × Rose before.faults after.faults × (0 < length last) × (IsTrue before.tells → WritesPrefix (body ++ last) before.written after.written))

@@ -37,7 +37,8 @@ impl Model for Frames {
 impl Frames {
     /// Reads the header of the capture of this name (libpcap file format, version 2.4), and stands behind it. The reader
     /// keeps the name. `Capture` tells the header's first fault and its octet: Short (fewer than 24 octets), Magic,
-    /// Version or LinkType; `ReadFault` comes only where the count of failed reads of this name rose in this call.
+    /// Version or LinkType; `ReadFault` comes only where the count of failed reads of this name rose in this call,
+    /// and no other answer moves a count.
     pub fn begin<D: Depot>(alloc: Global, depot: &mut D, name: &str) -> Result<Frames, FrameStop>
         ensures answer { IsTrue (D.state depot.old).tells → IsAnswerOf (λ frames. frames.header) result (capture_header (octets_of ((D.state depot.old).held name.now))) }
         ensures present { IsTrue (D.state depot.old).tells → SpeaksOf ((D.state depot.old).held name.now) result }
@@ -60,8 +61,9 @@ impl Frames {
     /// Reads the record at which the reader stands into `into`, in place of what was there, and goes behind it; None exactly
     /// where the file ends after whole records. `Capture` tells the record's first fault and its octet: Short (the file ends
     /// in its head), Captured (more than 262,144 octets), SnapCut (it was cut when it was captured) or Short (the file ends
-    /// in its octets); `ReadFault` comes only where the count of failed reads of the file's name rose in this call. After
-    /// each of them the reader stands where it stood, and `into` is empty; `into` keeps its memory.
+    /// in its octets); `ReadFault` comes only where the count of failed reads of the file's name rose in this call, and
+    /// no other answer moves a count. After each of them the reader stands where it stood, and `into` is empty; `into` keeps
+    /// its memory.
     pub fn next<D: Depot>(
         &mut self,
         depot: &mut D,

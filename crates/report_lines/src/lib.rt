@@ -1,5 +1,6 @@
 //! The printed lines of reports, but for the replies to commands: each is a definition, and a function that appends it to what waits
-//! to be printed.
+//! to be printed. The lines are the program's own (docs/guide.md); in them labels are spelled as SELinux MLS has them, addresses as
+//! RFC 5952 does. The next line is a definition in the file of its noun in `specs`, and in `src` a function whose contract it is.
 #![tactic(auto)]
 
 mod capture;
