@@ -1,5 +1,5 @@
 //! A folder of named files.
-ghost use Rattle.std.specs.Prelude.{◌≡◌, ◌++◌, ℕ, IsTrue, IsSome, [], take, OnOk, OnErr, IfOk};
+ghost use Rattle.std.specs.Prelude.{◌≡◌, ◌++◌, IsTrue, IsSome, [], take, OnOk, OnErr, IfOk};
 ghost use Rattle.net_io.specs.Depot.{DepotState, octets_of, ReadsAt, IsPart, SameHeld, NowHolds, OnlyReads, OnlyCreates, OnlyAppends};
 
 use crate::IoFault;

@@ -1,5 +1,5 @@
 //! The list of failed calls of a folder in memory.
-ghost use Rattle.std.specs.Prelude.{◌≡◌, List, OnOk, OnErr};
+ghost use Rattle.std.specs.Prelude.{◌≡◌, OnOk, OnErr};
 ghost use Rattle.net_io.specs.inside.Listed.{Lists};
 ghost use Rattle.net_io.specs.declared.fault.IoFault.TheVariants.{Failed, OutOfMemory};
 

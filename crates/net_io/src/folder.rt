@@ -1,6 +1,6 @@
 //! A list of named files.
-ghost use Rattle.std.specs.Prelude.{◌≡◌, ◌<◌, ◌≤◌, ◌+◌, ◌++◌, ◌^◌, ℕ, List, [], length, take, drop, Some, None, IsSome, IfOk, OnOk, OnErr, IsErr, MatchOption, slice_get, option_map};
-ghost use Rattle.net_io.specs.Depot.{octets_of, ChangesFirst, IsPart, SameHeld, NowHolds};
+ghost use Rattle.std.specs.Prelude.{◌≡◌, ◌<◌, ◌≤◌, ◌+◌, ◌++◌, ◌^◌, length, take, drop, Some, None, IsSome, OnOk, OnErr, MatchOption};
+ghost use Rattle.net_io.specs.Depot.{octets_of, ChangesFirst, SameHeld, NowHolds};
 ghost use Rattle.net_io.specs.Folder.{held_in};
 ghost use Rattle.net_io.specs.inside.Place.{IsPlaceOf};
 

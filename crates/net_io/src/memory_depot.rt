@@ -1,7 +1,7 @@
 //! A folder in memory, some of whose calls fail by plan.
-ghost use Rattle.std.specs.Prelude.{◌≡◌, ◌<◌, ◌≤◌, ◌++◌, ℕ, IsTrue, IsSome, [], None, take, OnOk, OnErr, IfOk, option_copied};
+ghost use Rattle.std.specs.Prelude.{◌≡◌, ◌<◌, ◌≤◌, ◌++◌, IsTrue, IsSome, [], None, take, OnOk, OnErr, IfOk, option_copied};
 ghost use Rattle.net_io.specs.Depot.{octets_of, NowHolds, SameHeld, ReadsAt, IsPart, OnlyReads, OnlyCreates, OnlyAppends};
-ghost use Rattle.net_io.specs.Memory.{CallPlan, memory_state, memory_failed, memory_plan, IsFresh, SameFaults, FollowsPlan};
+ghost use Rattle.net_io.specs.Memory.{memory_state, memory_failed, memory_plan, IsFresh, SameFaults, FollowsPlan};
 
 use crate::failed::{DepotCall, fault_of};
 use crate::plan::FaultPlan;

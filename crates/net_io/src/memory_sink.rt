@@ -1,8 +1,8 @@
 //! A stream in memory, some of whose writes fail by plan.
-ghost use Rattle.std.specs.Prelude.{◌≡◌, ◌<◌, ◌≤◌, ◌++◌, ℕ, true, IsTrue, [], take, OnErr, IfOk};
+ghost use Rattle.std.specs.Prelude.{◌≡◌, ◌<◌, ◌≤◌, ◌++◌, true, IsTrue, [], take, OnErr, IfOk};
 ghost use Rattle.net_io.specs.Depot.{IsPart};
 ghost use Rattle.net_io.specs.Faults.{Counts};
-ghost use Rattle.net_io.specs.Memory.{CallPlan, memory_sink_state, memory_sink_plan, FollowsPlan};
+ghost use Rattle.net_io.specs.Memory.{memory_sink_state, memory_sink_plan, FollowsPlan};
 
 use crate::plan::FaultPlan;
 use crate::{IoFault, OutOfMemory, Sink};

@@ -1,5 +1,5 @@
 //! Reads that go on until the buffer is full or the file ends.
-ghost use Rattle.std.specs.Prelude.{◌≡◌, ◌<◌, ◌≤◌, ◌+◌, ◌-◌, ◌++◌, ◌^◌, min, ℕ, IsTrue, IsSome, Some, length, take, drop, vec_len, OnOk, OnErr, IfOk, IsErrOf};
+ghost use Rattle.std.specs.Prelude.{◌≡◌, ◌<◌, ◌≤◌, ◌+◌, ◌-◌, ◌++◌, ◌^◌, min, IsTrue, IsSome, Some, length, take, drop, vec_len, OnOk, OnErr, IfOk, IsErrOf};
 ghost use Rattle.net_io.specs.Depot.{octets_of, IsRead, ChangesFirst, ReadsPrefix, OnlyReads};
 
 use crate::piece::new_piece;

@@ -1,5 +1,5 @@
 //! The files of the folder that the program runs in. No clause tells what a disk holds: this is the trusted edge.
-ghost use Rattle.std.specs.Prelude.{◌≡◌, ◌<◌, ◌≤◌, ◌^◌, ℕ, length, IfOk};
+ghost use Rattle.std.specs.Prelude.{◌<◌, ◌≤◌, length, IfOk};
 ghost use Rattle.net_io.specs.Memory.{IsFresh};
 
 use crate::open_file::OpenFile;

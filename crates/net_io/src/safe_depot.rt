@@ -1,6 +1,6 @@
 //! A folder in memory none of whose calls fails but reads of absent names.
-ghost use Rattle.std.specs.Prelude.{◌≡◌, ◌<◌, ◌≤◌, ◌++◌, ℕ, IsTrue, IsSome, [], None, take, OnOk, OnErr, IfOk, IsErrOf, option_copied, length};
-ghost use Rattle.net_io.specs.Depot.{DepotState, octets_of, NowHolds, SameHeld, ReadsAt, IsPart, OnlyReads, OnlyCreates, OnlyAppends};
+ghost use Rattle.std.specs.Prelude.{◌≡◌, ◌<◌, ◌≤◌, ◌++◌, IsTrue, IsSome, [], None, take, OnOk, OnErr, IfOk, IsErrOf, option_copied};
+ghost use Rattle.net_io.specs.Depot.{octets_of, NowHolds, SameHeld, ReadsAt, IsPart, OnlyReads, OnlyCreates, OnlyAppends};
 ghost use Rattle.net_io.specs.Memory.{safe_state, safe_failed, IsFresh, SameFaults};
 
 use crate::failed::{DepotCall, FailedCall, fault_of};

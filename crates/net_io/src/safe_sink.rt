@@ -1,5 +1,5 @@
 //! A stream in memory none of whose writes fails.
-ghost use Rattle.std.specs.Prelude.{◌≡◌, ◌++◌, ℕ, IsTrue, [], take, OnErr, IfOk, IsErrOf};
+ghost use Rattle.std.specs.Prelude.{◌≡◌, ◌++◌, IsTrue, [], take, OnErr, IfOk, IsErrOf};
 ghost use Rattle.net_io.specs.Depot.{IsPart};
 ghost use Rattle.net_io.specs.Faults.{Counts};
 ghost use Rattle.net_io.specs.Memory.{safe_sink_state};

@@ -1,5 +1,5 @@
 //! A stream out.
-ghost use Rattle.std.specs.Prelude.{◌≡◌, ◌++◌, ℕ, IsTrue, take, OnErr, IfOk};
+ghost use Rattle.std.specs.Prelude.{◌≡◌, ◌++◌, IsTrue, take, OnErr, IfOk};
 ghost use Rattle.net_io.specs.Depot.{IsPart};
 ghost use Rattle.net_io.specs.Faults.{Counts};
 ghost use Rattle.net_io.specs.Sink.{SinkState};

@@ -1,5 +1,5 @@
 //! Writes that go on until all octets are taken.
-ghost use Rattle.std.specs.Prelude.{◌≡◌, ◌≤◌, ◌<◌, ◌++◌, ℕ, IsTrue, IsSome, length, take, OnOk, OnErr};
+ghost use Rattle.std.specs.Prelude.{◌≡◌, ◌<◌, ◌++◌, IsTrue, IsSome, length, OnOk, OnErr};
 ghost use Rattle.net_io.specs.Depot.{octets_of, NowHolds, AppendsPrefix, OnlyAppends};
 ghost use Rattle.net_io.specs.Sink.{WritesLess};
 ghost use Rattle.net_io.specs.Faults.{Counts};

@@ -1,5 +1,5 @@
 //! Reading the header and the records of a capture through a window of its file.
-ghost use Rattle.std.specs.Prelude.{◌≡◌, ◌+◌, ◌-◌, ◌<◌, ◌≤◌, ◌^◌, IsTrue, IsSome, [], length, drop, take, min, ◌++◌, Option, Some, None, Ok, option_map, is_ok, is_some, if◌then◌else◌, vec_len, vec_capacity, OnOk, OnErr, IfOk, IfSome};
+ghost use Rattle.std.specs.Prelude.{◌≡◌, ◌+◌, ◌-◌, ◌<◌, ◌≤◌, ◌^◌, IsTrue, [], length, drop, take, min, ◌++◌, Option, Some, None, Ok, option_map, is_ok, is_some, if◌then◌else◌, vec_len, vec_capacity, OnOk, OnErr, IfOk, IfSome};
 ghost use Rattle.net_io.specs.Depot.{octets_of, OnlyReads};
 ghost use Rattle.pcap_frames.specs.Header.{capture_header};
 ghost use Rattle.pcap_frames.specs.Record.{head_at, behind_head, record_at};

@@ -11,8 +11,6 @@ use mls_range::read_label_into;
 use packet_label::{Carrier, Denial};
 use packet_walk::{End, Versions, Walked};
 use pcap_frames::{CaptureFault, CaptureKind};
-use std::alloc::Global;
-use std::process::Abort;
 
 /// Each denial, and what is printed of it.
 const DENIALS: [(Denial, &str); 10] = [
