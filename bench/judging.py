@@ -62,7 +62,8 @@ HEAD = """//! Judges the packets of a file by the tables of a node again and aga
 ghost use Rattle.std.specs.Prelude.{◌<◌};
 
 use address_text::{Name, read_name};
-use command_forms::{Step, command_of, read_said};
+use command_forms::{Step, command_of};
+use line_forms::read_said;
 USES
 use label_receive::Room;
 use mls_label::Label;
@@ -253,7 +254,7 @@ fn send_shown(rt: &HostRuntime, tables: &Tables, names: &Names, octets: &[u8]) -
 """),
 }
 
-CRATES = "mls_label mls_range address_text command_forms script_lines node_tables label_receive label_send"
+CRATES = "mls_label mls_range address_text line_forms command_forms script_lines node_tables label_receive label_send"
 
 
 def source(rules):

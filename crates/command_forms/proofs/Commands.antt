@@ -1,7 +1,7 @@
 -- Commands, one by one.
-use Rattle.std.proofs.Common.{◌≡◌, Option, Some, refl, ◌∙◌}
-use Rattle.command_forms.specs.declared.form.Row.{Row}
-use Rattle.command_forms.specs.declared.fields.Fields.{Fields}
+use Rattle.std.proofs.Common.{◌≡◌, Option, Some, None, refl, ◌∙◌}
+use Rattle.line_forms.specs.declared.row.Row.{Row}
+use Rattle.line_forms.specs.declared.fields.Fields.{Fields}
 use Rattle.command_forms.specs.declared.command.Command.{Command}
 use Rattle.command_forms.specs.declared.command.Command.TheVariants.{CipsoAddPass, CipsoAddTrans, CalipsoAddPass, CalipsoAddTrans, CipsoDel, CalipsoDel, CipsoList, CalipsoList, MapAdd, MapDel, MapList, AcceptOn, AcceptOff, UnlblAdd, UnlblDel, UnlblList, ReceiverAdd, ReceiverDel, RangeAdd, RangeDel, PairAdd, PairDel, MgmtVersion, MgmtProtocols}
 use Rattle.command_forms.specs.Command.{command_of, said_of}
@@ -37,3 +37,30 @@ pub made_again : (command : Command) (row : Row) (fields shown : Fields) (made :
 made_again command row fields shown made row_is fields_is shown_is made_is =
     let all = fields_is ∙ shown_is in
     made_is ∙ (λ i. command_of (row_is i) (all i)) ∙ command_of-said_of command
+
+-- a command has no parameter of readings
+pub no_readings : (command : Command) → record (said_of command).fields { reading_levels = None; reading_categories = None } ≡ (said_of command).fields
+no_readings (CipsoAddPass doi tags) = refl
+no_readings (CipsoAddTrans doi tags levels categories) = refl
+no_readings (CalipsoAddPass doi) = refl
+no_readings (CalipsoAddTrans doi levels categories) = refl
+no_readings (CipsoDel doi) = refl
+no_readings (CalipsoDel doi) = refl
+no_readings (CipsoList doi) = refl
+no_readings (CalipsoList doi) = refl
+no_readings (MapAdd domain prefix protocol) = refl
+no_readings (MapDel domain prefix) = refl
+no_readings MapList = refl
+no_readings AcceptOn = refl
+no_readings AcceptOff = refl
+no_readings (UnlblAdd interface prefix range) = refl
+no_readings (UnlblDel interface prefix) = refl
+no_readings UnlblList = refl
+no_readings (ReceiverAdd address home range) = refl
+no_readings (ReceiverDel address) = refl
+no_readings (RangeAdd interface range) = refl
+no_readings (RangeDel interface) = refl
+no_readings (PairAdd four six) = refl
+no_readings (PairDel four) = refl
+no_readings MgmtVersion = refl
+no_readings MgmtProtocols = refl

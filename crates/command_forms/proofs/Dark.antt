@@ -35,16 +35,17 @@ use Rattle.command_values.specs.Pairs.{IsPairWithin, pair_text}
 use Rattle.command_values.specs.Tags.{AreTags, tag_number_text}
 use Rattle.command_values.specs.MapProtocol.{is_map_protocol, map_protocol_text}
 use Rattle.command_values.specs.Ranges.{IsMlsLabel, IsMlsRange, lowest_label, receiver_range_text}
-use Rattle.command_forms.specs.declared.form.Row.{Row}
-use Rattle.command_forms.specs.declared.form.Row.TheVariants.{CipsoAddPass, CipsoAddTrans, CalipsoAddPass, CipsoDel, CalipsoDel, CipsoList, CalipsoList, MapAdd, MapDel, MapList, AcceptOn, AcceptOff, UnlblAdd, UnlblDel, UnlblList, ReceiverAdd, ReceiverDel, RangeAdd, RangeDel, PairAdd, PairDel, MgmtVersion, MgmtProtocols, CalipsoAddTrans, Reading}
-use Rattle.command_forms.specs.declared.form.Parameter.{Parameter}
-use Rattle.command_forms.specs.declared.form.Parameter.TheVariants.{Doi, Tags, Levels, Categories, Domain, Interface, Prefix, Protocol, Label, Address, Home, Level, Range, Four, Six, ReadingLevels, ReadingCategories}
-use Rattle.command_forms.specs.declared.form.Slot.{Slot}
-use Rattle.command_forms.specs.declared.fields.Fields.{Fields}
+use Rattle.line_forms.specs.declared.row.Row.{Row}
+use Rattle.line_forms.specs.declared.row.Row.TheVariants.{CipsoAddPass, CipsoAddTrans, CalipsoAddPass, CipsoDel, CalipsoDel, CipsoList, CalipsoList, MapAdd, MapDel, MapList, AcceptOn, AcceptOff, UnlblAdd, UnlblDel, UnlblList, ReceiverAdd, ReceiverDel, RangeAdd, RangeDel, PairAdd, PairDel, MgmtVersion, MgmtProtocols, CalipsoAddTrans, Reading}
+use Rattle.line_forms.specs.declared.parameter.Parameter.{Parameter}
+use Rattle.line_forms.specs.declared.parameter.Parameter.TheVariants.{Doi, Tags, Levels, Categories, Domain, Interface, Prefix, Protocol, Label, Address, Home, Level, Range, Four, Six, ReadingLevels, ReadingCategories}
+use Rattle.line_forms.specs.declared.form.Slot.{Slot}
+use Rattle.line_forms.specs.declared.fields.Fields.{Fields}
 use Rattle.command_forms.specs.declared.command.Command.{Command}
-use Rattle.command_forms.specs.Form.{with_translations, form_of}
-use Rattle.command_forms.specs.Fields.{is_given, is_default, key_by, text_or_none, value_text}
-use Rattle.command_forms.specs.Command.{IsValue, IsCommand, said_of, texts_of_said, command_text}
+use Rattle.line_forms.specs.Form.{with_translations, form_of}
+use Rattle.line_forms.specs.Fields.{is_given}
+use Rattle.command_forms.specs.Value.{is_default, key_by, text_or_none, value_text, IsValue}
+use Rattle.command_forms.specs.Command.{IsCommand, said_of, texts_of_said, command_text}
 use Rattle.command_forms.proofs.Joined.{given_words}
 
 -- an octet of a word: printable ASCII behind the space

@@ -5,14 +5,14 @@ use Rattle.std.specs.List.{cons_option, flat_map, join_with_byte}
 use Rattle.std.proofs.lemmas.List.{take_rest}
 use Rattle.std.proofs.lemmas.List.Concat.{flat_map-append}
 use Rattle.std.proofs.lemmas.List.Elements.{All-cons, All-same}
-use Rattle.command_forms.specs.declared.form.Row.{Row}
-use Rattle.command_forms.specs.declared.form.Row.TheVariants.{CipsoAddPass, CipsoAddTrans, CalipsoAddPass, CipsoDel, CalipsoDel, CipsoList, CalipsoList, MapAdd, MapDel, MapList, AcceptOn, AcceptOff, UnlblAdd, UnlblDel, UnlblList, ReceiverAdd, ReceiverDel, RangeAdd, RangeDel, PairAdd, PairDel, MgmtVersion, MgmtProtocols, CalipsoAddTrans, Reading}
-use Rattle.command_forms.specs.declared.form.Slot.{Slot}
-use Rattle.command_forms.specs.declared.fields.Fields.{Fields}
+use Rattle.line_forms.specs.declared.row.Row.{Row}
+use Rattle.line_forms.specs.declared.row.Row.TheVariants.{CipsoAddPass, CipsoAddTrans, CalipsoAddPass, CipsoDel, CalipsoDel, CipsoList, CalipsoList, MapAdd, MapDel, MapList, AcceptOn, AcceptOff, UnlblAdd, UnlblDel, UnlblList, ReceiverAdd, ReceiverDel, RangeAdd, RangeDel, PairAdd, PairDel, MgmtVersion, MgmtProtocols, CalipsoAddTrans, Reading}
+use Rattle.line_forms.specs.declared.form.Slot.{Slot}
+use Rattle.line_forms.specs.declared.fields.Fields.{Fields}
 use Rattle.command_forms.specs.declared.command.Command.{Command}
-use Rattle.command_forms.specs.Form.{with_translations, form_of}
-use Rattle.command_forms.specs.Fields.{word_of}
-use Rattle.command_forms.specs.Command.{IsValue, said_of, command_text}
+use Rattle.line_forms.specs.Form.{with_translations, form_of}
+use Rattle.command_forms.specs.Value.{word_of, IsValue}
+use Rattle.command_forms.specs.Command.{said_of, command_text}
 use Rattle.command_forms.specs.inside.Extends.{Extends}
 use Rattle.command_forms.specs.inside.Written.{behind_space, spaced_words}
 

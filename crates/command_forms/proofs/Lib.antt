@@ -1,9 +1,7 @@
 pub mod Rows
 pub mod Commands
-pub mod Values
+pub mod Complete
 pub mod Joined
-pub mod Apart
-pub mod Kept
 pub mod Dark
 pub mod Returned
 pub mod Law

@@ -26,24 +26,29 @@ use Rattle.command_values.specs.MapProtocol.{map_protocol_of_text, map_protocol_
 use Rattle.command_values.specs.Ranges.{static_range_of_text, receiver_range_of_text, receiver_range_text}
 use Rattle.command_values.specs.Addresses.{four_of_text, sixteen_of_text}
 use Rattle.command_values.proofs.Law.{written_doi_reads_back, written_tags_read_back, written_pairs_read_back, written_map_protocol_reads_back, written_static_range_reads_back, written_receiver_range_reads_back, written_four_octets_read_back, written_sixteen_octets_read_back}
-use Rattle.command_forms.specs.declared.form.Row.{Row}
-use Rattle.command_forms.specs.declared.form.Parameter.{Parameter}
-use Rattle.command_forms.specs.declared.form.Parameter.TheVariants.{Doi, Tags, Levels, Categories, Domain, Interface, Prefix, Protocol, Label, Address, Home, Level, Range, Four, Six, ReadingLevels, ReadingCategories}
-use Rattle.command_forms.specs.declared.form.Slot.{Slot}
-use Rattle.command_forms.specs.declared.fields.Fields.{Fields}
-use Rattle.command_forms.specs.declared.said.Said.{Said}
+use Rattle.line_forms.specs.declared.row.Row.{Row}
+use Rattle.line_forms.specs.declared.parameter.Parameter.{Parameter}
+use Rattle.line_forms.specs.declared.parameter.Parameter.TheVariants.{Doi, Tags, Levels, Categories, Domain, Interface, Prefix, Protocol, Label, Address, Home, Level, Range, Four, Six, ReadingLevels, ReadingCategories}
+use Rattle.line_forms.specs.declared.form.Slot.{Slot}
+use Rattle.line_forms.specs.declared.fields.Fields.{Fields}
+use Rattle.line_forms.specs.declared.said.Said.{Said}
 use Rattle.command_forms.specs.declared.command.Command.{Command}
 use Rattle.command_forms.specs.declared.command.Command.TheVariants as Is
-use Rattle.command_forms.specs.Form.{with_translations, form_of, line_rows, is_key}
-use Rattle.command_forms.specs.Fields.{no_fields, is_given, is_default, key_by, text_or_none, value_text, with_value}
-use Rattle.command_forms.specs.Said.{is_spelled, shared_words, unfit_or_missing, read_row, key_of, slot_of, with_parameter, with_word, with_words, is_complete, read_fields, read_said}
-use Rattle.command_forms.specs.Command.{IsValue, IsCommand, said_of, texts_of_said, command_text}
-use Rattle.command_forms.proofs.Values.{put}
+use Rattle.line_forms.specs.Form.{with_translations, form_of, line_rows, is_key}
+use Rattle.line_forms.specs.Fields.{no_fields, is_given, with_value}
+use Rattle.command_forms.specs.Value.{is_default, key_by, text_or_none, value_text}
+use Rattle.line_forms.proofs.Law.{keys_are_distinct}
+use Rattle.line_forms.specs.Said.{is_spelled, shared_words, unfit_or_missing, read_row, key_of, slot_of, with_parameter, with_word, with_words, is_complete, read_fields, read_said}
+use Rattle.command_forms.specs.Value.{IsValue}
+use Rattle.command_forms.specs.Command.{IsCommand, said_of, texts_of_said, command_text}
 use Rattle.command_forms.proofs.Joined.{given_words}
-use Rattle.command_forms.proofs.Apart.{FindsKeys, keys_found}
 use Rattle.command_forms.proofs.Dark.{written_words}
 
 -- ---- one parameter
+
+-- the fields with a value in its place, if there is one
+abbrev put : {X : Type 0} → Option X → (Option X → Fields) → Option Fields
+put value place = if is_some value then Some (place value) else None
 
 -- the fields with one parameter of others
 abbrev copied : Parameter → Fields → Fields → Fields
@@ -146,6 +151,10 @@ value_back ReadingLevels from to is given = record { key = refl; value = put_bac
 value_back ReadingCategories from to is given = record { key = refl; value = put_back from.reading_categories (list_of_text (pair_of_text 65534 4294967295)) (list_text pair_text) (λ v. record to { reading_categories = v }) (IfSome_then from.reading_categories is (λ ps h. written_pairs_read_back 65534 4294967295 ps (omega arith) (omega arith) h)) given }
 
 -- ---- one word
+
+-- each key of the slot's parameter finds the slot
+abbrev FindsKeys : List Slot → Slot → Type 0
+FindsKeys slots slot = (key : List ℕ) → IsTrue (is_key slot.parameter key) → slot_of slots key ≡ Some slot
 
 some_found : (slots : List Slot) (key : List ℕ) (slot : Slot) → slot_of slots key ≡ Some slot → nat_eq (length slots) 0 ≡ false
 some_found [] key slot e = absurd (none-some slot e)
@@ -328,7 +337,7 @@ said_back led end place command is =
     let row_read : read_row with_translations rows end words ≡ Ok row =
     (λ i. ok_or (find (λ r. nat_eq (common_prefix_len is_spelled (form_of with_translations r).fixed (read_texts i)) (length (form_of with_translations r).fixed)) rows) stop)
     ∙ ap (λ o. ok_or o stop) (row_found led command more) in
-    let all_read = words_back slots slots (end_of place fixed) fields no_fields (keys_found with_translations row) is w.fresh in
+    let all_read = words_back slots slots (end_of place fixed) fields no_fields (keys_are_distinct with_translations row) is w.fresh in
     let fields_read : read_fields with_translations slots end (drop (length fixed) words) ≡ Ok fields =
     ap (λ ws. and_next (with_words with_translations slots ws no_fields) done) (drop_placed place fixed more) ∙ ap (λ r. and_next r done) (all_read ∙ ap Ok w.same) ∙ cond-true (is_complete slots fields) (Ok fields) (Err missing) w.complete in
     ap (λ r. and_next r goes) row_read ∙ ap (λ r. and_next r (made row)) fields_read

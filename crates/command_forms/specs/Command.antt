@@ -1,25 +1,15 @@
 -- Commands: which a line says, and the one written form.
-use Rattle.std.specs.Prelude.{ℕ, List, ◌++◌, filter_map, Option, Some, None, option_and_then, IsTrue, IfSome}
+use Rattle.std.specs.Prelude.{ℕ, List, ◌++◌, filter_map, Option, Some, None, option_and_then}
 use Rattle.std.specs.List.{All, join_with_byte}
-use Rattle.address_text.specs.Address.{IsAddress, IsOctetsOf}
-use Rattle.address_text.specs.Name.{IsNameText}
-use Rattle.address_text.specs.Prefix.{IsBlock}
-use Rattle.command_values.specs.Doi.{is_doi}
-use Rattle.command_values.specs.List.{AreEntries}
-use Rattle.command_values.specs.Pairs.{IsPairWithin}
-use Rattle.command_values.specs.Tags.{AreTags}
-use Rattle.command_values.specs.MapProtocol.{is_map_protocol}
-use Rattle.command_values.specs.Ranges.{IsMlsRange}
-use Rattle.command_forms.specs.declared.form.Parameter.{Parameter}
-use Rattle.command_forms.specs.declared.form.Parameter.TheVariants as Par
-use Rattle.command_forms.specs.declared.form.Row.{Row}
-use Rattle.command_forms.specs.declared.form.Row.TheVariants as In
-use Rattle.command_forms.specs.declared.fields.Fields.{Fields}
-use Rattle.command_forms.specs.declared.said.Said.{Said}
+use Rattle.line_forms.specs.declared.row.Row.{Row}
+use Rattle.line_forms.specs.declared.row.Row.TheVariants as In
+use Rattle.line_forms.specs.declared.fields.Fields.{Fields}
+use Rattle.line_forms.specs.declared.said.Said.{Said}
 use Rattle.command_forms.specs.declared.command.Command.{Command}
 use Rattle.command_forms.specs.declared.command.Command.TheVariants.{CipsoAddPass, CipsoAddTrans, CalipsoAddPass, CalipsoAddTrans, CipsoDel, CalipsoDel, CipsoList, CalipsoList, MapAdd, MapDel, MapList, AcceptOn, AcceptOff, UnlblAdd, UnlblDel, UnlblList, ReceiverAdd, ReceiverDel, RangeAdd, RangeDel, PairAdd, PairDel, MgmtVersion, MgmtProtocols}
-use Rattle.command_forms.specs.Form.{with_translations, form_of}
-use Rattle.command_forms.specs.Fields.{no_fields, word_of}
+use Rattle.line_forms.specs.Form.{with_translations, form_of}
+use Rattle.line_forms.specs.Fields.{no_fields}
+use Rattle.command_forms.specs.Value.{word_of, IsValue}
 
 -- what a value that must be there is used for
 abbrev pub given : {X Y : Type 0} → Option X → (X → Option Y) → Option Y
@@ -82,26 +72,6 @@ said_of (PairAdd four six) = says In.PairAdd (record no_fields { four = Some fou
 said_of (PairDel four) = says In.PairDel (record no_fields { four = Some four })
 said_of MgmtVersion = says In.MgmtVersion no_fields
 said_of MgmtProtocols = says In.MgmtProtocols no_fields
-
--- a parameter's value, where it is given, is one of its form
-abbrev pub IsValue : Parameter → Fields → Type 0
-IsValue Par.Doi f = IfSome f.doi (λ doi. IsTrue (is_doi doi))
-IsValue Par.Tags f = IfSome f.tags AreTags
-IsValue Par.Levels f = IfSome f.levels (AreEntries (IsPairWithin 255 255))
-IsValue Par.Categories f = IfSome f.categories (AreEntries (IsPairWithin 65534 65534))
-IsValue Par.Domain f = IfSome f.domain (λ domain. IfSome domain IsNameText)
-IsValue Par.Interface f = IfSome f.interface (λ interface. IfSome interface IsNameText)
-IsValue Par.Prefix f = IfSome f.prefix IsBlock
-IsValue Par.Protocol f = IfSome f.protocol (λ protocol. IsTrue (is_map_protocol protocol))
-IsValue Par.Label f = IfSome f.label IsMlsRange
-IsValue Par.Address f = IfSome f.address IsAddress
-IsValue Par.Home f = IfSome f.home IsNameText
-IsValue Par.Level f = IfSome f.level IsMlsRange
-IsValue Par.Range f = IfSome f.range IsMlsRange
-IsValue Par.Four f = IfSome f.four (IsOctetsOf 4)
-IsValue Par.Six f = IfSome f.six (IsOctetsOf 16)
-IsValue Par.ReadingLevels f = IfSome f.reading_levels (AreEntries (IsPairWithin 255 4294967295))
-IsValue Par.ReadingCategories f = IfSome f.reading_categories (AreEntries (IsPairWithin 65534 4294967295))
 
 -- what every command is that code has: each of its parameters has a value of its form
 abbrev pub IsCommand : Command → Type 0

@@ -1,5 +1,3 @@
-pub mod Form
-pub mod Fields
-pub mod Said
+pub mod Value
 pub mod Command
 pub mod inside

@@ -1,13 +1,16 @@
 //! A command's parameters, lent.
 
 ghost use Rattle.std.specs.Prelude.{◌≡◌, codes, IfOk, option_copied, option_map, if◌then◌else◌};
-ghost use Rattle.command_forms.specs.Form.{key_text};
-ghost use Rattle.command_forms.specs.Fields.{no_fields, is_default, is_given, key_by};
+ghost use Rattle.line_forms.specs.Form.{key_text};
+ghost use Rattle.line_forms.specs.Fields.{is_given};
+ghost use Rattle.command_forms.specs.Value.{is_default, key_by};
+ghost use Rattle.command_forms.specs.Command.{said_of};
 
-use crate::fields::Fields;
-use crate::form::Parameter;
+use crate::command::Command;
+use crate::copies::{copied_domain, copied_list, copied_name, copied_range, copied_tags};
 use address_text::{Address, Name, Prefix};
-use command_values::{CategoryPairs, CommaList, Doi, LevelPairs, ListEntry, MapProtocol, Tags};
+use command_values::{CategoryPairs, Doi, LevelPairs, MapProtocol, Tags};
+use line_forms::{Fields, Parameter};
 use mls_label::OutOfMemory;
 use mls_range::KeptRange;
 use std::alloc::Global;
@@ -34,7 +37,7 @@ pub(crate) struct Shown<'a> {
 }
 
 impl<'a> Model for Shown<'a> {
-    ghost use Rattle.command_forms.specs.declared.fields.Fields.{Fields};
+    ghost use Rattle.line_forms.specs.declared.fields.Fields.{Fields};
 
     ghost Value = { Fields };
 
@@ -44,26 +47,26 @@ impl<'a> Model for Shown<'a> {
 }
 
 impl<'a> Shown<'a> {
-    /// No parameter is given.
-    pub fn none() -> Shown<'a>
-        ensures { result ≡ no_fields }
+    /// The parameters of a command.
+    pub fn of(command: &'a Command) -> Shown<'a>
+        ensures { result ≡ (said_of command.now).fields }
     {
         Shown {
-            doi: None,
-            tags: None,
-            levels: None,
-            categories: None,
-            domain: None,
-            interface: None,
-            prefix: None,
-            protocol: None,
-            label: None,
-            address: None,
-            home: None,
-            level: None,
-            range: None,
-            four: None,
-            six: None,
+            doi: command.doi(),
+            tags: command.tags(),
+            levels: command.levels(),
+            categories: command.categories(),
+            domain: command.domain(),
+            interface: command.interface(),
+            prefix: command.prefix(),
+            protocol: command.protocol(),
+            label: command.label(),
+            address: command.address(),
+            home: command.home(),
+            level: command.level(),
+            range: command.range(),
+            four: command.four(),
+            six: command.six(),
         }
     }
 
@@ -135,52 +138,5 @@ fn key_of(domain: Option<Option<&Name>>, parameter: Parameter) -> &'static str
     match domain {
         Some(None) => "default",
         _ => parameter.key(),
-    }
-}
-
-fn copied_tags(tags: Option<&Tags>) -> Result<Option<Tags>, OutOfMemory>
-    ensures { IfOk result (λ copy. copy ≡ option_copied tags.entry) }
-{
-    match tags {
-        Some(tags) => Ok(Some(tags.copy()?)),
-        None => Ok(None),
-    }
-}
-
-fn copied_list<E: ListEntry>(
-    list: Option<&CommaList<E>>,
-) -> Result<Option<CommaList<E>>, OutOfMemory>
-    ensures { IfOk result (λ copy. copy ≡ option_copied list.entry) }
-{
-    match list {
-        Some(list) => Ok(Some(list.copy()?)),
-        None => Ok(None),
-    }
-}
-
-fn copied_range(alloc: Global, range: Option<&KeptRange>) -> Result<Option<KeptRange>, OutOfMemory>
-    ensures { IfOk result (λ copy. copy ≡ option_copied range.entry) }
-{
-    match range {
-        Some(range) => Ok(Some(range.copy(alloc)?)),
-        None => Ok(None),
-    }
-}
-
-fn copied_name(name: Option<&Name>) -> Option<Name>
-    ensures { result ≡ option_copied name.entry }
-{
-    match name {
-        Some(name) => Some(name.copy()),
-        None => None,
-    }
-}
-
-fn copied_domain(domain: Option<Option<&Name>>) -> Option<Option<Name>>
-    ensures { result ≡ option_map option_copied domain.entry }
-{
-    match domain {
-        Some(name) => Some(copied_name(name)),
-        None => None,
     }
 }

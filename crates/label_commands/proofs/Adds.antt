@@ -16,8 +16,8 @@ use Rattle.script_lines.specs.Stop.{fault, and_next}
 use Rattle.address_text.specs.Name.{is_name, name_of_text}
 use Rattle.node_readings.specs.Reading.{NamedMeanings}
 use Rattle.command_forms.specs.declared.command.Command.{Command}
-use Rattle.command_forms.specs.declared.said.Said.{Said}
-use Rattle.command_forms.specs.Form.{Edition}
+use Rattle.line_forms.specs.declared.said.Said.{Said}
+use Rattle.line_forms.specs.Form.{Edition}
 use Rattle.command_forms.specs.Command.{command_of}
 use Rattle.flow_lines.specs.declared.flow.FlowLine.{FlowLine}
 use Rattle.flow_lines.specs.Flow.{read_flow}

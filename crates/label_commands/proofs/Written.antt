@@ -16,14 +16,14 @@ use Rattle.script_lines.specs.Octet.{is_blank, is_plain}
 use Rattle.script_lines.specs.Word.{LineWord, placed, words_of_line}
 use Rattle.script_lines.specs.Stop.{fault, and_next}
 use Rattle.script_lines.proofs.Law.{plain_octets_are_a_line}
-use Rattle.command_forms.specs.declared.form.Row.{Row}
-use Rattle.command_forms.specs.declared.form.Row.TheVariants.{CipsoAddPass, CipsoAddTrans, CalipsoAddPass, CipsoDel, CalipsoDel, CipsoList, CalipsoList, MapAdd, MapDel, MapList, AcceptOn, AcceptOff, UnlblAdd, UnlblDel, UnlblList, ReceiverAdd, ReceiverDel, RangeAdd, RangeDel, PairAdd, PairDel, MgmtVersion, MgmtProtocols, CalipsoAddTrans, Reading}
-use Rattle.command_forms.specs.declared.said.Said.{Said}
+use Rattle.line_forms.specs.declared.row.Row.{Row}
+use Rattle.line_forms.specs.declared.row.Row.TheVariants.{CipsoAddPass, CipsoAddTrans, CalipsoAddPass, CipsoDel, CalipsoDel, CipsoList, CalipsoList, MapAdd, MapDel, MapList, AcceptOn, AcceptOff, UnlblAdd, UnlblDel, UnlblList, ReceiverAdd, ReceiverDel, RangeAdd, RangeDel, PairAdd, PairDel, MgmtVersion, MgmtProtocols, CalipsoAddTrans, Reading}
+use Rattle.line_forms.specs.declared.said.Said.{Said}
 use Rattle.command_forms.specs.declared.command.Command.{Command}
 use Rattle.command_forms.specs.declared.command.Command.TheVariants as Do
-use Rattle.command_forms.specs.Form.{with_translations, form_of, line_rows}
-use Rattle.command_forms.specs.Fields.{word_of}
-use Rattle.command_forms.specs.Said.{read_said}
+use Rattle.line_forms.specs.Form.{with_translations, form_of, line_rows}
+use Rattle.command_forms.specs.Value.{word_of}
+use Rattle.line_forms.specs.Said.{read_said}
 use Rattle.command_forms.specs.Command.{command_of, said_of, texts_of_said, command_text, IsCommand}
 use Rattle.command_forms.proofs.Law.{commands_are_what_they_say, written_command_has_its_words, written_command_is_plain, written_command_reads_back}
 use Rattle.label_commands.specs.Above.{Above, with_step}

@@ -6,7 +6,7 @@ ghost use Rattle.std.specs.Str.Lines.{lines};
 ghost use Rattle.script_lines.specs.declared.stop.LimitName.TheVariants.{Lines};
 ghost use Rattle.script_lines.specs.Octet.{is_blank};
 ghost use Rattle.command_forms.specs.declared.command.Command.{Command as NodeCommand};
-ghost use Rattle.command_forms.specs.Form.{Edition, with_labels, with_ranges, with_translations};
+ghost use Rattle.line_forms.specs.Form.{Edition, with_labels, with_ranges, with_translations};
 ghost use Rattle.command_forms.specs.Command.{command_text, IsCommand};
 ghost use Rattle.label_commands.specs.declared.script.Script.{Script};
 ghost use Rattle.label_commands.specs.declared.stop.ScriptFault.{ScriptFault};

@@ -4,7 +4,8 @@ ghost use Rattle.std.specs.Prelude.{◌<◌};
 
 use super::*;
 use address_text::{Name, read_name};
-use command_forms::{Step, command_of, read_said};
+use command_forms::{Step, command_of};
+use line_forms::read_said;
 use mls_range::read_label;
 use node_tables::Network;
 use packet_label::{Denial, Stop};

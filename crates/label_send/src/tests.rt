@@ -5,7 +5,8 @@ ghost use Rattle.std.specs.Prelude.{◌<◌};
 
 use super::*;
 use address_text::{Name, read_name};
-use command_forms::{Command, Step, command_of, read_said};
+use command_forms::{Command, Step, command_of};
+use line_forms::read_said;
 use mls_label::Label;
 use mls_range::read_label;
 use node_tables::{Network, Reply};

@@ -10,7 +10,7 @@ use Rattle.net_io.specs.Sink.{SinkState}
 use Rattle.net_io.specs.declared.fault.IoFault.{IoFault}
 use Rattle.script_lines.specs.declared.stop.LimitName.TheVariants.{Octets}
 use Rattle.command_forms.specs.declared.command.Step.{Step}
-use Rattle.command_forms.specs.Form.{with_translations}
+use Rattle.line_forms.specs.Form.{with_translations}
 use Rattle.label_commands.specs.declared.script.Script.{Script}
 use Rattle.label_commands.specs.declared.stop.ScriptStop.{ScriptStop}
 use Rattle.label_commands.specs.declared.stop.ScriptStop.TheVariants as stop

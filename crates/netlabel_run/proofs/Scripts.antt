@@ -6,7 +6,7 @@ use Rattle.std.proofs.lemmas.List.{append-nil, length-replicate}
 use Rattle.net_io.specs.Depot.{octets_of}
 use Rattle.net_io.specs.Faults.{Rose}
 use Rattle.script_lines.specs.declared.stop.LimitName.TheVariants.{Octets}
-use Rattle.command_forms.specs.Form.{with_translations}
+use Rattle.line_forms.specs.Form.{with_translations}
 use Rattle.label_commands.specs.declared.script.Script.{Script}
 use Rattle.label_commands.specs.declared.stop.ScriptStop.{ScriptStop}
 use Rattle.label_commands.specs.declared.stop.ScriptStop.TheVariants as stop

@@ -1,6 +1,6 @@
 -- What `check` says of a text: the replies to all steps of a script and how much it has, or why the text is no script.
 use Rattle.std.specs.Prelude.{ℕ, List, ◌++◌, length, Result}
-use Rattle.command_forms.specs.Form.{with_translations}
+use Rattle.line_forms.specs.Form.{with_translations}
 use Rattle.label_commands.specs.declared.script.Script.{Script}
 use Rattle.label_commands.specs.declared.stop.ScriptStop.{ScriptStop}
 use Rattle.label_commands.specs.declared.stop.ScriptStop.TheVariants as stop

@@ -7,8 +7,9 @@ ghost use Rattle.shared_tables.specs.Plan.{network_after};
 
 use super::*;
 use address_text::{read_name, write_address};
-use command_forms::{Step, command_of, read_said};
+use command_forms::{Step, command_of};
 use flow_lines::{FlowLine, Flows, NodeNames, read_flow};
+use line_forms::read_said;
 use mls_range::write_label;
 use node_tables::Network;
 use packet_label::Carrier;

@@ -1,6 +1,6 @@
 -- A command's parameters as they are lent.
 use Rattle.std.specs.Prelude.{None, option_copied, option_map}
-use Rattle.command_forms.specs.declared.fields.Fields.{Fields}
+use Rattle.line_forms.specs.declared.fields.Fields.{Fields}
 use Rattle.command_forms.specs.declared.shown.Shown.TheInside.{Inside}
 
 abbrev pub seen : Inside → Fields

@@ -1,9 +1,9 @@
 -- The words of parameters as they are appended.
 use Rattle.std.specs.Prelude.{ℕ, List, [], ◌∷◌, Option, Some, None}
 use Rattle.std.specs.List.{flat_map}
-use Rattle.command_forms.specs.declared.form.Slot.{Slot}
-use Rattle.command_forms.specs.declared.fields.Fields.{Fields}
-use Rattle.command_forms.specs.Fields.{word_of}
+use Rattle.line_forms.specs.declared.form.Slot.{Slot}
+use Rattle.line_forms.specs.declared.fields.Fields.{Fields}
+use Rattle.command_forms.specs.Value.{word_of}
 
 -- a word behind a space, where there is one
 abbrev pub behind_space : Option (List ℕ) → List ℕ

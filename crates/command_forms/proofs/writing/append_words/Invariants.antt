@@ -1,5 +1,5 @@
 use Rattle.std.proofs.Common.{◌≡◌, ◌++◌, All, length}
-use Rattle.command_forms.specs.Command.{IsValue}
+use Rattle.command_forms.specs.Value.{IsValue}
 use Rattle.command_forms.specs.inside.Extends.{Extends}
 use Rattle.command_forms.specs.inside.Written.{spaced_words}
 use Rattle.command_forms.proofs.writing.append_words.Given as goal
