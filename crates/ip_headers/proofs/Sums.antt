@@ -75,3 +75,14 @@ four_words total [] long = absurd (omega arith)
 four_words total (a ∷ []) long = absurd (omega arith)
 four_words total (a ∷ b ∷ []) long = absurd (omega arith)
 four_words total (a ∷ b ∷ c ∷ []) long = absurd (omega arith)
+
+-- the same of two such numbers
+pub eight_words : (total : ℕ) (s : List ℕ) → 8 ≤ length s
+    → modulo (total + from_be_bytes w32 (get_or s 0 0 ∷ get_or s 1 0 ∷ get_or s 2 0 ∷ get_or s 3 0 ∷ [])
+    + from_be_bytes w32 (get_or s 4 0 ∷ get_or s 5 0 ∷ get_or s 6 0 ∷ get_or s 7 0 ∷ []) + sum (words_of (drop 8 s))) ≡ modulo (total + sum (words_of s))
+eight_words total (a ∷ b ∷ c ∷ d ∷ s) long =
+    four_words (total + from_be_bytes w32 (a ∷ b ∷ c ∷ d ∷ [])) s (omega arith) ∙ four_words total (a ∷ b ∷ c ∷ d ∷ s) (omega arith)
+eight_words total [] long = absurd (omega arith)
+eight_words total (a ∷ []) long = absurd (omega arith)
+eight_words total (a ∷ b ∷ []) long = absurd (omega arith)
+eight_words total (a ∷ b ∷ c ∷ []) long = absurd (omega arith)

@@ -34,6 +34,8 @@ fn split(version: Version, bytes: &[u8]) -> Result<(&[u8], &[u8]), HeadFault>
 }
 
 /// The parts of the packet at the front of the octets, and the place of its second label option.
+// Always inlined, as its callers are: then parts are made where they stay, by the code of one version alone.
+#[inline(always)]
 fn scan(version: Version, bytes: &[u8]) -> Result<(Parts<'_>, Option<usize>), HeadFault>
     ensures ok { IfOk result (λ x. IsScanned version bytes.now x.0 x.1) }
     ensures err { IfErr result (λ fault. FailsBoth version bytes.now fault) }
@@ -53,6 +55,7 @@ fn scan(version: Version, bytes: &[u8]) -> Result<(Parts<'_>, Option<usize>), He
 }
 
 /// Reads the packet at the front of the octets; a second label option is the last fault.
+#[inline(always)]
 pub fn read(version: Version, bytes: &[u8]) -> Result<Parts<'_>, HeadFault>
     ensures ok { IfOk result (λ parts. Holds version parts × (packet_of version bytes.now ≡ Ok (view_of version parts))) }
     ensures err { IfErr result (λ fault. packet_of version bytes.now ≡ Err fault) }
@@ -65,6 +68,7 @@ pub fn read(version: Version, bytes: &[u8]) -> Result<Parts<'_>, HeadFault>
 }
 
 /// Reads as `read` does, but allows a second label option.
+#[inline(always)]
 pub fn front(version: Version, bytes: &[u8]) -> Result<Parts<'_>, HeadFault>
     ensures ok { IfOk result (λ parts. Holds version parts × (front_of version bytes.now ≡ Ok (view_of version parts))) }
     ensures err { IfErr result (λ fault. front_of version bytes.now ≡ Err fault) }

@@ -4,7 +4,7 @@ ghost use Rattle.std.specs.Prelude.{◌≡◌, ℕ, ◌+◌, ◌^◌, ◌<◌, �
 ghost use Rattle.ip_headers.specs.Sum.{ones_add, ones_sum, words_of};
 ghost use Rattle.ip_headers.specs.inside.Modulo.{modulo};
 
-/// A multiple of 65,535 that a number of 32 bits can be added to.
+/// A multiple of 65,535 that numbers of 32 bits can be added to.
 const MULTIPLE: u64 = 0xffff_0000_0000;
 
 /// The one's complement sum of two numbers of 16 bits: a carry out of them comes in again below (RFC 791, section 3.1).
@@ -25,25 +25,39 @@ pub fn ones_sum(octets: &[u8]) -> u16
 {
     let mut total = 0;
     let mut rest = octets;
-    while let [a, b, c, d, after @ ..] = rest {
-        total = with_four(total, u32::from_be_bytes([*a, *b, *c, *d]));
+    while let [a, b, c, d, e, f, g, h, after @ ..] = rest {
+        let first = u32::from_be_bytes([*a, *b, *c, *d]);
+        let second = u32::from_be_bytes([*e, *f, *g, *h]);
+        total = with_eight(total, first, second);
         rest = after;
     }
     modulo(total + last_sum(rest))
 }
 
-/// A sum with a number of 32 bits more, or what it is modulo a multiple of 65,535, so that no sum is too large.
-fn with_four(total: u64, four: u32) -> u64
+/// A sum with two numbers of 32 bits more, or what it is modulo a multiple of 65,535, so that no sum is too large.
+fn with_eight(total: u64, first: u32, second: u32) -> u64
     requires { total ≤ MULTIPLE }
-    ensures same { (more : ℕ) → modulo (result + more) ≡ modulo (total + four + more) }
+    ensures same { (more : ℕ) → modulo (result + more) ≡ modulo (total + first + second + more) }
     ensures small { result ≤ MULTIPLE }
 {
-    let sum = total + u64::from(four);
+    let sum = total + (u64::from(first) + u64::from(second));
     if sum > MULTIPLE { sum - MULTIPLE } else { sum }
 }
 
-/// The sum of the numbers of 16 bits that fewer than four octets are.
+/// What fewer than eight octets add to a sum that is taken modulo 65,535.
 fn last_sum(octets: &[u8]) -> u64
+    requires { length octets.now < 8 }
+    ensures value { (total : ℕ) → modulo (total + result) ≡ modulo (total + sum (words_of octets.now)) }
+    ensures small { result < 2 ^ 33 }
+{
+    let [a, b, c, d, after @ ..] = octets else {
+        return few_sum(octets);
+    };
+    u64::from(u32::from_be_bytes([*a, *b, *c, *d])) + few_sum(after)
+}
+
+/// The sum of the numbers of 16 bits that fewer than four octets are.
+fn few_sum(octets: &[u8]) -> u64
     requires { length octets.now < 4 }
     ensures value { result ≡ sum (words_of octets.now) }
     ensures small { result < 2 ^ 17 }

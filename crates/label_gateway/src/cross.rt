@@ -14,6 +14,7 @@ ghost use Rattle.label_gateway.specs.Crossing.{crossed_under};
 ghost use Rattle.label_gateway.specs.inside.Crossing.{Crosses};
 ghost use Rattle.label_gateway.specs.inside.Going.{CanCrossOut};
 
+use arrayvec::ArrayVec;
 use ip_headers::{Packet4, Packet6};
 use label_send::{calipso_for, cipso_for};
 use mls_label::Label;
@@ -50,8 +51,9 @@ pub fn cross_to_six(
     if let Some(cause) = crossable4(view) {
         return Err(Stop::Denied(Denial::NotCrossable { cause }));
     }
-    match calipso_for(tables, doi, label, wire) {
-        Ok(option) => write_six(view, source, destination, &option, hops, out),
+    let mut option = ArrayVec::new();
+    match calipso_for(tables, doi, label, wire, &mut option) {
+        Ok(()) => write_six(view, source, destination, &option, hops, out),
         Err(why) => Err(Stop::Denied(why)),
     }
 }
@@ -85,8 +87,9 @@ pub fn cross_to_four(
     if let Some(cause) = crossable6(view) {
         return Err(Stop::Denied(Denial::NotCrossable { cause }));
     }
-    match cipso_for(tables, doi, label, wire) {
-        Ok(option) => write_four(view, source, destination, &option, hops, out),
+    let mut option = ArrayVec::new();
+    match cipso_for(tables, doi, label, wire, &mut option) {
+        Ok(()) => write_four(view, source, destination, &option, hops, out),
         Err(why) => Err(Stop::Denied(why)),
     }
 }

@@ -1,5 +1,5 @@
 -- Which labels an option can say, and what goes out then.
-use Rattle.std.proofs.Common.{◌≡◌, ℕ, ◌<◌, ◌↔◌, Bool, true, false, List, [], ◌∷◌, Some, Ok, Err, IsTrue, cond, refl, sym, ap, subst, ◌∙◌, inl, inr}
+use Rattle.std.proofs.Common.{◌≡◌, ℕ, ◌<◌, ◌↔◌, Bool, true, false, List, [], ◌∷◌, Some, None, Ok, Err, IsTrue, cond, refl, sym, ap, subst, ◌∙◌, inl, inr}
 use Rattle.std.specs.Prelude.{nat_eq, nat_le, if◌then◌else◌}
 use Rattle.std.specs.List.{list_all}
 use Rattle.std.proofs.lemmas.Option.{none-some, same_Some}
@@ -12,14 +12,14 @@ use Rattle.mls_label.specs.Cats.{has}
 use Rattle.cipso_tags.specs.Text.{fits, Fits, first_tag_of}
 use Rattle.calipso_option.specs.Text.{IsExpressible}
 use Rattle.doi_table.specs.declared.plan.DoiPlan.{DoiPlan}
+use Rattle.doi_table.specs.declared.unmapped.Unmapped.{Unmapped}
 use Rattle.doi_table.specs.Table.{Entries, definition_of}
 use Rattle.doi_table.specs.Translation.{wire_label}
-use Rattle.domain_map.specs.declared.protocol.Protocol.TheVariants.{Cipso, Calipso}
 use Rattle.domain_map.specs.Domains.{Domains}
 use Rattle.node_tables.specs.Coherence.{IsCoherent}
 use Rattle.packet_label.specs.declared.packet.Wire.TheVariants as wire
 use Rattle.packet_label.specs.declared.denial.Denial.TheVariants.{Inexpressible}
-use Rattle.label_send.specs.Outgoing.{cipso_with, cipso_said, cipso_by, is_in_words, calipso_said, calipso_by, outgoing}
+use Rattle.label_send.specs.Outgoing.{is_in_words, calipso_said}
 
 -- ---- CALIPSO
 
@@ -50,15 +50,12 @@ not_in_words label answer never tells = by_test (is_in_words label) refl where
   by_test false e = refl
   by_test true e = absurd (false≢true (sym never ∙ tells.1 (expressible label e)))
 
-pub calipso_goes : (definitions : Entries) (doi : ℕ) (label out : Label) (plan : DoiPlan) → definition_of definitions Of.Calipso doi ≡ Some plan → wire_label plan label ≡ Ok out → is_in_words out ≡ true
-    → outgoing definitions (Calipso doi) label ≡ Ok (Some (wire.Calipso 42 doi out))
-calipso_goes definitions doi label out plan defined said words =
-    ap (calipso_by doi label) defined ∙ ap (calipso_said doi) said ∙ ap (λ b. if b then Ok (Some (wire.Calipso 42 doi out)) else Err Inexpressible) words
+-- what the test makes of a label on the wire
+pub calipso_goes : (doi : ℕ) (out : Label) → is_in_words out ≡ true → calipso_said doi (Ok out) ≡ Ok (Some (wire.Calipso 42 doi out))
+calipso_goes doi out words = ap (λ b. if b then Ok (Some (wire.Calipso 42 doi out)) else Err Inexpressible) words
 
-pub calipso_stays : (definitions : Entries) (doi : ℕ) (label out : Label) (plan : DoiPlan) → definition_of definitions Of.Calipso doi ≡ Some plan → wire_label plan label ≡ Ok out → is_in_words out ≡ false
-    → outgoing definitions (Calipso doi) label ≡ Err Inexpressible
-calipso_stays definitions doi label out plan defined said words =
-    ap (calipso_by doi label) defined ∙ ap (calipso_said doi) said ∙ ap (λ b. if b then Ok (Some (wire.Calipso 42 doi out)) else Err Inexpressible) words
+pub calipso_stays : (doi : ℕ) (out : Label) → is_in_words out ≡ false → calipso_said doi (Ok out) ≡ Err Inexpressible
+calipso_stays doi out words = ap (λ b. if b then Ok (Some (wire.Calipso 42 doi out)) else Err Inexpressible) words
 
 -- ---- CIPSO
 
@@ -69,14 +66,3 @@ tag_fits (t ∷ tags) label tag found = by_test (fits t label) refl found (tag_f
   by_test : (b : Bool) → fits t label ≡ b → cond b (Some t) (first_tag_of tags label) ≡ Some tag → (first_tag_of tags label ≡ Some tag → Fits tag label) → Fits tag label
   by_test true e first later = subst (λ x. Fits x label) (same_Some _ _ first) e
   by_test false e first later = later first
-
-pub cipso_goes : (definitions : Entries) (doi : ℕ) (label out : Label) (plan : DoiPlan) (tag : Tag) → definition_of definitions Of.Cipso doi ≡ Some plan → wire_label plan label ≡ Ok out → first_tag_of plan.tags out ≡ Some tag
-    → outgoing definitions (Cipso doi) label ≡ Ok (Some (wire.Cipso 20 doi tag out))
-cipso_goes definitions doi label out plan tag defined said first =
-    ap (cipso_by doi label) defined ∙ ap (cipso_said doi plan.tags) said ∙ ap (cipso_with doi out) first
-
--- ---- DOIs
-
--- a DOI that is defined isn't 0
-pub named : (definitions : Entries) (domains : Domains) (proto : Proto) (doi : ℕ) (plan : DoiPlan) → IsCoherent definitions domains → definition_of definitions proto doi ≡ Some plan → 0 < doi
-named definitions domains proto doi plan coherent defined = coherent.positive proto doi (rw defined refl)

@@ -1,8 +1,8 @@
 -- A packet that is written with what goes out under a protocol.
-use Rattle.std.proofs.Common.{◌≡◌, ℕ, Bool, true, false, List, Option, Some, None, Result, Ok, Err, Bor, refl, sym, ap, subst, ◌∙◌}
-use Rattle.std.specs.Prelude.{nat_lt, IfSome, if◌then◌else◌}
+use Rattle.std.proofs.Common.{◌≡◌, ℕ, Bool, true, false, List, Option, Some, None, Result, Ok, Err, refl, sym, ap, subst, ◌∙◌}
+use Rattle.std.specs.Prelude.{nat_lt, if◌then◌else◌}
 use Rattle.std.proofs.lemmas.Bool.{false≢true}
-use Rattle.std.specs.Option.{option_map, option_copied}
+use Rattle.std.specs.Option.{option_map}
 use Rattle.domain_map.specs.declared.protocol.Protocol.{Protocol}
 use Rattle.domain_map.specs.declared.protocol.Protocol.TheVariants.{Unlbl, Cipso, Calipso}
 use Rattle.ip_headers.specs.declared.version.Version.{Version}
@@ -16,13 +16,10 @@ use Rattle.packet_label.specs.declared.denial.Denial.{Denial}
 use Rattle.packet_label.specs.declared.denial.Denial.TheVariants.{NoRoom, TooLong}
 use Rattle.packet_label.specs.declared.denial.Stop.{Stop}
 use Rattle.packet_label.specs.declared.denial.Stop.TheVariants.{Denied, OutOfMemory}
-use Rattle.packet_label.specs.declared.option.WireOption.{WireOption}
-use Rattle.packet_label.specs.declared.option.WireOption.TheVariants as octets
-use Rattle.packet_label.specs.Option.{Suits, rebuilt, written_octets}
 use Rattle.packet_label.specs.Packet.{IsOfItsVersion, headers_of, version_of}
 use Rattle.packet_label.specs.Written.{wire_text, written}
 use Rattle.packet_label.proofs.Law.{written_options_suit_their_version}
-use Rattle.label_send.specs.Outgoing.{CanGoOut, suits, IsExpressed}
+use Rattle.label_send.specs.Outgoing.{suits, IsExpressed}
 use Rattle.label_send.specs.Room.{within_room, sent_saying}
 use Rattle.label_send.specs.Answer.{Answers, packet_alone}
 use Rattle.label_send.specs.inside.Option.{IsOutgoing}
@@ -34,52 +31,27 @@ use Rattle.label_send.specs.inside.Write.{room_denial, Writes}
 pub text_suits : (v : Version) (out : Result (Option Wire) Denial) (text : List ℕ) → IsExpressed v out text → IsLabelOption v text
 text_suits v out text is = subst (IsLabelOption v) (sym is.text) (written_options_suit_their_version v is.said is.can).0
 
-pub suits_packet : (packet : Packet) (protocol : Protocol) (out : Result (Option Wire) Denial) (option : Option WireOption)
-    → suits (version_of packet) protocol ≡ true → IsOutgoing protocol out option → IfSome option (Suits packet)
-suits_packet packet Unlbl out None fits is = tt
-suits_packet packet Unlbl out (Some o) fits is = absurd is
-suits_packet (V4 h) (Cipso doi) out (Some (octets.Cipso text)) fits is = text_suits version.V4 out text.items is
-suits_packet (V6 h) (Calipso doi) out (Some (octets.Calipso text)) fits is = text_suits version.V6 out text.items is
-suits_packet (V6 h) (Cipso doi) out option fits is = absurd (false≢true fits)
-suits_packet (V4 h) (Calipso doi) out option fits is = absurd (false≢true fits)
-suits_packet (V4 h) (Cipso doi) out None fits is = absurd is
-suits_packet (V4 h) (Cipso doi) out (Some (octets.Calipso text)) fits is = absurd is
-suits_packet (V6 h) (Calipso doi) out None fits is = absurd is
-suits_packet (V6 h) (Calipso doi) out (Some (octets.Cipso text)) fits is = absurd is
-
--- the same behind references
-pub behind : {T : Type 0} (P : T → Type 0) (o : Option (Bor T)) (x : Option T) → option_copied o ≡ x → IfSome x P → IfSome o (λ r. P r.now)
-behind P None x e has = tt
-behind P (Some r) x e has = subst (λ y. IfSome y P) (sym e) has
+pub suits_packet : (packet : Packet) (protocol : Protocol) (out : Result (Option Wire) Denial) (text : List ℕ)
+    → suits (version_of packet) protocol ≡ true → IsOutgoing protocol out (Some text) → IsLabelOption (version_of packet) text
+suits_packet packet Unlbl out text fits is = absurd is
+suits_packet (V4 h) (Cipso doi) out text fits is = text_suits version.V4 out text is
+suits_packet (V6 h) (Calipso doi) out text fits is = text_suits version.V6 out text is
+suits_packet (V6 h) (Cipso doi) out text fits is = absurd (false≢true fits)
+suits_packet (V4 h) (Calipso doi) out text fits is = absurd (false≢true fits)
 
 -- what goes out, and that the option's octets are its written form
-record GoesOut (out : Result (Option Wire) Denial) (option : Option WireOption) : Type 0 where
+record GoesOut (out : Result (Option Wire) Denial) (option : Option (List ℕ)) : Type 0 where
   said : Option Wire
   is : out ≡ Ok said
-  text : option_map written_octets option ≡ option_map wire_text said
+  text : option ≡ option_map wire_text said
 
-goes_out : (protocol : Protocol) (out : Result (Option Wire) Denial) (option : Option WireOption) → IsOutgoing protocol out option → GoesOut out option
+goes_out : (protocol : Protocol) (out : Result (Option Wire) Denial) (option : Option (List ℕ)) → IsOutgoing protocol out option → GoesOut out option
 goes_out Unlbl out None is = record { said = None; is = is; text = refl }
 goes_out Unlbl out (Some o) is = absurd is
 goes_out (Cipso doi) out None is = absurd is
-goes_out (Cipso doi) out (Some (octets.Cipso text)) is = record { said = Some is.said; is = is.is; text = ap Some is.text }
-goes_out (Cipso doi) out (Some (octets.Calipso text)) is = absurd is
+goes_out (Cipso doi) out (Some text) is = record { said = Some is.said; is = is.is; text = ap Some is.text }
 goes_out (Calipso doi) out None is = absurd is
-goes_out (Calipso doi) out (Some (octets.Cipso text)) is = absurd is
-goes_out (Calipso doi) out (Some (octets.Calipso text)) is = record { said = Some is.said; is = is.is; text = ap Some is.text }
-
--- an option that is there says what goes out
-pub goes_out_said : (version : Version) (protocol : Protocol) (out : Result (Option Wire) Denial) (option : Option WireOption) → suits version protocol ≡ true → IsOutgoing protocol out option → CanGoOut version out
-goes_out_said v Unlbl out None fits is = subst (CanGoOut v) (sym is) tt
-goes_out_said v Unlbl out (Some o) fits is = absurd is
-goes_out_said version.V4 (Cipso doi) out (Some (octets.Cipso text)) fits is = subst (CanGoOut version.V4) (sym is.is) is.can
-goes_out_said version.V6 (Calipso doi) out (Some (octets.Calipso text)) fits is = subst (CanGoOut version.V6) (sym is.is) is.can
-goes_out_said version.V6 (Cipso doi) out option fits is = absurd (false≢true fits)
-goes_out_said version.V4 (Calipso doi) out option fits is = absurd (false≢true fits)
-goes_out_said version.V4 (Cipso doi) out None fits is = absurd is
-goes_out_said version.V4 (Cipso doi) out (Some (octets.Calipso text)) fits is = absurd is
-goes_out_said version.V6 (Calipso doi) out None fits is = absurd is
-goes_out_said version.V6 (Calipso doi) out (Some (octets.Cipso text)) fits is = absurd is
+goes_out (Calipso doi) out (Some text) is = record { said = Some is.said; is = is.is; text = ap Some is.text }
 
 -- ---- the room
 
@@ -101,13 +73,13 @@ answered p (Ok done) out w = (p, room_rule p ∙ ap (or_packet p) w.0, w.1)
 answered p (Err (Denied why)) out w = (room_rule p ∙ ap (or_packet p) w.0, w.1)
 answered p (Err OutOfMemory) out w = w
 
-pub sent_so : (packet : Packet) (protocol : Protocol) (out : Result (Option Wire) Denial) (option : Option WireOption) (hops : ℕ) (result : Result (Unit {0}) Stop) (text : List ℕ)
-    → IsOfItsVersion packet → IsOutgoing protocol out option → Writes (version_of packet) (rebuilt packet option hops) result text
+pub sent_so : (packet : Packet) (protocol : Protocol) (out : Result (Option Wire) Denial) (option : Option (List ℕ)) (hops : ℕ) (result : Result (Unit {0}) Stop) (text : List ℕ)
+    → IsOfItsVersion packet → IsOutgoing protocol out option → Writes (version_of packet) (rewritten (headers_of packet) option hops) result text
     → Answers packet_alone (sent_saying (headers_of packet) hops out) result text
 sent_so packet protocol out option hops result text own is w =
     let h = headers_of packet in
     let g = goes_out protocol out option is in
     let p : ParsedPacket Wire = relabelled h g.said hops in
-    let at_version : Writes p.version (rebuilt packet option hops) result text = subst (λ v. Writes v (rebuilt packet option hops) result text) (sym own) w in
+    let at_version : Writes p.version (rewritten (headers_of packet) option hops) result text = subst (λ v. Writes v (rewritten (headers_of packet) option hops) result text) (sym own) w in
     let as_written : Writes p.version (written p) result text = subst (λ o. Writes p.version (rewritten h o hops) result text) g.text at_version in
     subst (λ r. Answers packet_alone (sent_saying h hops r) result text) (sym g.is) (answered p result text as_written)

@@ -2,8 +2,8 @@
 
 ghost use Rattle.std.specs.Prelude.{◌≡◌, [], IfSome, IsTrue};
 ghost use Rattle.std.specs.Option.{option_copied};
+ghost use Rattle.ip_headers.specs.Written.{IsLabelOption, rewritten};
 ghost use Rattle.packet_label.specs.declared.denial.Stop.TheVariants.{Denied};
-ghost use Rattle.packet_label.specs.Option.{Suits, rebuilt};
 ghost use Rattle.packet_label.specs.Packet.{IsOfItsVersion, headers_of, version_of};
 ghost use Rattle.label_send.specs.Outgoing.{CanGoOut, outgoing, suits};
 ghost use Rattle.label_send.specs.Room.{sent_under};
@@ -11,11 +11,12 @@ ghost use Rattle.label_send.specs.Answer.{Answers, packet_alone};
 ghost use Rattle.label_send.specs.inside.Write.{Writes};
 
 use crate::option::{calipso_for, cipso_for};
+use arrayvec::ArrayVec;
 use domain_map::Protocol;
 use ip_headers::Rebuild;
 use mls_label::Label;
 use node_tables::Tables;
-use packet_label::{Denial, Packet, Stop, WireOption, relabel};
+use packet_label::{Denial, Packet, Stop, relabel_with};
 
 /// Writes the packet with this label of the node under a protocol of its map, and with these hops: `out` becomes exactly that packet,
 /// whose old label option is gone. The label that is lent becomes any label.
@@ -38,17 +39,22 @@ pub fn send_under(
         result out.new.items }
     ensures said { CanGoOut (version_of packet.now) (outgoing tables.now.definitions protocol label.now) }
 {
-    // Each option is made where it is lent: one that holds either protocol's would be 260 octets to move.
     match protocol {
         Protocol::Unlbl => rewrite(packet, None, hops, out),
-        Protocol::Cipso { doi } => match cipso_for(tables, doi, label, wire) {
-            Ok(octets) => rewrite(packet, Some(&WireOption::Cipso(octets)), hops, out),
-            Err(why) => Err(denied(why, out)),
-        },
-        Protocol::Calipso { doi } => match calipso_for(tables, doi, label, wire) {
-            Ok(octets) => rewrite(packet, Some(&WireOption::Calipso(octets)), hops, out),
-            Err(why) => Err(denied(why, out)),
-        },
+        Protocol::Cipso { doi } => {
+            let mut option = ArrayVec::new();
+            match cipso_for(tables, doi, label, wire, &mut option) {
+                Ok(()) => rewrite(packet, Some(&option), hops, out),
+                Err(why) => Err(denied(why, out)),
+            }
+        }
+        Protocol::Calipso { doi } => {
+            let mut option = ArrayVec::new();
+            match calipso_for(tables, doi, label, wire, &mut option) {
+                Ok(()) => rewrite(packet, Some(&option), hops, out),
+                Err(why) => Err(denied(why, out)),
+            }
+        }
     }
 }
 
@@ -62,16 +68,11 @@ pub(crate) fn denied(why: Denial, out: &mut Vec<u8>) -> Stop
 }
 
 // The packet with this option, or none, and these hops.
-fn rewrite(
-    packet: &Packet,
-    option: Option<&WireOption>,
-    hops: u8,
-    out: &mut Vec<u8>,
-) -> Result<(), Stop>
-    requires { IfSome option (λ o. Suits packet.now o.now) }
-    ensures { Writes (version_of packet.now) (rebuilt packet.now (option_copied option.entry) hops) result out.new.items }
+fn rewrite(packet: &Packet, option: Option<&[u8]>, hops: u8, out: &mut Vec<u8>) -> Result<(), Stop>
+    requires { IfSome option (λ o. IsLabelOption (version_of packet.now) o.now) }
+    ensures { Writes (version_of packet.now) (rewritten (headers_of packet.now) (option_copied option.entry) hops) result out.new.items }
 {
-    match relabel(packet, option, hops, out) {
+    match relabel_with(packet, option, hops, out) {
         Ok(()) => Ok(()),
         Err(Rebuild::NoRoom) => Err(Stop::Denied(Denial::NoRoom)),
         Err(Rebuild::TooLong) => Err(Stop::Denied(Denial::TooLong)),

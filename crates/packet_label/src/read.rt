@@ -105,7 +105,8 @@ fn version(bytes: &[u8]) -> Option<Version>
     }
 }
 
-// The packet at the front of the octets, whose label option isn't read.
+// The packet at the front of the octets, whose label option isn't read. It is always inlined, so that a packet is made where it stays.
+#[inline(always)]
 fn headers(bytes: &[u8]) -> Result<Packet<'_>, HeadFault>
     ensures ok { IfOk result (λ packet. headers_in bytes.now ≡ Ok (headers_of packet)) }
     ensures version { IfOk result (λ packet. IsOfItsVersion packet) }
@@ -119,6 +120,7 @@ fn headers(bytes: &[u8]) -> Result<Packet<'_>, HeadFault>
 }
 
 // The same without the test for a second label option.
+#[inline(always)]
 fn front(bytes: &[u8]) -> Result<Packet<'_>, HeadFault>
     ensures ok { IfOk result (λ packet. front_in bytes.now ≡ Ok (headers_of packet)) }
     ensures version { IfOk result (λ packet. IsOfItsVersion packet) }

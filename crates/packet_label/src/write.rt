@@ -2,8 +2,8 @@
 
 ghost use Rattle.std.specs.Prelude.{◌≡◌, ◌↔◌, ◌<◌, ◌≤◌, [], IfSome, OnOk, OnErr, Err};
 ghost use Rattle.std.specs.Option.{option_copied, option_map};
-ghost use Rattle.ip_headers.specs.Written.{packet_octets, rebuilt_length, rebuilt_room, room_limit};
-ghost use Rattle.packet_label.specs.Packet.{version_of};
+ghost use Rattle.ip_headers.specs.Written.{IsLabelOption, packet_octets, rebuilt_length, rebuilt_room, rewritten, room_limit};
+ghost use Rattle.packet_label.specs.Packet.{headers_of, version_of};
 ghost use Rattle.packet_label.specs.Option.{Suits, written_octets, rebuilt};
 
 use crate::{Packet, WireOption};
@@ -27,9 +27,26 @@ pub fn relabel(
         × (65535 < rebuilt_length (rebuilt packet.now (option_copied option.entry) hops))) }
     ensures err { OnErr result (out.new.items ≡ []) }
 {
+    relabel_with(packet, octets_of(option), hops, out)
+}
+
+/// `relabel` with the octets of an option of the packet's version, which are lent.
+pub fn relabel_with(
+    packet: &Packet,
+    option: Option<&[u8]>,
+    hops: u8,
+    out: &mut Vec<u8>,
+) -> Result<(), Rebuild>
+    requires { IfSome option (λ o. IsLabelOption (version_of packet.now) o.now) }
+    ensures ok { OnOk result (out.new.items ≡ packet_octets (rewritten (headers_of packet.now) (option_copied option.entry) hops)) }
+    ensures no_room { (result ≡ Err Rebuild.NoRoom) ↔ (room_limit (version_of packet.now) < rebuilt_room (rewritten (headers_of packet.now) (option_copied option.entry) hops)) }
+    ensures too_long { (result ≡ Err Rebuild.TooLong) ↔ ((rebuilt_room (rewritten (headers_of packet.now) (option_copied option.entry) hops) ≤ room_limit (version_of packet.now))
+        × (65535 < rebuilt_length (rewritten (headers_of packet.now) (option_copied option.entry) hops))) }
+    ensures err { OnErr result (out.new.items ≡ []) }
+{
     match packet {
-        Packet::V4(view) => rebuild4(view, octets_of(option), hops, out),
-        Packet::V6(view) => rebuild6(view, octets_of(option), hops, out),
+        Packet::V4(view) => rebuild4(view, option, hops, out),
+        Packet::V6(view) => rebuild6(view, option, hops, out),
     }
 }
 

@@ -8,7 +8,7 @@ use Rattle.label_gateway.proofs.cross.cross_to_four.Goals as goal
 
 pub write_four-requires-clause-label : goal.write_four-requires-clause-label
 write_four-requires-clause-label c =
-    subst (IsLabelOption V4) (sym c.deref.ensures.0) (option_suits V4 _ c.in-Ok.option.items c.in-Ok.ensures.ok)
+    subst (IsLabelOption V4) (sym c.deref.ensures.0) (option_suits V4 _ c.cipso_for.new.option.items c.in-Ok.ensures.ok)
 
 pub returns-in-Ok-clause-value : goal.returns-in-Ok-clause-value
 returns-in-Ok-clause-value c =

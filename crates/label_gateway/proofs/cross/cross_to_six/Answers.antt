@@ -8,7 +8,7 @@ use Rattle.label_gateway.proofs.cross.cross_to_six.Goals as goal
 
 pub write_six-requires-clause-label : goal.write_six-requires-clause-label
 write_six-requires-clause-label c =
-    subst (IsLabelOption V6) (sym c.deref.ensures.0) (option_suits V6 _ c.in-Ok.option.items c.in-Ok.ensures.ok)
+    subst (IsLabelOption V6) (sym c.deref.ensures.0) (option_suits V6 _ c.calipso_for.new.option.items c.in-Ok.ensures.ok)
 
 pub returns-in-Ok-clause-value : goal.returns-in-Ok-clause-value
 returns-in-Ok-clause-value c =
