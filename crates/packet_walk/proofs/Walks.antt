@@ -1,5 +1,5 @@
 -- A walk that goes on by one hop, and what was written is read back.
-use Rattle.std.proofs.Common.{◌≡◌, ◌⊎◌, inl, inr, ℕ, ◌+◌, ◌≤◌, Bool, true, false, List, [], ◌∷◌, ◌++◌, length, drop, get_or, arith, Some, slice_get, unwrap_or, MatchBool, Result, Ok, Err, refl, sym, ap, ◌∙◌, subst, le_refl, le_trans, append-nil}
+use Rattle.std.proofs.Common.{◌≡◌, ◌⊎◌, inl, inr, ℕ, ◌+◌, ◌<◌, ◌≤◌, Bool, true, false, List, [], ◌∷◌, ◌++◌, length, drop, get_or, arith, Some, slice_get, unwrap_or, MatchBool, Result, Ok, Err, refl, sym, ap, ◌∙◌, subst, le_refl, le_trans, append-nil}
 use Rattle.std.proofs.lemmas.List.Elements.{All-cons, All-nil}
 use Rattle.mls_label.specs.declared.label.Label.{Label}
 use Rattle.address_text.specs.declared.address.Address.{Address}
@@ -44,8 +44,9 @@ pub some_read : (octets : List ℕ) → (read : Result (ParsedPacket Wire) Carry
 some_read octets = (octets_are_a_packet_or_have_one_fault octets).some
 
 -- behind the last hop
-pub walked_none : (plan : PlanState) (k : ℕ) (carrier : Carrier) (octets : List ℕ) (seen : ℕ) (before : List ℕ) → HasWalked plan k [] carrier octets seen seen before before (the_end.Sent carrier) octets
-walked_none plan k carrier octets seen before = record {
+pub walked_none : (plan : PlanState) (k : ℕ) (hops : List Hop) (carrier : Carrier) (octets : List ℕ) (seen : ℕ) (before : List ℕ) → length hops < 1
+    → HasWalked plan k hops carrier octets seen seen before before (the_end.Sent carrier) octets
+walked_none plan k [] carrier octets seen before few = record {
   more = [];
   versions = sym (append-nil before);
   rises = le_refl seen;
@@ -53,6 +54,7 @@ walked_none plan k carrier octets seen before = record {
   short = inr refl;
   walk = λ coming comes. (refl, ap the_end.Sent comes.carrier_is, comes.octets_are);
 }
+walked_none plan k (hop ∷ hops) carrier octets seen before few = absurd (omega (arith, few))
 
 written_short : (octets out left : List ℕ) → length out ≤ 65575 → (length left ≤ 65575) ⊎ (left ≡ out) → (length left ≤ 65575) ⊎ (left ≡ octets)
 written_short octets out left few (inl short) = inl short
@@ -62,53 +64,53 @@ snoc_append : (xs : List ℕ) (v : ℕ) (ys : List ℕ) → (xs ++ v ∷ []) ++ 
 snoc_append [] v ys = refl
 snoc_append (x ∷ xs) v ys = ap (λ zs. x ∷ zs) (snoc_append xs v ys)
 
-module _ (plan : PlanState) (k : ℕ) (hop : Hop) (hops : List Hop) (carrier : Carrier) (octets : List ℕ) (seen mid version : ℕ) (before : List ℕ) (label : Label) (out : List ℕ) where
+module _ (plan : PlanState) (k : ℕ) (hop : Hop) (hops : List Hop) (carrier : Carrier) (octets : List ℕ) (seen mid : ℕ) (before : List ℕ) (label : Label) (out : List ℕ) where
   -- a hop wrote a packet, and those behind it judged it
-  pub walked_on : (next : Carrier) (now : ℕ) (after : List ℕ) (end : End) (left : List ℕ) → HasJudged plan seen mid hop octets version (Goes next) label octets out
-      → HasWalked plan (k + 1) hops next out mid now (before ++ version ∷ []) after end left → HasWalked plan k (hop ∷ hops) carrier octets seen now before after end left
+  pub walked_on : (next : Carrier) (now : ℕ) (after : List ℕ) (end : End) (left : List ℕ) → HasJudged plan seen mid hop octets (Goes next) label octets out
+      → HasWalked plan (k + 1) hops next out mid now (before ++ mid ∷ []) after end left → HasWalked plan k (hop ∷ hops) carrier octets seen now before after end left
   walked_on next now after end left judged rest =
       let given = judged.gave.answered in record {
-        more = version ∷ rest.more;
-        versions = rest.versions ∙ snoc_append before version rest.more;
-        rises = (judged.later, rw judged.found at rest.rises);
-        within = All-cons (λ (v : ℕ). v ≤ length plan.steps) version rest.more judged.within rest.within;
+        more = mid ∷ rest.more;
+        versions = rest.versions ∙ snoc_append before mid rest.more;
+        rises = (judged.later, rest.rises);
+        within = All-cons (λ (v : ℕ). v ≤ length plan.steps) mid rest.more judged.within rest.within;
         short = written_short octets out left given.4 rest.short;
         walk = λ coming comes.
-            let verdict = ap (λ os. hop_verdict (network_after plan version) hop os judged.gave.read) (sym comes.octets_are) ∙ given.1 in (
+            let verdict = ap (λ os. hop_verdict (network_after plan mid) hop os judged.gave.read) (sym comes.octets_are) ∙ given.1 in (
               judged.gave.read,
               comes.reads judged.gave.read judged.gave.reads,
               rw verdict (rest.walk (from_hop next given.0) (record { carrier_is = refl; octets_are = given.2; reads = λ read is. given.3 read (subst (λ (os : List ℕ). IsReadAs os read) given.2 is) })),
             );
       }
 
-  pub walked_here : (receiver : Address) → HasJudged plan seen mid hop octets version (Arrives receiver) label octets out
-      → HasWalked plan k (hop ∷ hops) carrier octets seen mid before (before ++ version ∷ []) (the_end.Delivered label receiver) out
+  pub walked_here : (receiver : Address) → HasJudged plan seen mid hop octets (Arrives receiver) label octets out
+      → HasWalked plan k (hop ∷ hops) carrier octets seen mid before (before ++ mid ∷ []) (the_end.Delivered label receiver) out
   walked_here receiver judged =
       let given = judged.gave.answered in record {
-        more = version ∷ [];
+        more = mid ∷ [];
         versions = refl;
-        rises = (judged.later, rw judged.found (le_refl version));
-        within = All-cons (λ (v : ℕ). v ≤ length plan.steps) version [] judged.within (All-nil (λ (v : ℕ). v ≤ length plan.steps));
+        rises = (judged.later, le_refl mid);
+        within = All-cons (λ (v : ℕ). v ≤ length plan.steps) mid [] judged.within (All-nil (λ (v : ℕ). v ≤ length plan.steps));
         short = inr given.1;
         walk = λ coming comes.
-            let verdict = ap (λ os. hop_verdict (network_after plan version) hop os judged.gave.read) (sym comes.octets_are) ∙ given.0 in (
+            let verdict = ap (λ os. hop_verdict (network_after plan mid) hop os judged.gave.read) (sym comes.octets_are) ∙ given.0 in (
               judged.gave.read,
               comes.reads judged.gave.read judged.gave.reads,
               rw verdict (refl, refl, given.1 ∙ comes.octets_are),
             );
       }
 
-  pub walked_denied : (why : Denial) → HasJudged plan seen mid hop octets version (Denied why) label octets out
-      → HasWalked plan k (hop ∷ hops) carrier octets seen mid before (before ++ version ∷ []) (the_end.Denied k why) out
+  pub walked_denied : (why : Denial) → HasJudged plan seen mid hop octets (Denied why) label octets out
+      → HasWalked plan k (hop ∷ hops) carrier octets seen mid before (before ++ mid ∷ []) (the_end.Denied k why) out
   walked_denied why judged =
       let given = judged.gave.answered in record {
-        more = version ∷ [];
+        more = mid ∷ [];
         versions = refl;
-        rises = (judged.later, rw judged.found (le_refl version));
-        within = All-cons (λ (v : ℕ). v ≤ length plan.steps) version [] judged.within (All-nil (λ (v : ℕ). v ≤ length plan.steps));
+        rises = (judged.later, le_refl mid);
+        within = All-cons (λ (v : ℕ). v ≤ length plan.steps) mid [] judged.within (All-nil (λ (v : ℕ). v ≤ length plan.steps));
         short = inl (omega (arith, ap length given.1));
         walk = λ coming comes.
-            let verdict = ap (λ os. hop_verdict (network_after plan version) hop os judged.gave.read) (sym comes.octets_are) ∙ given.0 in (
+            let verdict = ap (λ os. hop_verdict (network_after plan mid) hop os judged.gave.read) (sym comes.octets_are) ∙ given.0 in (
               judged.gave.read,
               comes.reads judged.gave.read judged.gave.reads,
               rw verdict (refl, refl, given.1),
@@ -120,15 +122,15 @@ first_is [] hop some is = absurd (omega arith)
 first_is (first ∷ hops) hop some is = ap (λ h. h ∷ hops) (sym is)
 
 -- the same, by what the code has of the first hop and of those behind it
-pub walked_more : (plan q : PlanState) (k : ℕ) (all behind : List Hop) (hop : Hop) (carrier next : Carrier) (octets : List ℕ) (seen mid now version : ℕ) (before pushed after : List ℕ) (label : Label) (out left : List ℕ)
-    (end : End) → q ≡ plan → 1 ≤ length all → hop ≡ get_or all 0 hop → behind ≡ drop 1 all → pushed ≡ before ++ version ∷ [] → HasJudged plan seen mid hop octets version (Goes next) label octets out
+pub walked_more : (plan q : PlanState) (k : ℕ) (all behind : List Hop) (hop : Hop) (carrier next : Carrier) (octets : List ℕ) (seen mid now : ℕ) (before pushed after : List ℕ) (label : Label) (out left : List ℕ)
+    (end : End) → q ≡ plan → 1 ≤ length all → hop ≡ get_or all 0 hop → behind ≡ drop 1 all → pushed ≡ before ++ mid ∷ [] → HasJudged plan seen mid hop octets (Goes next) label octets out
     → HasWalked q (k + 1) behind next out mid now pushed after end left → HasWalked plan k all carrier octets seen now before after end left
-walked_more plan q k all behind hop carrier next octets seen mid now version before pushed after label out left end same some first rest grown judged walked =
+walked_more plan q k all behind hop carrier next octets seen mid now before pushed after label out left end same some first rest grown judged walked =
     let here = subst (λ (x : PlanState). HasWalked x (k + 1) behind next out mid now pushed after end left) same walked in
     let here = subst (λ (hs : List Hop). HasWalked plan (k + 1) hs next out mid now pushed after end left) rest here in
     let here = subst (λ (vs : List ℕ). HasWalked plan (k + 1) (drop 1 all) next out mid now vs after end left) grown here in
     subst (λ (hs : List Hop). HasWalked plan k hs carrier octets seen now before after end left) (sym (first_is all hop some first))
-    (walked_on plan k hop (drop 1 all) carrier octets seen mid version before label out next now after end left judged here)
+    (walked_on plan k hop (drop 1 all) carrier octets seen mid before label out next now after end left judged here)
 
 rises_later : (low high : ℕ) (vs : List ℕ) → Rises low high vs → low ≤ high
 rises_later low high [] h = h

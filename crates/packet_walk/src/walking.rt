@@ -137,8 +137,8 @@ fn walk_hops<G: Gate>(
         return Ok(EndMark::Sent { carrier });
     };
     gate.before_look(worker, number, k);
-    let (version, given) = judge_at(viewer, hop, room, label, out)?;
-    versions.push(version);
+    let given = judge_at(viewer, hop, room, label, out)?;
+    versions.push(viewer.seen());
     match given {
         Given::Goes { carrier } => walk_hops(
             viewer,

@@ -39,10 +39,8 @@ pub record AnsweredOf (octets : List ℕ) (verdict : Result (ParsedPacket Wire) 
   pub reads : IsReadAs octets read
   pub answered : Answered (verdict read) given label came out
 
--- one hop was judged under the version that was found
-pub record HasJudged (plan : PlanState) (seen now : ℕ) (hop : Hop) (octets : List ℕ) (version : ℕ) (given : Given) (label : Label)
-    (came out : List ℕ) : Type 0 where
-  pub later : seen ≤ version
-  pub found : now ≡ version
-  pub within : version ≤ length plan.steps
-  pub gave : AnsweredOf octets (hop_verdict (network_after plan version) hop octets) given label came out
+-- one hop was judged under version `now`, by one who had seen version `seen` before
+pub record HasJudged (plan : PlanState) (seen now : ℕ) (hop : Hop) (octets : List ℕ) (given : Given) (label : Label) (came out : List ℕ) : Type 0 where
+  pub later : seen ≤ now
+  pub within : now ≤ length plan.steps
+  pub gave : AnsweredOf octets (hop_verdict (network_after plan now) hop octets) given label came out
