@@ -1,13 +1,13 @@
 -- Handing over in the order of the packets.
-use Rattle.std.proofs.Common.{◌≡◌, ◌≢◌, ⊎_elim, ℕ, ◌+◌, ◌%◌, ◌<◌, ◌≤◌, true, false, List, [], ◌∷◌, ◌++◌, length, take, drop, set, get_or, zero, suc, length-set, nat_eq, cond, refl, sym, ◌∙◌, ap, le_refl, arith, append-nil, get_or-set_same, get_or-set_other}
+use Rattle.std.proofs.Common.{◌≡◌, ◌≢◌, ⊎_elim, ℕ, ◌+◌, ◌%◌, ◌<◌, ◌≤◌, true, false, List, [], ◌∷◌, ◌++◌, length, take, drop, set, get_or, zero, suc, length-set, slice_get, Some, nat_eq, cond, refl, sym, ◌∙◌, ap, le_refl, arith, append-nil, replicate, get_or-set_same, get_or-set_other}
 use Rattle.std.proofs.lemmas.Bool.{cases_eq}
 use Rattle.std.proofs.lemmas.List.{take_more, length-take, length-append, take-append-drop}
-use Rattle.std.proofs.lemmas.Option.{get_or_from_slice_get, slice_get-get_or}
+use Rattle.std.proofs.lemmas.Option.{get_or_from_slice_get, slice_get-get_or, slice_get_within}
 use Rattle.std.proofs.Math.Seq.{drop-cons}
 use Rattle.label_flow.specs.Pair.{PairState}
 use Rattle.packet_walk.specs.declared.packet.PacketIn.{PacketIn}
 use Rattle.label_flow.specs.Round.{pick}
-use Rattle.label_flow.specs.inside.Work.{AreFirst, zeros}
+use Rattle.label_flow.specs.inside.Work.{AreFirst}
 use Rattle.label_flow.proofs.Works.{pick-append, pick_mine, pick_other}
 
 -- what is picked of one more at number n + at
@@ -21,7 +21,7 @@ snoc_other k w n xs x at len other =
 
 -- so many were taken of each worker's
 pub record Placed (w n : ℕ) (batch : List PacketIn) (places : List ℕ) (at : ℕ) : Type 0 where
-  pub long : length places ≡ w
+  pub long : w ≤ length places
   pub inside : at ≤ length batch
   pub each : (k : ℕ) → k < w → get_or places k 0 ≡ length (pick k w n (take at batch))
 
@@ -45,7 +45,7 @@ placed_more w n batch places at d m c h left mine below is =
     let len : length (take at batch) ≡ at = omega (arith, length-take at batch) in
     let more = take_more batch at d left in
     let inside : m < length places = omega (arith, h.long) in record {
-      long = length-set places m c ∙ h.long;
+      long = omega (arith, length-set places m c, h.long);
       inside = omega arith;
       each = λ k lt. ⊎_elim
           (λ (e : m ≡ k).
@@ -60,10 +60,11 @@ placed_more w n batch places at d m c h left mine below is =
           (cases_eq m k);
     }
 
-pub handing_more : (w n : ℕ) (ds : List (List PairState)) (places : List ℕ) (at : ℕ) (rs : List PairState) (m c : ℕ) (r : PairState) → Handing w n ds places at rs → length places ≡ w → (n + at) % w ≡ m → m < w → c ≡ get_or places m 0 + 1
-    → get_or places m 0 < length (get_or ds m []) → get_or (get_or ds m []) (get_or places m 0) r ≡ r
-    → Handing w n ds (set places m c) (at + 1) (rs ++ r ∷ [])
-handing_more w n ds places at rs m c r h long mine below is left at_r =
+pub handing_more : (w n : ℕ) (ds : List (List PairState)) (places : List ℕ) (at : ℕ) (rs : List PairState) (m c : ℕ) (r : PairState) → Handing w n ds places at rs → w ≤ length places → (n + at) % w ≡ m → m < w → c ≡ get_or places m 0 + 1
+    → slice_get (get_or ds m []) (get_or places m 0) ≡ Some r → Handing w n ds (set places m c) (at + 1) (rs ++ r ∷ [])
+handing_more w n ds places at rs m c r h long mine below is found =
+    let left = slice_get_within (get_or ds m []) (get_or places m 0) r found in
+    let at_r = get_or_from_slice_get (get_or ds m []) (get_or places m 0) r r found in
     let inside : m < length places = omega (arith, long) in record {
       count = length-append rs (r ∷ []) ∙ ap (λ q. q + 1) h.count;
       each = λ k lt. ⊎_elim
@@ -84,17 +85,21 @@ are_first w n ds places at rs h = record { each = λ k lt. (get_or places k 0, h
 pub read_any : {X : Type 0} (xs : List X) (i : ℕ) (d e : X) → i < length xs → get_or xs i d ≡ get_or xs i e
 read_any xs i d e lt = get_or_from_slice_get xs i (get_or xs i e) d (slice_get-get_or xs i e lt)
 
+-- worker m's next pair
+pub next_found : (ds : List (List PairState)) (places : List ℕ) (m : ℕ) (d : List PairState) (r : PairState) → m < length ds → d ≡ get_or ds m d → slice_get d (get_or places m 0) ≡ Some r
+    → slice_get (get_or ds m []) (get_or places m 0) ≡ Some r
+next_found ds places m d r below is found = ap (λ zs. slice_get zs (get_or places m 0)) (sym (is ∙ read_any ds m d [] below)) ∙ found
+
 pub pick_le : {X : Type 0} (k w n : ℕ) (xs : List X) → length (pick k w n xs) ≤ length xs
 pick_le k w n [] = le_refl 0
 pick_le {X} k w n (x ∷ xs) =
     let h = pick_le k w (n + 1) xs in
     elim (nat_eq (n % w) k) as (λ b. length (cond b (x ∷ pick k w (n + 1) xs) (pick k w (n + 1) xs)) ≤ length (x ∷ xs)) [ true ↦ omega (arith, h) | false ↦ omega (arith, h) ]
 
+abbrev zeros : ℕ → List ℕ
+zeros n = replicate n 0
+
 pub zero_at : (n k : ℕ) → get_or (zeros n) k 0 ≡ 0
 zero_at zero k = refl
 zero_at (suc n) zero = refl
 zero_at (suc n) (suc k) = zero_at n k
-
-pub length-zeros : (n : ℕ) → length (zeros n) ≡ n
-length-zeros zero = refl
-length-zeros (suc n) = ap suc (length-zeros n)

@@ -10,7 +10,7 @@ use Rattle.label_flow.specs.Round.{IsRound}
 use Rattle.label_flow.specs.Walked.{AreWalked}
 use Rattle.label_flow.proofs.Lawful.{round_lawful}
 use Rattle.label_flow.proofs.Schedules.{is_lawful, is_played}
-use Rattle.label_flow.proofs.EachWalk.{Within, round_walked, walked_over, lawful_over, walked_once}
+use Rattle.label_flow.proofs.EachWalk.{round_walked, walked_over, lawful_over, walked_once}
 
 pub plays_are_lawful : (plan : PlanState) (hops : List Hop) (w before after : ℕ) (packets : List PacketIn) (events : List FlowEvent) (seen : List (List ℕ)) → IsPlay plan hops w before after packets events seen
     → AreLawful plan hops w before after packets seen

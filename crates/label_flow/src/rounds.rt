@@ -7,7 +7,7 @@ ghost use Rattle.label_flow.specs.Pair.{PairState};
 ghost use Rattle.label_flow.specs.Feed.{AreFetched, IsOver, AreBegun, AreWhole};
 ghost use Rattle.label_flow.specs.Round.{AreReplies, AreLater, IsRound};
 ghost use Rattle.label_flow.specs.Stops.{IsStop};
-ghost use Rattle.label_flow.specs.inside.Work.{AreFirst, HasRoom, AllFit, HasNodes, zeros};
+ghost use Rattle.label_flow.specs.inside.Work.{AreFirst, HasRoom, AllFit, HasNodes};
 
 use crate::bench::Bench;
 use crate::feed::Feed;
@@ -58,13 +58,14 @@ fn step_to<G: Gate, R: Wait>(
 
 // Hands what the workers made to the feed, in the order of the packets.
 fn hand_over<Q: Feed>(
-    alloc: Global,
     base: u64,
     batch: &[PacketIn],
     done: &[Bench],
+    shown: &mut ShownWalks,
     feed: &mut Q,
 ) -> Result<(), RoundStop<Q::Stop>>
     requires some { 0 < length done.now }
+    requires few { length done.now ≤ 16 }
     requires numbers { base + length batch.now < 2 ^ 63 }
     requires ready { Q.ready feed.old }
     requires due { Q.due feed.old ≡ length batch.now }
@@ -77,11 +78,8 @@ fn hand_over<Q: Feed>(
     ensures ready { Q.ready feed.new }
     ensures took { (was : Q) (h : List PairState) → Q.took was feed.old h → (rs : List PairState) × AreFirst (length done.now) base done.now rs × (length rs ≤ length batch.now) × Q.took was feed.new (h ++ rs) × OnOk result (length rs ≡ length batch.now) }
 {
-    let Ok(mut places) = no_places(alloc, done.len()) else {
-        return Err(RoundStop::OutOfMemory);
-    };
-    let places = places.as_mut_slice();
-    let mut shown = ShownWalks::new();
+    // The next pair of each worker.
+    let mut places = [0usize; 16];
     let mut at = 0;
     while at < batch.len() {
         let worker = ((base + at as u64) % done.len() as u64) as usize;
@@ -97,17 +95,9 @@ fn hand_over<Q: Feed>(
     Ok(())
 }
 
-// A place for each worker, at its first pair.
-fn no_places(alloc: Global, workers: usize) -> Result<Vec<usize>, OutOfMemory>
-    ensures { IfOk result (λ places. places.items ≡ zeros workers) }
-{
-    Vec::from_elem(alloc, 0usize, workers).map_err(|_| OutOfMemory)
-}
-
 // Judges a batch that was fetched, with a worker for each viewer, and hands it over.
 fn judge_batch<Q: Feed, G: Gate + Sync, R: Threads + Sync>(
     rt: &R,
-    alloc: Global,
     flow: &FlowLine,
     gate: &G,
     base: u64,
@@ -115,6 +105,7 @@ fn judge_batch<Q: Feed, G: Gate + Sync, R: Threads + Sync>(
     feed: &mut Q,
     viewers: &mut [Viewer],
     benches: &mut [Bench],
+    shown: &mut ShownWalks,
 ) -> Result<(), RoundStop<Q::Stop>>
     requires benches { length benches.old ≡ length viewers.old }
     requires viewers { (0 < length viewers.old) × (length viewers.old ≤ 16) }
@@ -141,13 +132,12 @@ fn judge_batch<Q: Feed, G: Gate + Sync, R: Threads + Sync>(
     let Ok(()) = spread(rt, flow, gate, turn, batch, viewers, benches) else {
         return Err(RoundStop::OutOfMemory);
     };
-    hand_over(alloc, base, batch, benches, feed)
+    hand_over(base, batch, benches, shown, feed)
 }
 
 // One batch: true if there was one.
 fn batch_round<Q: Feed, G: Gate + Sync, R: Threads + Sync>(
     rt: &R,
-    alloc: Global,
     flow: &FlowLine,
     gate: &G,
     base: u64,
@@ -155,6 +145,7 @@ fn batch_round<Q: Feed, G: Gate + Sync, R: Threads + Sync>(
     feed: &mut Q,
     viewers: &mut [Viewer],
     benches: &mut [Bench],
+    shown: &mut ShownWalks,
 ) -> Result<bool, RoundStop<Q::Stop>>
     requires benches { length benches.old ≡ length viewers.old }
     requires viewers { (0 < length viewers.old) × (length viewers.old ≤ 16) }
@@ -176,7 +167,6 @@ fn batch_round<Q: Feed, G: Gate + Sync, R: Threads + Sync>(
         Ok(true) => {
             match judge_batch(
                 rt,
-                alloc,
                 flow,
                 gate,
                 base,
@@ -184,6 +174,7 @@ fn batch_round<Q: Feed, G: Gate + Sync, R: Threads + Sync>(
                 feed,
                 viewers,
                 benches,
+                shown,
             ) {
                 Ok(()) => Ok(true),
                 Err(stop) => Err(stop),
@@ -195,45 +186,6 @@ fn batch_round<Q: Feed, G: Gate + Sync, R: Threads + Sync>(
 }
 
 const MOST: u64 = 1 << 62;
-
-// All batches, with these benches.
-fn each_batch<Q: Feed, G: Gate + Sync, R: Threads + Wait + Sync>(
-    rt: &R,
-    alloc: Global,
-    flow: &FlowLine,
-    gate: &G,
-    feed: &mut Q,
-    viewers: &mut [Viewer],
-    benches: &mut [Bench],
-) -> Result<(), RoundStop<Q::Stop>>
-    requires benches { length benches.old ≡ length viewers.old }
-    requires viewers { (0 < length viewers.old) × (length viewers.old ≤ 16) }
-    requires nodes { All (HasNodes flow.now.hops) viewers.old }
-    requires ready { Q.ready feed.old }
-    requires due { Q.due feed.old ≡ 0 }
-    requires hops { Q.hops feed.old ≡ length flow.now.hops }
-    ensures later { AreLater viewers.old viewers.new }
-    ensures ok { OnOk result ((Q.due feed.new ≡ 0) × (Q.stop feed.new ≡ Q.stop feed.old) × IsOver (Q.left feed.new) × (Q.ended feed.new ≡ true)) }
-    ensures err { IfErr result (λ e. IsStop e (Q.stop feed.old) (Q.stop feed.new)) }
-    ensures ready { Q.ready feed.new }
-    ensures took { (was : Q) (h : List PairState) → Q.took was feed.old h → (packets : List PacketIn) × (pairs : List PairState) × IsRound flow.now.hops 0 packets pairs viewers.old viewers.new × AreBegun (Q.left feed.old) packets × Q.took was feed.new (h ++ pairs) × OnOk result (AreWhole (Q.left feed.old) packets) }
-{
-    let mut batch = Vec::new(alloc);
-    let mut base = 0u64;
-    for _ in rt.forever() {
-        if base >= MOST {
-            return Err(RoundStop::OutOfMemory);
-        }
-        match batch_round(
-            rt, alloc, flow, gate, base, &mut batch, feed, viewers, benches,
-        ) {
-            Ok(true) => base += batch.len() as u64,
-            Ok(false) => return Ok(()),
-            Err(stop) => return Err(stop),
-        }
-    }
-    unreachable!()
-}
 
 // All batches.
 fn all_batches<Q: Feed, G: Gate + Sync, R: Threads + Wait + Sync>(
@@ -255,10 +207,26 @@ fn all_batches<Q: Feed, G: Gate + Sync, R: Threads + Wait + Sync>(
     ensures ready { Q.ready feed.new }
     ensures took { (was : Q) (h : List PairState) → Q.took was feed.old h → (packets : List PacketIn) × (pairs : List PairState) × IsRound flow.now.hops 0 packets pairs viewers.old viewers.new × AreBegun (Q.left feed.old) packets × Q.took was feed.new (h ++ pairs) × OnOk result (AreWhole (Q.left feed.old) packets) }
 {
-    match benches_for(alloc, viewers.len()) {
-        Ok(mut benches) => each_batch(rt, alloc, flow, gate, feed, viewers, benches.as_mut_slice()),
-        Err(_) => Err(RoundStop::OutOfMemory),
+    let Ok(mut benches) = benches_for(alloc, viewers.len()) else {
+        return Err(RoundStop::OutOfMemory);
+    };
+    let benches = benches.as_mut_slice();
+    let mut shown = ShownWalks::new();
+    let mut batch = Vec::new(alloc);
+    let mut base = 0u64;
+    for _ in rt.forever() {
+        if base >= MOST {
+            return Err(RoundStop::OutOfMemory);
+        }
+        match batch_round(
+            rt, flow, gate, base, &mut batch, feed, viewers, benches, &mut shown,
+        ) {
+            Ok(true) => base += batch.len() as u64,
+            Ok(false) => return Ok(()),
+            Err(stop) => return Err(stop),
+        }
     }
+    unreachable!()
 }
 
 // A bench for each worker.

@@ -1,5 +1,5 @@
 -- What the workers made of a batch, and what is handed over of it.
-use Rattle.std.specs.Prelude.{◌≡◌, ℕ, ◌+◌, ◌<◌, List, [], ◌∷◌, length, take, replicate, slice_index_or, slice_get, Some, All}
+use Rattle.std.specs.Prelude.{◌≡◌, ℕ, ◌+◌, ◌<◌, List, [], ◌∷◌, length, take, slice_index_or, slice_get, Some, All}
 use Rattle.flow_lines.specs.declared.hop.Hop.{Hop}
 use Rattle.flow_lines.specs.Hop.{node_of}
 use Rattle.shared_tables.specs.Board.{ViewerState}
@@ -29,6 +29,3 @@ pub record HasRoom (w n : ℕ) (batch : List PacketIn) (ds : List (List PairStat
 -- each pair that was made may be accepted
 pub record AllFit (hops : ℕ) (ds : List (List PairState)) : Type 0 where
   pub each : (k j : ℕ) (r : PairState) → slice_get (slice_index_or ds k []) j ≡ Some r → MayAccept hops r.walked.end r.octets
-
-abbrev pub zeros : ℕ → List ℕ
-zeros n = replicate n 0

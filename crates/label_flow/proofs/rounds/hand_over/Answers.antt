@@ -1,28 +1,20 @@
-use Rattle.std.proofs.Common.{rules, ◌≡◌, ◌+◌, ◌%◌, ◌<◌, ℕ, List, [], ◌∷◌, ◌++◌, length, take, get_or, slice_get, append-nil, Some, ap, sym, ◌∙◌, subst, arith, append_assoc, ⊎_elim, refl, true}
-use Rattle.std.proofs.lemmas.Option.{get_or_from_slice_get, slice_get_within}
+use Rattle.std.proofs.Common.{◌≡◌, ◌+◌, ◌%◌, ◌<◌, List, [], ◌∷◌, ◌++◌, length, take, get_or, append-nil, ap, sym, ◌∙◌, subst, arith, append_assoc, ⊎_elim, refl, true}
 use Rattle.label_flow.specs.Pair.{PairState, pair}
-use Rattle.label_flow.specs.inside.Work.{zeros}
-use Rattle.label_flow.proofs.Handing.{pick_room, placed_more, handing_more, are_first, read_any, pick_le, zero_at, length-zeros}
+use Rattle.label_flow.proofs.Handing.{pick_room, placed_more, handing_more, are_first, next_found, read_any, pick_le, zero_at}
 use Rattle.label_flow.proofs.rounds.hand_over.Goals as goal
 
 pub loop-at-init : goal.loop-at-init
-loop-at-init g c =
-    let places = c.as_mut_slice-places.result.now in
-    let n = length c.args.done.now in
-    let are : places ≡ zeros n = search rules in
-    let zero : (k : ℕ) → get_or places k 0 ≡ 0 = λ k. ap (λ (ps : List ℕ). get_or ps k 0) are ∙ zero_at n k in
-    let long : length places ≡ n = ap length are ∙ length-zeros n in
-    record {
-      due = omega (arith, c.requires.due);
-      ready = c.requires.ready;
-      hops = refl;
-      left = refl;
-      stop = refl;
-      placed = record { long = long; inside = omega arith; each = λ k less. zero k };
-      took = λ was hist took.
-          let T : List PairState → Type 0 = λ rs. g.Q.Feed.took was c.args.feed.now rs in
-          ([], record { each = λ k less. ap (λ n. take n (get_or c.args.done.now k [])) (zero k); count = refl }, subst T (sym (append-nil hist)) took);
-    }
+loop-at-init g c = record {
+  due = omega (arith, c.requires.due);
+  ready = c.requires.ready;
+  hops = refl;
+  left = refl;
+  stop = refl;
+  placed = record { long = c.requires.few; inside = omega arith; each = λ k less. zero_at 16 k };
+  took = λ was hist took.
+      let T : List PairState → Type 0 = λ rs. g.Q.Feed.took was c.args.feed.now rs in
+      ([], record { each = λ k less. ap (λ n. take n (get_or c.args.done.now k [])) (zero_at 16 k); count = refl }, subst T (sym (append-nil hist)) took);
+}
 
 pub get-judged-requires : goal.get-judged-requires
 get-judged-requires g c =
@@ -39,11 +31,9 @@ accept-requires-clause-fits g c =
     let h = c.loop-at.invariant in
     let m = (c.args.base + c.loop-at.at) % length c.args.done.now in
     let below : m < length c.args.done.now = omega (arith, c.requires.some) in
-    let d = c.index-done-worker.result in
-    let is : d ≡ get_or c.args.done.now m [] = c.index-done-worker.is ∙ read_any c.args.done.now m d [] below in
     let r : PairState = c.get-judged.result.now in
-    let at : slice_get (get_or c.args.done.now m []) (get_or c.loop-at.places m 0) ≡ Some r = ap (λ (zs : List PairState). slice_get zs (get_or c.loop-at.places m 0)) (sym is) ∙ c.get-judged.ensures in
-    let may = c.requires.fits.each m (get_or c.loop-at.places m 0) r at in
+    let found = next_found c.args.done.now c.loop-at.places m c.index-done-worker.result r below c.index-done-worker.is c.get-judged.ensures in
+    let may = c.requires.fits.each m (get_or c.loop-at.places m 0) r found in
     rw (h.hops, c.show-walked.ensures ∙ c.walked.ensures, c.octets.ensures) may
 
 pub overflow_add-places : goal.overflow_add-places
@@ -59,15 +49,13 @@ returns-in-Err-clause-took g c was hist took =
     let h = c.loop-at.invariant in
     let m = (c.args.base + c.loop-at.at) % length c.args.done.now in
     let below : m < length c.args.done.now = omega (arith, c.requires.some) in
-    let d = c.index-done-worker.result in
-    let is : d ≡ get_or c.args.done.now m [] = c.index-done-worker.is ∙ read_any c.args.done.now m d [] below in
     let r : PairState = c.get-judged.result.now in
+    let found = next_found c.args.done.now c.loop-at.places m c.index-done-worker.result r below c.index-done-worker.is c.get-judged.ensures in
     let place = get_or c.loop-at.places m 0 in
-    let at : slice_get (get_or c.args.done.now m []) place ≡ Some r = ap (λ (zs : List PairState). slice_get zs place) (sym is) ∙ c.get-judged.ensures in
     let t = h.took was hist took in
     let said = c.in-Err.ensures.cut was (hist ++ t.0) t.2 in
     let now : pair c.show-walked.result.now c.octets.result.now ≡ r = λ i. record { walked = (c.show-walked.ensures ∙ c.walked.ensures) i; octets = c.octets.ensures i } in
-    let more = handing_more _ _ _ _ _ t.0 m (place + 1) r t.1 h.placed.long refl below refl (slice_get_within (get_or c.args.done.now m []) place r at) (get_or_from_slice_get (get_or c.args.done.now m []) place r r at) in
+    let more = handing_more _ _ _ _ _ t.0 m (place + 1) r t.1 h.placed.long refl below refl found in
     let T : List PairState → Type 0 = λ rs. g.Q.Feed.took was c.accept.new.self rs in
     ⊎_elim (λ (old : T (hist ++ t.0)). (t.0, are_first _ _ _ _ _ _ t.1, omega (arith, t.1.count, h.placed.inside), old, tt))
     (λ (new : T ((hist ++ t.0) ++ pair c.show-walked.result.now c.octets.result.now ∷ [])).
@@ -80,13 +68,11 @@ loop-at-preserved g c =
     let h = c.loop-at.invariant in
     let m = (c.args.base + c.loop-at.at) % length c.args.done.now in
     let below : m < length c.args.done.now = omega (arith, c.requires.some) in
-    let d = c.index-done-worker.result in
-    let is : d ≡ get_or c.args.done.now m [] = c.index-done-worker.is ∙ read_any c.args.done.now m d [] below in
     let r : PairState = c.get-judged.result.now in
+    let found = next_found c.args.done.now c.loop-at.places m c.index-done-worker.result r below c.index-done-worker.is c.get-judged.ensures in
     let place = get_or c.loop-at.places m 0 in
-    let at : slice_get (get_or c.args.done.now m []) place ≡ Some r = ap (λ (zs : List PairState). slice_get zs place) (sym is) ∙ c.get-judged.ensures in
     let now : pair c.show-walked.result.now c.octets.result.now ≡ r = λ i. record { walked = (c.show-walked.ensures ∙ c.walked.ensures) i; octets = c.octets.ensures i } in
-    let e = c.in_default-accept.ensures in
+    let e = c.in_default.ensures in
     record {
       due = omega (arith, e.due, h.due);
       ready = c.accept.ensures.ready;
@@ -97,7 +83,7 @@ loop-at-preserved g c =
       took = λ was hist took.
           let T : List PairState → Type 0 = λ rs. g.Q.Feed.took was c.accept.new.self rs in
           let t = h.took was hist took in
-          let more = handing_more _ _ _ _ _ t.0 m (place + 1) r t.1 h.placed.long refl below refl (slice_get_within (get_or c.args.done.now m []) place r at) (get_or_from_slice_get (get_or c.args.done.now m []) place r r at) in
+          let more = handing_more _ _ _ _ _ t.0 m (place + 1) r t.1 h.placed.long refl below refl found in
           let new = e.took was (hist ++ t.0) t.2 in
           let whole : T (hist ++ (t.0 ++ r ∷ [])) = subst T (append_assoc hist t.0 (r ∷ [])) (subst (λ (q : PairState). T ((hist ++ t.0) ++ q ∷ [])) now new) in
           (t.0 ++ r ∷ [], more, whole);
