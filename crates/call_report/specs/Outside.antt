@@ -42,3 +42,8 @@ pub record NoneFailed (before after : Outside) : Type 0 where
   pub creates : SameCounts before.folder.creates after.folder.creates
   pub appends : SameCounts before.folder.appends after.folder.appends
   pub writes : after.stream.faults ≡ before.stream.faults
+
+-- no write to the stream has failed, and no append, of whatever name
+pub record NoWriteFailed (before after : Outside) : Type 0 where
+  pub writes : after.stream.faults ≡ before.stream.faults
+  pub appends : SameCounts before.folder.appends after.folder.appends

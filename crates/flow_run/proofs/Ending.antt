@@ -1,7 +1,7 @@
 -- How a flow ends: at once, or with what it has done from its beginning on.
-use Rattle.std.proofs.Common.{rules, cond, ◌≡◌, ◌≢◌, ◌<◌, ◌≤◌, ◌⊎◌, ℕ, ◌+◌, ◌-◌, Bool, true, false, nat_eq, not, is_some, IsTrue, IsSome, List, [], ◌∷◌, ◌++◌, length, take, drop, map, Option, Some, None, Result, Ok, Err, refl, sym, ap, subst, ◌∙◌, append_assoc, length-append, arith, le_refl, inl, inr}
+use Rattle.std.proofs.Common.{cond, ◌≡◌, ◌≢◌, ◌≤◌, ◌⊎◌, ℕ, ◌+◌, ◌-◌, true, false, nat_eq, IsTrue, IsSome, List, [], ◌∷◌, ◌++◌, length, take, drop, map, Option, Some, None, Result, Ok, Err, refl, sym, ap, subst, ◌∙◌, append_assoc, arith, inl, inr}
 use Rattle.std.proofs.lemmas.Bool.Decides.{nat_tests}
-use Rattle.std.proofs.lemmas.List.{append-nil, length-map, take_at, take-append-le, take_all}
+use Rattle.std.proofs.lemmas.List.{append-nil, length-map, take_at}
 use Rattle.std.specs.Option.{option_map}
 use Rattle.net_io.specs.Depot.{DepotState, octets_of, OnlyReads}
 use Rattle.net_io.specs.Sink.{SinkState, WritesPrefix}
@@ -9,15 +9,14 @@ use Rattle.net_io.specs.Faults.{Rose, SameCounts}
 use Rattle.flow_lines.specs.declared.flow.FlowLine.{FlowLine}
 use Rattle.flow_lines.specs.declared.hop.Hop.{Hop}
 use Rattle.pcap_frames.specs.declared.header.CaptureHeader.{CaptureHeader}
-use Rattle.pcap_frames.specs.declared.record.FrameHead.{FrameHead}
 use Rattle.pcap_frames.specs.declared.fault.CaptureFault.{CaptureFault}
 use Rattle.pcap_frames.specs.Reader.{IsAnswerOf, SpeaksOf}
 use Rattle.pcap_frames.specs.declared.fault.FrameStop.{FrameStop}
 use Rattle.pcap_frames.specs.declared.fault.FrameStop.TheVariants as the_frame_stop
 use Rattle.pcap_frames.specs.Header.{capture_header}
 use Rattle.pcap_frames.specs.Record.{Frame}
-use Rattle.pcap_frames.specs.Capture.{Capture, Records, records_at, capture_by, capture_of}
-use Rattle.pcap_frames.specs.Written.{capture_head_octets, frames_octets, capture_octets}
+use Rattle.pcap_frames.specs.Capture.{Capture, records_at, capture_by, capture_of}
+use Rattle.pcap_frames.specs.Written.{frames_octets, capture_octets}
 use Rattle.packet_walk.specs.declared.packet.PacketIn.{PacketIn}
 use Rattle.shared_tables.specs.Plan.{PlanState}
 use Rattle.label_flow.specs.Pair.{PairState}
@@ -25,13 +24,12 @@ use Rattle.label_flow.specs.Feed.{AreBegun, AreWhole}
 use Rattle.label_flow.specs.Walked.{AreWalked}
 use Rattle.label_flow.specs.Schedule.{AreLawful, versions_in}
 use Rattle.report_lines.specs.Capture.{capture_line}
-use Rattle.report_lines.specs.Fixed.{packets_limit_line}
 use Rattle.report_lines.specs.Flow.{flow_line, flow_end_line}
-use Rattle.call_report.specs.Event.{Event, capture_event}
-use Rattle.call_report.specs.Outside.{Outside}
+use Rattle.call_report.specs.Event.{capture_event}
+use Rattle.call_report.specs.Outside.{Outside, NoneFailed, NoWriteFailed}
 use Rattle.call_report.specs.Output.{Output, IsBegun, IsMade}
 use Rattle.call_report.specs.Printing.{Breaks}
-use Rattle.call_report.proofs.Law.{nothing_is_handed_on, texts_join}
+use Rattle.call_report.proofs.Law.{nothing_is_handed_on}
 use Rattle.flow_run.specs.declared.end.FlowEnd.{FlowEnd}
 use Rattle.flow_run.specs.declared.end.FlowEnd.TheVariants.{GoesOn, Broken, TooMany, Stopped}
 use Rattle.flow_run.specs.declared.end.FlowStop.{FlowStop}
@@ -39,9 +37,9 @@ use Rattle.flow_run.specs.declared.end.FlowStop.TheVariants as the_stop
 use Rattle.flow_run.specs.declared.source.Source.{Source}
 use Rattle.flow_run.specs.declared.source.Behind.{Behind}
 use Rattle.flow_run.specs.declared.source.Behind.TheVariants as the_behind
-use Rattle.flow_run.specs.Input.{FlowInput, input_by, flow_input, packet_in, packets_in}
-use Rattle.flow_run.specs.Run.{FlowRun, is_judged, goes_on, is_denied, walked_lines, run_text, run_end, kept_frames, run_output, passed_in, denied_in}
-use Rattle.flow_run.specs.Ends.{IsHandedOn, IsCutOff, IsPrinted, IsEnd, HasEnded, HasMade, IsCause, IsRunOf, HasSteps, FlowEnds}
+use Rattle.flow_run.specs.Input.{FlowInput, input_by, flow_input, packet_in}
+use Rattle.flow_run.specs.Run.{FlowRun, is_judged, is_denied, walked_lines, run_text, run_end, kept_frames, passed_in, denied_in}
+use Rattle.flow_run.specs.Ends.{IsHandedOn, IsPrinted, IsEnd, HasEnded, HasMade, RanShort, IsCause, IsRunOf, HasSteps, FlowEnds}
 use Rattle.flow_run.specs.inside.Output.{IsAppended}
 use Rattle.flow_run.specs.inside.Source.{records_left, frames_left, packets_left, heads_left, file_of, StandsBy, IsAtEnd, event_of, is_end, ReadsMove, IsFed}
 use Rattle.flow_run.specs.inside.Taken.{Moment, IsPrintedTo, kept_by, IsMoved, outside_of, HasTaken}
@@ -129,51 +127,58 @@ module _ (plan : PlanState) (names : List (List ℕ)) (workers number most upto 
   faults_same : after.stream ≡ before.stream → before.stream.faults ≤ after.stream.faults
   faults_same same = omega (arith, ap (λ (s : SinkState). s.faults) same)
 
+  ran_short : after.folder ≡ before.folder → after.stream ≡ before.stream → RanShort flow before after
+  ran_short folder stream = record {
+    reads = inl (λ name. ap (λ (d : DepotState). d.reads name) folder);
+    creates = λ name. ap (λ (d : DepotState). d.creates name) folder;
+    written = record { writes = ap (λ (s : SinkState). s.faults) stream; appends = λ name. ap (λ (d : DepotState). d.appends name) folder };
+  }
+
   -- memory runs out for its line
   pub ends_lineless : after.folder ≡ before.folder → after.stream ≡ before.stream → FlowEnds plan names workers number most upto flow before after waits waits' [] (Stopped the_stop.OutOfMemory)
   ends_lineless folder stream =
       early (Stopped the_stop.OutOfMemory) (λ told. tt)
       (λ told. record {
         told = ap (λ (s : SinkState). s.tells) stream;
-        faults = faults_same stream;
+        faults = ap (λ (s : SinkState). s.faults) stream;
         prefix = λ t. record { count = 0; within = omega arith; written = ap (λ (s : SinkState). s.written) stream ∙ sym (append-nil before.stream.written) };
       })
       (λ told. unmade the_stop.OutOfMemory (λ name. ap (λ (d : DepotState). d.held name) folder))
-      tt tt (λ none. (λ name. ap (λ (d : DepotState). d.creates name) folder, λ name. ap (λ (d : DepotState). d.appends name) folder))
+      tt (ran_short folder stream) (λ none. (λ name. ap (λ (d : DepotState). d.creates name) folder, λ name. ap (λ (d : DepotState). d.appends name) folder))
       (faults_same stream) (ap (λ (d : DepotState). d.tells) folder) (ap (λ (s : SinkState). s.tells) stream)
 
   module _ (waits_are : waits' ≡ waits ++ flow_line number flow.input) (stream : after.stream ≡ before.stream) (folder_told : after.folder.tells ≡ before.folder.tells)
       (kept : IsTrue before.folder.tells → (name : List ℕ) → after.folder.held name ≡ before.folder.held name)
       (still : flow.output ≡ None → SameCounts before.folder.creates after.folder.creates × SameCounts before.folder.appends after.folder.appends) where
     -- a read of the header has failed
-    pub ends_unread : Rose (before.folder.reads flow.input) (after.folder.reads flow.input) → FlowEnds plan names workers number most upto flow before after waits waits' [] (Stopped the_stop.Read)
-    ends_unread rose =
-        early (Stopped the_stop.Read) (λ told. tt) (λ told. line_waits waits_are stream) (λ told. unmade the_stop.Read (kept told)) tt rose still
+    pub ends_unread : Rose (before.folder.reads flow.input) (after.folder.reads flow.input) → NoWriteFailed before after → FlowEnds plan names workers number most upto flow before after waits waits' [] (Stopped the_stop.Read)
+    ends_unread rose unwritten =
+        early (Stopped the_stop.Read) (λ told. tt) (λ told. line_waits waits_are stream) (λ told. unmade the_stop.Read (kept told)) tt (rose, unwritten) still
         (faults_same stream) folder_told (ap (λ (s : SinkState). s.tells) stream)
 
     -- the output can't be made
-    pub ends_unmade : (name : List ℕ) → flow.output ≡ Some name → Rose (before.folder.creates name) (after.folder.creates name)
+    pub ends_unmade : (name : List ℕ) → flow.output ≡ Some name → Rose (before.folder.creates name) (after.folder.creates name) → NoWriteFailed before after
         → FlowEnds plan names workers number most upto flow before after waits waits' [] (Stopped the_stop.Create)
-    ends_unmade name is rose =
-        early (Stopped the_stop.Create) (λ told. tt) (λ told. line_waits waits_are stream) (λ told. unmade the_stop.Create (kept told)) tt (name, is, rose) still
+    ends_unmade name is rose unwritten =
+        early (Stopped the_stop.Create) (λ told. tt) (λ told. line_waits waits_are stream) (λ told. unmade the_stop.Create (kept told)) tt (name, is, rose, unwritten) still
         (faults_same stream) folder_told (ap (λ (s : SinkState). s.tells) stream)
 
     -- memory runs out behind its line
-    pub ends_early : FlowEnds plan names workers number most upto flow before after waits waits' [] (Stopped the_stop.OutOfMemory)
-    ends_early =
-        early (Stopped the_stop.OutOfMemory) (λ told. tt) (λ told. cut_off _ _ _ _ _ (line_waits waits_are stream)) (λ told. unmade the_stop.OutOfMemory (kept told)) tt tt still
+    pub ends_early : RanShort flow before after → FlowEnds plan names workers number most upto flow before after waits waits' [] (Stopped the_stop.OutOfMemory)
+    ends_early short =
+        early (Stopped the_stop.OutOfMemory) (λ told. tt) (λ told. cut_off _ _ _ _ _ (line_waits waits_are stream)) (λ told. unmade the_stop.OutOfMemory (kept told)) tt short still
         (faults_same stream) folder_told (ap (λ (s : SinkState). s.tells) stream)
 
     -- the header is broken
     pub ends_broken : (fault : CaptureFault) → (IsTrue before.folder.tells → capture_header (octets_of (before.folder.held flow.input)) ≡ Err fault)
-        → (IsTrue before.folder.tells → IsSome (before.folder.held flow.input)) → SameCounts before.folder.creates after.folder.creates → SameCounts before.folder.appends after.folder.appends
+        → (IsTrue before.folder.tells → IsSome (before.folder.held flow.input)) → NoneFailed before after
         → FlowEnds plan names workers number most upto flow before after waits waits' [] (Broken fault)
     unfolding first_run
-    ends_broken fault header present creates appends =
+    ends_broken fault header present none =
         early (Broken fault) (λ told. broken_ends number most flow (before.folder.held flow.input) fault (present told) (header told))
         (λ told. line_waits waits_are stream)
         (λ told. broken_made number most flow (before.folder.held flow.input) fault before.folder.held after.folder.held (present told) (header told) (kept told))
-        tt (creates, appends, ap (λ (s : SinkState). s.faults) stream) still (faults_same stream) folder_told (ap (λ (s : SinkState). s.tells) stream)
+        tt none still (faults_same stream) folder_told (ap (λ (s : SinkState). s.tells) stream)
 
 -- ---- a flow that has run
 
@@ -284,30 +289,58 @@ made_by stop text waits name old new none empty appended =
       λ absent. absurd (let no_text : Some text ≡ None = absent in cc),
     )
 
+unwritten_outside : (was now before after : Outside) → SameCounts before.folder.appends was.folder.appends → was.stream.faults ≡ before.stream.faults
+    → SameCounts now.folder.appends after.folder.appends → after.stream.faults ≡ now.stream.faults → NoWriteFailed was now → NoWriteFailed before after
+unwritten_outside was now before after a f a' f' none = record { writes = f' ∙ none.writes ∙ f; appends = λ name. a' name ∙ none.appends name ∙ a name }
+
 moved_outside : (flow : FlowLine) (stop : Option FlowStop) (was now before after : Outside) → SameCounts before.folder.appends was.folder.appends → was.stream.faults ≡ before.stream.faults
     → SameCounts now.folder.appends after.folder.appends → after.stream.faults ≡ now.stream.faults → IsMoved flow stop was now → IsMoved flow stop before after
-moved_outside flow None was now before after a f a' f' moved = (λ name. a' name ∙ moved.0 name ∙ a name, f' ∙ moved.1 ∙ f)
-moved_outside flow (Some the_stop.Read) was now before after a f a' f' moved = tt
+moved_outside flow None was now before after a f a' f' moved = unwritten_outside was now before after a f a' f' moved
+moved_outside flow (Some the_stop.Read) was now before after a f a' f' moved = unwritten_outside was now before after a f a' f' moved
 moved_outside flow (Some the_stop.Create) was now before after a f a' f' moved = absurd moved
 moved_outside flow (Some the_stop.Append) was now before after a f a' f' moved =
     (moved.0, moved.1, subst (λ (n : ℕ). Rose n (after.folder.appends moved.0)) (a moved.0) (subst (λ (n : ℕ). Rose (was.folder.appends moved.0) n) (sym (a' moved.0)) moved.2))
 moved_outside flow (Some the_stop.Print) was now before after a f a' f' moved =
     subst (λ (n : ℕ). Rose n after.stream.faults) f (subst (λ (n : ℕ). Rose was.stream.faults n) (sym f') moved)
-moved_outside flow (Some the_stop.OutOfMemory) was now before after a f a' f' moved = tt
+moved_outside flow (Some the_stop.OutOfMemory) was now before after a f a' f' moved = unwritten_outside was now before after a f a' f' moved
 
-cause_of : (flow : FlowLine) (end : FlowEnd) (behind : Option Behind) (before after : Outside) → IsBehind end behind → ReadsMove behind flow.input before.folder.reads after.folder.reads
-    → (stop_of end ≡ Some the_stop.Read → behind ≡ Some the_behind.Failed) → SameCounts before.folder.creates after.folder.creates → IsMoved flow (stop_of end) before after → IsCause flow end before after
-cause_of flow (GoesOn network replies) behind before after is reads failed creates moved =
-    (subst (λ (b : Option Behind). ReadsMove b flow.input before.folder.reads after.folder.reads) is reads, creates, moved.0, moved.1)
-cause_of flow (Broken fault) behind before after is reads failed creates moved = (creates, moved.0, moved.1)
-cause_of flow TooMany behind before after is reads failed creates moved =
-    (subst (λ (b : Option Behind). ReadsMove b flow.input before.folder.reads after.folder.reads) is reads, creates, moved.0, moved.1)
-cause_of flow (Stopped the_stop.Read) behind before after is reads failed creates moved =
-    subst (λ (b : Option Behind). ReadsMove b flow.input before.folder.reads after.folder.reads) (failed refl) reads
-cause_of flow (Stopped the_stop.Create) behind before after is reads failed creates moved = absurd moved
-cause_of flow (Stopped the_stop.Append) behind before after is reads failed creates moved = moved
-cause_of flow (Stopped the_stop.Print) behind before after is reads failed creates moved = moved
-cause_of flow (Stopped the_stop.OutOfMemory) behind before after is reads failed creates moved = tt
+-- no read has failed, or one of this name
+reads_or_rose : (behind : Option Behind) (name : List ℕ) (old new : List ℕ → ℕ) → ReadsMove behind name old new → SameCounts old new ⊎ Rose (old name) (new name)
+reads_or_rose None name old new moved = inl moved
+reads_or_rose (Some the_behind.Whole) name old new moved = inl moved
+reads_or_rose (Some (the_behind.Broken fault)) name old new moved = inl moved
+reads_or_rose (Some the_behind.TooMany) name old new moved = inl moved
+reads_or_rose (Some the_behind.Failed) name old new moved = inr moved
+reads_or_rose (Some the_behind.NoMemory) name old new moved = inl moved
+
+-- none has where the input was read to its end, or to an event
+ended_reads : (behind : Behind) (name : List ℕ) (old new : List ℕ → ℕ) → is_end (Some behind) ≡ true → ReadsMove (Some behind) name old new → SameCounts old new
+ended_reads the_behind.Whole name old new ending moved = moved
+ended_reads (the_behind.Broken fault) name old new ending moved = moved
+ended_reads the_behind.TooMany name old new ending moved = moved
+ended_reads the_behind.Failed name old new ending moved = absurd (let no : false ≡ true = ending in cc)
+ended_reads the_behind.NoMemory name old new ending moved = moved
+
+module _ (flow : FlowLine) (behind : Option Behind) (before after : Outside) (reads : ReadsMove behind flow.input before.folder.reads after.folder.reads)
+    (creates : SameCounts before.folder.creates after.folder.creates) where
+  -- nothing has failed up to this end of the input
+  none_failed : (b : Behind) → is_end (Some b) ≡ true → behind ≡ Some b → NoWriteFailed before after → NoneFailed before after
+  none_failed b ending is written = record {
+    reads = ended_reads b flow.input before.folder.reads after.folder.reads ending (subst (λ (x : Option Behind). ReadsMove x flow.input before.folder.reads after.folder.reads) is reads);
+    creates = creates;
+    appends = written.appends;
+    writes = written.writes;
+  }
+
+  cause_of : (end : FlowEnd) → IsBehind end behind → (stop_of end ≡ Some the_stop.Read → behind ≡ Some the_behind.Failed) → IsMoved flow (stop_of end) before after → IsCause flow end before after
+  cause_of (GoesOn network replies) is failed moved = none_failed the_behind.Whole refl is moved
+  cause_of (Broken fault) is failed moved = none_failed (the_behind.Broken fault) refl is moved
+  cause_of TooMany is failed moved = none_failed the_behind.TooMany refl is moved
+  cause_of (Stopped the_stop.Read) is failed moved = (subst (λ (b : Option Behind). ReadsMove b flow.input before.folder.reads after.folder.reads) (failed refl) reads, moved)
+  cause_of (Stopped the_stop.Create) is failed moved = absurd moved
+  cause_of (Stopped the_stop.Append) is failed moved = moved
+  cause_of (Stopped the_stop.Print) is failed moved = moved
+  cause_of (Stopped the_stop.OutOfMemory) is failed moved = record { reads = reads_or_rose behind flow.input before.folder.reads after.folder.reads reads; creates = creates; written = moved }
 
 module _ (plan : PlanState) (names : List (List ℕ)) (workers number most upto : ℕ) (flow : FlowLine) (before : Outside) (was : Moment) (after : Outside) (waits waits' : List ℕ)
     (seen : List (List ℕ)) (end : FlowEnd) (start : IsStart flow most before.folder was.folder was.source was.octets) (stream : was.stream ≡ before.stream)
@@ -504,7 +537,7 @@ module _ (plan : PlanState) (names : List (List ℕ)) (workers number most upto 
   ends_run = record {
     runs = is_run;
     steps = flown.steps;
-    cause = cause_of flow end flown.now.source.behind before after flown.behind reads_are (λ is. flown.taken.failed (flown.stop ∙ is)) creates_are moved_are;
+    cause = cause_of flow flown.now.source.behind before after reads_are creates_are end flown.behind (λ is. flown.taken.failed (flown.stop ∙ is)) moved_are;
     still = λ none. (creates_are, λ name. ap (λ (d : DepotState). d.appends name) flown.folder ∙ flown.taken.still none name ∙ start.appends name);
     faults = omega (arith, flown.taken.faults, ap (λ (s : SinkState). s.faults) flown.stream, ap (λ (s : SinkState). s.faults) stream);
     folder_told = ap (λ (d : DepotState). d.tells) flown.folder ∙ flown.taken.folder_told ∙ start.told;
@@ -546,14 +579,22 @@ ends_uncreated plan names workers number most upto flow before after waits waits
     still : flow.output ≡ None → SameCounts before.folder.creates after.folder.creates × SameCounts before.folder.appends after.folder.appends
     still none = (λ name. created.still none name ∙ read.creates name, λ name. created.appends name ∙ read.appends name)
 
+    unwritten : NoWriteFailed before after
+    unwritten = record { writes = ap (λ (s : SinkState). s.faults) stream; appends = λ name. created.appends name ∙ read.appends name }
+
     by_case : (why : FlowStop) → CreatesMove (Some why) flow.output mid.creates after.folder.creates → FlowEnds plan names workers number most upto flow before after waits waits' [] (Stopped why)
     by_case the_stop.Read moved = absurd moved
     by_case the_stop.Create moved =
         ends_unmade plan names workers number most upto flow before after waits waits' low waits_are stream (created.told ∙ read.told) kept still moved.0 moved.1
-        (subst (λ (n : ℕ). Rose n (after.folder.creates moved.0)) (read.creates moved.0) moved.2)
+        (subst (λ (n : ℕ). Rose n (after.folder.creates moved.0)) (read.creates moved.0) moved.2) unwritten
     by_case the_stop.Append moved = absurd moved
     by_case the_stop.Print moved = absurd moved
-    by_case the_stop.OutOfMemory moved = ends_early plan names workers number most upto flow before after waits waits' low waits_are stream (created.told ∙ read.told) kept still
+    by_case the_stop.OutOfMemory moved =
+        ends_early plan names workers number most upto flow before after waits waits' low waits_are stream (created.told ∙ read.told) kept still (record {
+          reads = inl (λ name. created.reads name ∙ read.reads name);
+          creates = λ name. moved name ∙ read.creates name;
+          written = unwritten;
+        })
 
 -- ---- the header of the input
 
@@ -580,8 +621,18 @@ pub ends_unbegun : (plan : PlanState) (names : List (List ℕ)) (workers number 
     → OnlyReads {T = Source} the_frame_stop.ReadFault (Err stop) flow.input before.folder after.folder
     → FlowEnds plan names workers number most upto flow before after waits waits' [] (end_at stop)
 ends_unbegun plan names workers number most upto flow before after waits waits' shown (the_frame_stop.Capture fault) low waits_are stream answer present only =
-    ends_broken plan names workers number most upto flow before after waits waits' low waits_are stream only.told only.kept (λ none. (only.creates, only.appends)) fault answer present only.creates only.appends
+    ends_broken plan names workers number most upto flow before after waits waits' low waits_are stream only.told only.kept (λ none. (only.creates, only.appends)) fault answer present (record {
+      reads = only.reads.still (λ failed. absurd cc);
+      creates = only.creates;
+      appends = only.appends;
+      writes = ap (λ (s : SinkState). s.faults) stream;
+    })
 ends_unbegun plan names workers number most upto flow before after waits waits' shown the_frame_stop.ReadFault low waits_are stream answer present only =
     ends_unread plan names workers number most upto flow before after waits waits' low waits_are stream only.told only.kept (λ none. (only.creates, only.appends)) (only.reads.cause refl)
+    (record { writes = ap (λ (s : SinkState). s.faults) stream; appends = only.appends })
 ends_unbegun plan names workers number most upto flow before after waits waits' shown the_frame_stop.OutOfMemory low waits_are stream answer present only =
-    ends_early plan names workers number most upto flow before after waits waits' low waits_are stream only.told only.kept (λ none. (only.creates, only.appends))
+    ends_early plan names workers number most upto flow before after waits waits' low waits_are stream only.told only.kept (λ none. (only.creates, only.appends)) (record {
+      reads = inl (only.reads.still (λ failed. absurd cc));
+      creates = only.creates;
+      written = record { writes = ap (λ (s : SinkState). s.faults) stream; appends = only.appends };
+    })

@@ -1,8 +1,7 @@
 -- A round beside a beginning of the steps, and how a flow ends from its beginning on.
-use Rattle.std.proofs.Common.{◌≡◌, ◌≢◌, ◌<◌, ◌≤◌, ◌⊎◌, ℕ, ◌+◌, ◌-◌, Bool, true, false, nat_eq, not, is_some, IsTrue, IsSome, List, [], ◌∷◌, ◌++◌, length, take, drop, map, All, Option, Some, None, Result, Ok, Err, refl, sym, ap, subst, ◌∙◌, append_assoc, length-append, arith, le_refl, inl, inr}
-use Rattle.std.proofs.lemmas.List.{append-nil, length-map, length-take-le, take_at, take_all}
+use Rattle.std.proofs.Common.{◌≡◌, ◌<◌, ◌≤◌, ℕ, ◌+◌, true, false, List, [], length, take, All, Option, Some, None, Result, Ok, Err, refl, sym, ap, subst, ◌∙◌, arith, le_refl}
+use Rattle.std.proofs.lemmas.List.{length-take-le}
 use Rattle.flow_lines.specs.declared.hop.Hop.{Hop}
-use Rattle.command_forms.specs.declared.command.Step.{Step}
 use Rattle.std.specs.Prelude.{IsOk, OnOk, IfOk}
 use Rattle.std.proofs.Common.{Vec, Global}
 use Rattle.node_tables.specs.declared.reply.Reply.{Reply}

@@ -1,12 +1,10 @@
 -- What appends to an output make of it.
-use Rattle.std.proofs.Common.{◌≡◌, ◌≢◌, ℕ, Bool, true, false, cond, IsTrue, IsSome, List, [], ◌∷◌, ◌++◌, take, drop, Option, Some, None, Result, Ok, Err, refl, sym, ap, subst, ◌∙◌, append_assoc}
+use Rattle.std.proofs.Common.{◌≡◌, ◌≢◌, ℕ, IsTrue, IsSome, List, [], ◌++◌, take, drop, Option, Some, None, Err, refl, sym, ap, subst, ◌∙◌, append_assoc}
 use Rattle.std.proofs.lemmas.List.{append-nil, take-append-drop}
-use Rattle.net_io.specs.Depot.{DepotState, octets_of, NowHolds, AppendsPrefix, OnlyAppends}
-use Rattle.net_io.specs.Faults.{SameCounts}
+use Rattle.net_io.specs.Depot.{DepotState, octets_of, AppendsPrefix, OnlyAppends}
 use Rattle.net_io.specs.declared.fault.IoFault.{IoFault}
 use Rattle.net_io.specs.declared.fault.IoFault.TheVariants as io
 use Rattle.flow_run.specs.declared.end.FlowStop.{FlowStop}
-use Rattle.flow_run.specs.declared.end.FlowStop.TheVariants as the_stop
 use Rattle.flow_run.specs.inside.Output.{IsAppended, IsThere, AppendsMove, HasAppended}
 
 pub there_is : (name name' : List ℕ) (folder : DepotState) → name' ≡ name → IsThere (Some name) folder → IsTrue folder.tells → IsSome (folder.held name')
@@ -45,44 +43,6 @@ append_fails stop fault name waits waits' old new there part only moved = record
   creates = only.creates;
   still = λ none. absurd cc;
   moved = moved;
-}
-
--- nothing is appended, and what was added waits
-pub nothing_appended : (stop : Option FlowStop) (output : Option (List ℕ)) (octets waits waits' : List ℕ) (folder : DepotState) → IsThere output folder
-    → ((name : List ℕ) → output ≡ Some name → stop ≡ None → waits' ≡ waits ++ octets) → AppendsMove stop output folder.appends folder.appends
-    → HasAppended stop output octets waits waits' folder folder
-nothing_appended stop output octets waits waits' folder there wait moved = record {
-  told = refl;
-  here = λ told name is.
-      let held = there told name is in
-      record {
-        held = held.0;
-        sent = [];
-        rest = waits ++ octets;
-        was = held.1;
-        now = held.1 ∙ ap Some (sym (append-nil held.0));
-        all = refl;
-        left = λ none. sym (wait name is none);
-      };
-  others = λ told name apart. refl;
-  reads = λ name. refl;
-  creates = λ name. refl;
-  still = λ none name. refl;
-  moved = moved;
-}
-
--- octets that wait already are appended
-pub appended_behind : (stop : Option FlowStop) (output : Option (List ℕ)) (octets waits mid waits' : List ℕ) (old new : DepotState) → mid ≡ waits ++ octets
-    → HasAppended stop output [] mid waits' old new → HasAppended stop output octets waits waits' old new
-appended_behind stop output octets waits mid waits' old new is appended = record {
-  told = appended.told;
-  here = λ told name same.
-      subst (λ (text : List ℕ). IsAppended stop text waits' (old.held name) (new.held name)) (append-nil mid ∙ is) (appended.here told name same);
-  others = appended.others;
-  reads = appended.reads;
-  creates = appended.creates;
-  still = appended.still;
-  moved = appended.moved;
 }
 
 -- one behind the other

@@ -1,5 +1,5 @@
 -- The lines of a flow, one behind the other, up to a stop.
-use Rattle.std.proofs.Common.{◌≡◌, ◌<◌, ℕ, ◌+◌, IsTrue, List, [], ◌∷◌, ◌++◌, length, take, Option, Some, None, Result, Ok, Err, refl, sym, ap, subst, ◌∙◌, append_assoc, length-append, arith, le_refl}
+use Rattle.std.proofs.Common.{◌≡◌, ◌<◌, ℕ, ◌+◌, List, [], ◌∷◌, ◌++◌, length, Some, Ok, Err, refl, sym, ap, subst, ◌∙◌, append_assoc, arith}
 use Rattle.std.proofs.lemmas.List.{append-nil}
 use Rattle.net_io.specs.Sink.{SinkState, WritesPrefix}
 use Rattle.net_io.specs.declared.fault.IoFault.{IoFault}
@@ -7,11 +7,9 @@ use Rattle.net_io.specs.declared.fault.IoFault.TheVariants as io
 use Rattle.flow_lines.specs.declared.hop.Hop.{Hop}
 use Rattle.packet_walk.specs.declared.walked.Walked.{Walked}
 use Rattle.label_flow.specs.Pair.{PairState}
-use Rattle.report_lines.specs.Flow.{flow_line, walked_line, flow_end_line}
-use Rattle.call_report.specs.Printing.{HandsOn, Goes, Breaks}
+use Rattle.report_lines.specs.Flow.{walked_line}
+use Rattle.call_report.specs.Printing.{HandsOn}
 use Rattle.call_report.proofs.Law.{texts_join, a_whole_text_is_a_front}
-use Rattle.flow_run.specs.declared.end.FlowStop.{FlowStop}
-use Rattle.flow_run.specs.declared.end.FlowStop.TheVariants as the_stop
 use Rattle.flow_run.specs.Run.{walked_lines}
 use Rattle.flow_run.specs.Ends.{IsHandedOn, IsCutOff}
 use Rattle.flow_run.specs.inside.Taken.{IsPrintedTo, print_stop}
@@ -24,16 +22,16 @@ some_walked flow number names hops walked = omega arith
 pub cut_off : (text waits waits' : List ℕ) (a b : SinkState) → IsHandedOn text waits waits' a b → IsCutOff text waits a b
 cut_off text waits waits' a b hands = record {
   told = hands.told;
-  faults = hands.counts.no_less;
+  faults = hands.counts.ok;
   prefix = λ told.
       let goes = hands.ok in
       subst (λ (t : List ℕ). WritesPrefix t a.written b.written) goes.all (a_whole_text_is_a_front goes.sent waits' a.written b.written (goes.written told));
 }
 
-pub cut_broken : (text waits waits' : List ℕ) (fault : IoFault) (a b : SinkState) → HandsOn {T = Unit {0}} text waits waits' (Err fault) a b → IsCutOff text waits a b
-cut_broken text waits waits' fault a b hands = record {
+pub cut_broken : (text waits waits' : List ℕ) (a b : SinkState) → HandsOn {T = Unit {0}} text waits waits' (Err io.OutOfMemory) a b → IsCutOff text waits a b
+cut_broken text waits waits' a b hands = record {
   told = hands.told;
-  faults = hands.counts.no_less;
+  faults = hands.counts.still (λ failed. absurd cc);
   prefix = λ told.
       let less = hands.err.written told in
       record { count = less.count; within = omega (arith, less.within); written = less.written };
@@ -46,7 +44,7 @@ print_fails io.Failed text line waits mid still a b c one other =
     let all = texts_join text line waits mid still tt (Err io.Failed) a b c one other in
     (all.told, all.counts.cause refl, all.err)
 print_fails io.OutOfMemory text line waits mid still a b c one other =
-    cut_broken (text ++ line) waits still io.OutOfMemory a c (texts_join text line waits mid still tt (Err io.OutOfMemory) a b c one other)
+    cut_broken (text ++ line) waits still a c (texts_join text line waits mid still tt (Err io.OutOfMemory) a b c one other)
 
 pub print_goes : (text line waits mid still : List ℕ) (a b c : SinkState) → IsHandedOn text waits mid a b → IsHandedOn line mid still b c → IsHandedOn (text ++ line) waits still a c
 print_goes text line waits mid still a b c one other = texts_join text line waits mid still tt (Ok tt) a b c one other

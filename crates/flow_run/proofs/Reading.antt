@@ -1,9 +1,8 @@
 -- What one read of a source, and reads one after the other, change.
-use Rattle.std.proofs.Common.{rules, ◌≡◌, ℕ, ◌+◌, ◌-◌, ◌<◌, ◌≤◌, ◌⊎◌, Bool, true, false, IsTrue, IsSome, List, [], ◌∷◌, ◌++◌, length, take, drop, map, Option, Some, None, Result, Ok, Err, refl, sym, ap, subst, ◌∙◌, append_assoc, length-append, arith, inl, inr}
+use Rattle.std.proofs.Common.{rules, ◌≡◌, ◌≢◌, ℕ, ◌+◌, ◌-◌, ◌<◌, ◌≤◌, Bool, IsTrue, List, [], ◌∷◌, ◌++◌, length, take, drop, map, Option, Some, None, Ok, Err, refl, sym, ap, subst, ◌∙◌, append_assoc, length-append, arith, inl, inr}
 use Rattle.std.specs.List.{All}
-use Rattle.std.specs.Option.{option_map}
 use Rattle.std.proofs.lemmas.Bool.{lt-ltb, le-ltb}
-use Rattle.std.proofs.lemmas.List.{append-nil, drop-drop, drop_all, map-append, length-map}
+use Rattle.std.proofs.lemmas.List.{append-nil, drop-drop, map-append}
 use Rattle.std.proofs.lemmas.List.Elements.{All-append, All-nil}
 use Rattle.net_io.specs.Depot.{DepotState, OnlyReads, octets_of}
 use Rattle.net_io.specs.Faults.{SameCounts}
@@ -12,21 +11,17 @@ use Rattle.pcap_frames.specs.declared.record.FrameHead.{FrameHead}
 use Rattle.pcap_frames.specs.declared.fault.CaptureFault.{CaptureFault}
 use Rattle.pcap_frames.specs.declared.fault.FrameStop.{FrameStop}
 use Rattle.pcap_frames.specs.declared.fault.FrameStop.TheVariants as the_frame_stop
-use Rattle.pcap_frames.specs.Header.{capture_header}
 use Rattle.pcap_frames.specs.Record.{Frame, record_size, record_at}
-use Rattle.pcap_frames.specs.Capture.{Capture, Records, go_on, records_at, capture_by, capture_of}
-use Rattle.pcap_frames.specs.Reader.{Reader, IsReady}
+use Rattle.pcap_frames.specs.Capture.{Capture, Records, go_on, records_at}
+use Rattle.pcap_frames.specs.Reader.{Reader}
 use Rattle.pcap_frames.proofs.Law.{records_come_one_behind_another}
-use Rattle.label_flow.specs.Feed.{AreFetched, HasFetched, IsOver}
 use Rattle.packet_walk.specs.declared.packet.PacketIn.{PacketIn}
-use Rattle.report_lines.specs.Capture.{capture_line}
-use Rattle.report_lines.specs.Fixed.{packets_limit_line}
-use Rattle.call_report.specs.Event.{Event, capture_event}
+use Rattle.call_report.specs.Event.{capture_event}
 use Rattle.flow_run.specs.Input.{packet_in}
 use Rattle.flow_run.specs.declared.source.Source.{Source}
 use Rattle.flow_run.specs.declared.source.Behind.{Behind}
 use Rattle.flow_run.specs.declared.source.Behind.TheVariants.{Whole, Broken, TooMany, Failed, NoMemory}
-use Rattle.flow_run.specs.inside.Source.{records_left, frames_left, file_of, IsAmid, IsAtEnd, event_of, IsSame, HasGot, HasOnlyRead, ReadsMove, StandsBy, IsFed, HasFilled, HasMoved, HasStepped, packets_left, is_end}
+use Rattle.flow_run.specs.inside.Source.{records_left, frames_left, file_of, IsAmid, IsAtEnd, IsSame, HasGot, HasOnlyRead, ReadsMove, StandsBy}
 use Rattle.flow_run.proofs.Parts.{packet_is_short}
 
 -- ---- the records that are left
@@ -246,14 +241,25 @@ got_more tells file a b c xs ys zs one other =
 pub only_none : (name : List ℕ) (old : DepotState) → HasOnlyRead None name old old
 only_none name old = record { told = refl; kept = λ told other. refl; reads = λ other. refl; creates = λ other. refl; appends = λ other. refl }
 
+-- a read that was refused, but hasn't failed, has moved no number
+pub only_refused : (behind : Behind) (fault : FrameStop) (name : List ℕ) (old new : DepotState) → fault ≢ the_frame_stop.ReadFault → (SameCounts old.reads new.reads → ReadsMove (Some behind) name old.reads new.reads)
+    → OnlyReads {T = Option FrameHead} the_frame_stop.ReadFault (Err fault) name old new → HasOnlyRead (Some behind) name old new
+only_refused behind fault name old new other same only = record {
+  told = only.told;
+  kept = only.kept;
+  reads = same (only.reads.still (λ failed. other (let one : fault ≡ the_frame_stop.ReadFault = cc in one)));
+  creates = only.creates;
+  appends = only.appends;
+}
+
 pub reads_more : (behind : Option Behind) (name : List ℕ) (a b c : List ℕ → ℕ) → SameCounts a b → ReadsMove behind name b c → ReadsMove behind name a c
 reads_more None name a b c same moved = λ other. moved other ∙ same other
 reads_more (Some Whole) name a b c same moved = λ other. moved other ∙ same other
-reads_more (Some (Broken fault)) name a b c same moved = moved
+reads_more (Some (Broken fault)) name a b c same moved = λ other. moved other ∙ same other
 reads_more (Some TooMany) name a b c same moved = λ other. moved other ∙ same other
 reads_more (Some Failed) name a b c same (inl rose) = inl (omega (arith, rose, same name))
 reads_more (Some Failed) name a b c same (inr end) = inr end
-reads_more (Some NoMemory) name a b c same moved = moved
+reads_more (Some NoMemory) name a b c same moved = λ other. moved other ∙ same other
 
 pub only_more : (behind : Option Behind) (name : List ℕ) (a b c : DepotState) → HasOnlyRead None name a b → HasOnlyRead behind name b c → HasOnlyRead behind name a c
 only_more behind name a b c one other = record {
@@ -291,11 +297,6 @@ module _ (a b : DepotState) (s s' : Source) (xs ys : List PacketIn) (only : HasO
   next_stands behind s'' stands told =
       subst (λ (f : List ℕ). StandsBy behind s'' f) (same_file None a b s s' only got.same.name told) (stands (subst IsTrue (sym only.told) told))
 
-  pub back_amid : (IsTrue a.tells → IsAmid s' (file_of a s)) → IsTrue b.tells → IsAmid s' (file_of b s')
-  back_amid amid told =
-      let told' = subst IsTrue only.told told in
-      subst (λ (f : List ℕ). IsAmid s' f) (sym (same_file None a b s s' only got.same.name told')) (amid told')
-
   pub next_only : (behind : Option Behind) (c : DepotState) → HasOnlyRead behind s'.frames.name b c → HasOnlyRead behind s.frames.name a c
   next_only behind c more = only_more behind s.frames.name a b c only (subst (λ (n : List ℕ). HasOnlyRead behind n b c) got.same.name more)
 
@@ -307,19 +308,6 @@ at_end_same behind s s' file frames most read end = record {
   none = sym (stays_left s s' file (ap (λ (r : Reader). r.header) frames) (ap (λ (r : Reader). r.place) frames) most read) ∙ end.none;
 }
 
-no_map : (f : Frame → PacketIn) (frames : List Frame) → map f frames ≡ [] → frames ≡ []
-no_map f [] none = refl
-no_map f (frame ∷ frames) none = absurd cc
-
--- where the input was read to its end, no frame is left
-pub end_left : (behind : Option Behind) (source : Source) (file : List ℕ) → is_end behind ≡ true → StandsBy behind source file → frames_left source file ≡ []
-end_left None source file end stands = absurd cc
-end_left (Some Whole) source file end stands = stands.none
-end_left (Some (Broken fault)) source file end stands = stands.none
-end_left (Some TooMany) source file end stands = stands.none
-end_left (Some Failed) source file end stands = absurd cc
-end_left (Some NoMemory) source file end stands = absurd cc
-
 -- a source that stands there too
 pub stands_same : (behind : Option Behind) (s s' : Source) (file : List ℕ) → s'.frames ≡ s.frames → s'.most ≡ s.most → s'.read ≡ s.read → StandsBy behind s file → StandsBy behind s' file
 stands_same None s s' file frames most read stands = amid_stays s s' file (ap (λ (r : Reader). r.header) frames) (ap (λ (r : Reader). r.place) frames) read stands
@@ -328,157 +316,3 @@ stands_same (Some (Broken fault)) s s' file frames most read stands = at_end_sam
 stands_same (Some TooMany) s s' file frames most read stands = at_end_same TooMany s s' file frames most read stands
 stands_same (Some Failed) s s' file frames most read stands = amid_stays s s' file (ap (λ (r : Reader). r.header) frames) (ap (λ (r : Reader). r.place) frames) read stands
 stands_same (Some NoMemory) s s' file frames most read stands = amid_stays s s' file (ap (λ (r : Reader). r.header) frames) (ap (λ (r : Reader). r.place) frames) read stands
-
--- ---- a batch
-
-pub filled_before : (folder : DepotState) (source : Source) (batch : List PacketIn) → IsFed folder source → batch ≡ [] → IsSome source.behind → HasFilled folder folder source source batch
-filled_before folder source batch fed empty some = record {
-  fed = fed;
-  got = got_nothing folder.tells (file_of folder source) source source [] batch (record { name = refl; header = refl; most = refl }) refl refl empty (λ told. refl);
-  few = omega (arith, ap length empty);
-  some = inr some;
-  moved = inr (refl, refl);
-}
-
-pub filled_by : (before after : DepotState) (old new : Source) (batch batch' : List PacketIn) → old.behind ≡ None → batch ≡ [] → IsReady after new.frames → new.read ≤ new.most
-    → HasOnlyRead new.behind old.frames.name before after → (IsTrue before.tells → StandsBy new.behind new (file_of before old))
-    → HasGot before.tells (file_of before old) old new batch batch' → length batch' ≤ 1024 → (0 < length batch') ⊎ IsSome new.behind → HasFilled before after old new batch'
-filled_by before after old new batch batch' begins empty ready within only stands got few some = record {
-  fed = record {
-    ready = ready;
-    stands = λ told.
-        let told' = subst IsTrue only.told told in
-        subst (λ (f : List ℕ). StandsBy new.behind new f) (sym (same_file new.behind before after old new only got.same.name told')) (stands told');
-    within = within;
-  };
-  got = subst (λ (ps : List PacketIn). HasGot before.tells (file_of before old) old new ps batch') empty got;
-  few = few;
-  some = some;
-  moved = inl (begins, only);
-}
-
-module _ (before after : DepotState) (old mid new : Source) (batch : List PacketIn)
-    (frames : mid.frames ≡ old.frames) (most : mid.most ≡ old.most) (read : mid.read ≡ old.read) (behind : mid.behind ≡ old.behind)
-    (empty : mid.heads.items ≡ []) (at : mid.at ≡ 0) (due : length old.heads.items - old.at ≡ 0) (filled : HasFilled before after mid new batch) where
-  pub filled_same : IsSame old new
-  filled_same = record {
-    name = filled.got.same.name ∙ ap (λ (r : Reader). r.name) frames;
-    header = filled.got.same.header ∙ ap (λ (r : Reader). r.header) frames;
-    most = filled.got.same.most ∙ most;
-  }
-
-  file_is : file_of before mid ≡ file_of before old
-  file_is = ap (λ (r : Reader). octets_of (before.held r.name)) frames
-
-  left_is : IsTrue before.tells → frames_left old (file_of before old) ≡ filled.got.frames ++ frames_left new (file_of before old)
-  left_is told =
-      stays_left old mid (file_of before old) (ap (λ (r : Reader). r.header) frames) (ap (λ (r : Reader). r.place) frames) most read
-      ∙ subst (λ (f : List ℕ). frames_left mid f ≡ filled.got.frames ++ frames_left new f) file_is (filled.got.left told)
-
-  pub filled_moved : HasMoved old new before after
-  filled_moved = elim filled.moved [
-    | inl one ↦ inl (sym behind ∙ one.0, subst (λ (n : List ℕ). HasOnlyRead new.behind n before after) (ap (λ (r : Reader). r.name) frames) one.1)
-    | inr none ↦ inr (none.0 ∙ behind, none.1)
-  ]
-
-  heads_are : new.heads.items ≡ map (λ (f : Frame). f.head) filled.got.frames
-  heads_are = filled.got.heads ∙ ap (λ hs. hs ++ map (λ (f : Frame). f.head) filled.got.frames) empty
-
-  at_is : new.at ≡ 0
-  at_is = filled.got.at ∙ at
-
-  pub filled_stepped : HasStepped old new before after
-  filled_stepped = record {
-    same = filled_same;
-    heads = λ told.
-        ap (λ n. drop n new.heads.items ++ map (λ (f : Frame). f.head) (frames_left new (file_of before old))) at_is
-        ∙ ap (λ hs. hs ++ map (λ (f : Frame). f.head) (frames_left new (file_of before old))) heads_are
-        ∙ sym (map-append (λ (f : Frame). f.head) filled.got.frames (frames_left new (file_of before old)))
-        ∙ ap (λ fs. map (λ (f : Frame). f.head) fs) (sym (left_is told))
-        ∙ ap (λ hs. hs ++ map (λ (f : Frame). f.head) (frames_left old (file_of before old))) (sym (drop_all old.at old.heads.items (omega (arith, due))));
-    moved = filled_moved;
-  }
-
-  pub filled_at : new.at ≤ length new.heads.items
-  filled_at = omega (arith, at_is)
-
-  packets_are : batch ≡ map (packet_in old.frames.header.link) filled.got.frames
-  packets_are = filled.got.packets ∙ ap (λ (r : Reader). map (packet_in r.header.link) filled.got.frames) frames
-
-  filled_due : length new.heads.items - new.at ≡ length batch
-  filled_due = omega (arith, at_is, ap length heads_are, ap length packets_are, length-map filled.got.frames (λ (f : Frame). f.head), length-map filled.got.frames (packet_in old.frames.header.link))
-
-  told_after : after.tells ≡ before.tells
-  told_after = elim filled.moved [ inl one ↦ one.1.told | inr none ↦ ap (λ (d : DepotState). d.tells) none.1 ]
-
-  file_after : IsTrue before.tells → file_of after new ≡ file_of before old
-  file_after told = elim filled_moved [
-    | inl one ↦ same_file new.behind before after old new one.1 filled_same.name told
-    | inr none ↦ ap (λ (d : DepotState). file_of d new) none.1 ∙ ap (λ n. octets_of (before.held n)) filled_same.name
-  ]
-
-  fetched_by : (tells tells' : Bool) → tells ≡ before.tells → tells' ≡ tells → AreFetched (packets_left tells old (file_of before old)) batch (packets_left tells' new (file_of after new))
-  fetched_by true true is same =
-      let told : IsTrue before.tells = sym is in
-      let link = packet_in old.frames.header.link in
-      ap (λ fs. map link fs) (left_is told)
-      ∙ map-append link filled.got.frames (frames_left new (file_of before old))
-      ∙ ap (λ ps. ps ++ map link (frames_left new (file_of before old))) (sym packets_are)
-      ∙ ap (λ (f : List ℕ). batch ++ map link (frames_left new f)) (sym (file_after told))
-      ∙ ap (λ (h : CaptureHeader). batch ++ map (packet_in h.link) (frames_left new (file_of after new))) (sym filled_same.header)
-  fetched_by true false is same = absurd cc
-  fetched_by false true is same = absurd cc
-  fetched_by false false is same = refl
-
-  -- an empty batch leaves what was left
-  none_by : (tells tells' : Bool) → batch ≡ [] → AreFetched (packets_left tells old (file_of before old)) batch (packets_left tells' new (file_of after new))
-      → packets_left tells' new (file_of after new) ≡ packets_left tells old (file_of before old)
-  none_by true true none fetched = ap Some (sym (fetched ∙ ap (λ ps. ps ++ map (packet_in new.frames.header.link) (frames_left new (file_of after new))) none))
-  none_by true false none fetched = absurd fetched
-  none_by false true none fetched = absurd cc
-  none_by false false none fetched = refl
-
-  fetched_front : AreFetched (packets_left before.tells old (file_of before old)) batch (packets_left after.tells new (file_of after new))
-  fetched_front = fetched_by before.tells after.tells refl told_after
-
-  pub left_stays : batch ≡ [] → packets_left after.tells new (file_of after new) ≡ packets_left before.tells old (file_of before old)
-  left_stays none = none_by before.tells after.tells none fetched_front
-
-  octets_short : All (λ (p : PacketIn). length p.bytes ≤ 262144) batch
-  octets_short = subst (λ (ps : List PacketIn). All (λ (p : PacketIn). length p.bytes ≤ 262144) ps) (sym filled.got.packets) filled.got.short
-
-  pub fetched_some : (more : Bool) → more ≡ true → 0 < length batch
-      → HasFetched (packets_left before.tells old (file_of before old)) more batch (packets_left after.tells new (file_of after new)) (length new.heads.items - new.at)
-  fetched_some more yea some = record {
-    front = fetched_front;
-    some = λ _. some;
-    none = λ nay. absurd (let no_more : true ≡ false = sym yea ∙ nay in cc);
-    few = filled.few;
-    octets = octets_short;
-    due_is = filled_due;
-  }
-
-  over_by : (tells : Bool) → (IsTrue tells → frames_left old (file_of before old) ≡ []) → IsOver (packets_left tells old (file_of before old))
-  over_by true none = ap (λ fs. map (packet_in old.frames.header.link) fs) (none refl)
-  over_by false none = tt
-
-  no_frames : batch ≡ [] → is_end new.behind ≡ true → IsTrue before.tells → frames_left old (file_of before old) ≡ []
-  no_frames none end told =
-      let none' : filled.got.frames ≡ [] = no_map (packet_in old.frames.header.link) filled.got.frames (sym packets_are ∙ none) in
-      left_is told
-      ∙ ap (λ fs. fs ++ frames_left new (file_of before old)) none'
-      ∙ subst (λ (f : List ℕ). frames_left new f ≡ []) (file_after told) (end_left new.behind new (file_of after new) end (filled.fed.stands (subst IsTrue (sym told_after) told)))
-
-  pub fetched_none : (more : Bool) → more ≡ false → batch ≡ [] → is_end new.behind ≡ true
-      → HasFetched (packets_left before.tells old (file_of before old)) more batch (packets_left after.tells new (file_of after new)) (length new.heads.items - new.at)
-  fetched_none more nay none end = record {
-    front = fetched_front;
-    some = λ yea. absurd (let no_more : true ≡ false = sym yea ∙ nay in cc);
-    none = λ _. (none, over_by before.tells (no_frames none end));
-    few = filled.few;
-    octets = octets_short;
-    due_is = filled_due;
-  }
-
-  pub due_none : batch ≡ [] → length new.heads.items - new.at ≡ 0
-  due_none none = filled_due ∙ ap length none

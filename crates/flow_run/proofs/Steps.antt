@@ -1,11 +1,10 @@
 -- What a fetch, and what an accepted packet, make of what a flow has done so far.
-use Rattle.std.proofs.Common.{◌≡◌, ◌≢◌, ◌<◌, ◌≤◌, ◌⊎◌, ℕ, suc, get_or, ◌+◌, ◌-◌, Bool, true, false, cond, IsTrue, List, [], ◌∷◌, ◌++◌, length, take, drop, map, Option, Some, None, Result, Ok, Err, refl, sym, ap, subst, ◌∙◌, append_assoc, length-append, arith, le_refl, inl, inr}
-use Rattle.std.specs.Result.{IsErrOf}
+use Rattle.std.proofs.Common.{◌≡◌, ◌≢◌, ◌<◌, ◌≤◌, ◌⊎◌, ℕ, suc, get_or, ◌+◌, Bool, true, false, cond, IsTrue, List, [], ◌∷◌, ◌++◌, length, drop, map, Option, Some, None, Err, refl, sym, ap, subst, ◌∙◌, append_assoc, length-append, arith, le_refl, inl, inr}
 use Rattle.std.proofs.lemmas.List.{append-nil, drop-drop, map-append, length-map}
 use Rattle.std.proofs.Math.Seq.{drop-cons}
 use Rattle.net_io.specs.Depot.{DepotState, octets_of}
 use Rattle.net_io.specs.Sink.{SinkState}
-use Rattle.net_io.specs.Faults.{Rose, SameCounts}
+use Rattle.net_io.specs.Faults.{Rose, Counts, SameCounts}
 use Rattle.net_io.specs.declared.fault.IoFault.{IoFault}
 use Rattle.net_io.specs.declared.fault.IoFault.TheVariants as io
 use Rattle.flow_lines.specs.declared.flow.FlowLine.{FlowLine}
@@ -18,6 +17,7 @@ use Rattle.label_flow.specs.Pair.{PairState, pair}
 use Rattle.label_flow.specs.Schedule.{versions_in}
 use Rattle.pcap_frames.specs.Reader.{Reader, ReaderStandsIn}
 use Rattle.report_lines.specs.Flow.{walked_line}
+use Rattle.call_report.specs.Outside.{NoWriteFailed}
 use Rattle.call_report.specs.Printing.{HandsOn}
 use Rattle.call_report.proofs.Law.{nothing_is_handed_on}
 use Rattle.flow_run.specs.declared.end.FlowStop.{FlowStop}
@@ -28,7 +28,7 @@ use Rattle.flow_run.specs.declared.source.Behind.TheVariants.{Whole, Broken, Too
 use Rattle.flow_run.specs.Run.{is_denied, passed_in, denied_in, walked_lines}
 use Rattle.flow_run.specs.Ends.{IsHandedOn}
 use Rattle.flow_run.specs.inside.Output.{IsAppended, IsThere, AppendsMove, HasAppended, frame_of}
-use Rattle.flow_run.specs.inside.Source.{IsSame, HasOnlyRead, HasMoved, HasStepped, ReadsMove, pending, frames_left, heads_left, file_of, IsFed, StandsBy}
+use Rattle.flow_run.specs.inside.Source.{IsSame, HasMoved, HasStepped, ReadsMove, pending, frames_left, heads_left, file_of, IsFed, StandsBy}
 use Rattle.flow_run.specs.inside.Taken.{Moment, moment_at, IsPrintedTo, print_stop, HasHanded, kept_by, IsMoved, outside_of, HasTaken, IsGoing}
 use Rattle.flow_run.proofs.Outputs.{appended_more, appended_cut, appended_stops}
 use Rattle.flow_run.proofs.Prints.{cut_off, print_fails, print_goes, lines_more}
@@ -42,11 +42,11 @@ reads_after behind behind' name a b c same moved more = subst (λ (x : Option Be
     by_case : (behind : Option Behind) → ReadsMove behind name a b → ReadsMove behind name a c
     by_case None moved = λ other. more other ∙ moved other
     by_case (Some Whole) moved = λ other. more other ∙ moved other
-    by_case (Some (Broken fault)) moved = moved
+    by_case (Some (Broken fault)) moved = λ other. more other ∙ moved other
     by_case (Some TooMany) moved = λ other. more other ∙ moved other
     by_case (Some Failed) (inl rose) = inl (omega (arith, rose, more name))
     by_case (Some Failed) (inr end) = inr (more name ∙ end)
-    by_case (Some NoMemory) moved = moved
+    by_case (Some NoMemory) moved = λ other. more other ∙ moved other
 
 rose_same : (a b c : ℕ) → b ≡ a → Rose b c → Rose a c
 rose_same a b c same rose = subst (λ (n : ℕ). Rose n c) same rose
@@ -68,18 +68,14 @@ stop_failed (Some TooMany) is = absurd cc
 stop_failed (Some Failed) is = refl
 stop_failed (Some NoMemory) is = absurd cc
 
-pub end_pending : (behind : Option Behind) (stop : FlowStop) → behind ≡ None → pending behind ≡ Some stop → ⊥
-end_pending None stop none is = absurd cc
-end_pending (Some b) stop none is = absurd cc
-
 -- where nothing stopped it, numbers that didn't move since
 moved_stop : (flow : FlowLine) (behind : Option Behind) (was now : Moment) → IsMoved flow None (outside_of was) (outside_of now) → IsMoved flow (pending behind) (outside_of was) (outside_of now)
 moved_stop flow None was now moved = moved
 moved_stop flow (Some Whole) was now moved = moved
 moved_stop flow (Some (Broken fault)) was now moved = moved
 moved_stop flow (Some TooMany) was now moved = moved
-moved_stop flow (Some Failed) was now moved = tt
-moved_stop flow (Some NoMemory) was now moved = tt
+moved_stop flow (Some Failed) was now moved = moved
+moved_stop flow (Some NoMemory) was now moved = moved
 
 -- ---- one pair more
 
@@ -138,19 +134,24 @@ print_not_read : (fault : IoFault) → (let one : Option FlowStop = Some (print_
 print_not_read io.Failed is = absurd cc
 print_not_read io.OutOfMemory is = absurd cc
 
+still_unwritten : (was now new : Moment) → NoWriteFailed (outside_of was) (outside_of now) → SameCounts now.folder.appends new.folder.appends → new.stream.faults ≡ now.stream.faults
+    → NoWriteFailed (outside_of was) (outside_of new)
+still_unwritten was now new before more faults = record { writes = faults ∙ before.writes; appends = λ name. more name ∙ before.appends name }
+
 moved_more : (flow : FlowLine) (stop : Option FlowStop) (was now new : Moment) → IsMoved flow None (outside_of was) (outside_of now)
     → AppendsMove stop flow.output now.folder.appends new.folder.appends → new.stream.faults ≡ now.stream.faults → IsMoved flow stop (outside_of was) (outside_of new)
-moved_more flow None was now new before more faults = (λ name. more name ∙ before.0 name, faults ∙ before.1)
+moved_more flow None was now new before more faults = still_unwritten was now new before more faults
 moved_more flow (Some the_stop.Read) was now new before more faults = absurd more
 moved_more flow (Some the_stop.Create) was now new before more faults = absurd more
-moved_more flow (Some the_stop.Append) was now new before more faults = (more.0, more.1, rose_same _ _ _ (before.0 more.0) more.2)
+moved_more flow (Some the_stop.Append) was now new before more faults = (more.0, more.1, rose_same _ _ _ (before.appends more.0) more.2)
 moved_more flow (Some the_stop.Print) was now new before more faults = absurd more
-moved_more flow (Some the_stop.OutOfMemory) was now new before more faults = tt
+moved_more flow (Some the_stop.OutOfMemory) was now new before more faults = still_unwritten was now new before more faults
 
 moved_print : (flow : FlowLine) (fault : IoFault) (was now new : Moment) → IsMoved flow None (outside_of was) (outside_of now)
-    → (IsErrOf {T = Unit {0}} (Err fault) io.Failed → Rose now.stream.faults new.stream.faults) → IsMoved flow (Some (print_stop fault)) (outside_of was) (outside_of new)
-moved_print flow io.Failed was now new before cause = rose_same _ _ _ before.1 (cause refl)
-moved_print flow io.OutOfMemory was now new before cause = tt
+    → Counts {T = Unit {0}} io.Failed (Err fault) now.stream.faults new.stream.faults → new.folder ≡ now.folder → IsMoved flow (Some (print_stop fault)) (outside_of was) (outside_of new)
+moved_print flow io.Failed was now new before counts folder = rose_same _ _ _ before.writes (counts.cause refl)
+moved_print flow io.OutOfMemory was now new before counts folder =
+    still_unwritten was now new before (λ name. ap (λ (d : DepotState). d.appends name) folder) (counts.still (λ failed. absurd cc))
 
 module _ (number : ℕ) (names : List (List ℕ)) (flow : FlowLine) (was now : Moment) (pairs : List PairState) (taken : HasTaken number names flow was now pairs) where
   module _ (none : now.stop ≡ None) where
@@ -213,7 +214,7 @@ module _ (number : ℕ) (names : List (List ℕ)) (flow : FlowLine) (was now : M
         let handed : IsHandedOn text was.lines new.lines was.stream new.stream =
         subst (λ (w : List ℕ). IsHandedOn text was.lines w was.stream new.stream) (sym lines) (subst (λ (s : SinkState). IsHandedOn text was.lines now.lines was.stream s) (sym stream) lines_none) in
         let still_moved : IsMoved flow None (outside_of was) (outside_of new) =
-        (λ name. appends_then new moved name ∙ moved_none.0 name, ap (λ (s : SinkState). s.faults) stream ∙ moved_none.1) in
+        still_unwritten was now new moved_none (appends_then new moved) (ap (λ (s : SinkState). s.faults) stream) in
         record {
           folder_told = told_then new moved ∙ taken.folder_told;
           stream_told = ap (λ (s : SinkState). s.tells) stream ∙ taken.stream_told;
@@ -280,7 +281,8 @@ module _ (number : ℕ) (names : List (List ℕ)) (flow : FlowLine) (was now : M
           failed = λ is. absurd (let no_stop : Some the_stop.OutOfMemory ≡ Some the_stop.Read = sym stop ∙ is in cc);
           creates = λ name. ap (λ (d : DepotState). d.creates name) folder ∙ taken.creates name;
           still = λ no_output name. ap (λ (d : DepotState). d.appends name) folder ∙ taken.still no_output name;
-          moved = subst (λ (s : Option FlowStop). IsMoved flow s (outside_of was) (outside_of new)) (sym stop) tt;
+          moved = subst (λ (s : Option FlowStop). IsMoved flow s (outside_of was) (outside_of new)) (sym stop)
+              (still_unwritten was now new moved_none (λ name. ap (λ (d : DepotState). d.appends name) folder) (ap (λ (s : SinkState). s.faults) stream));
           faults = omega (arith, taken.faults, ap (λ (s : SinkState). s.faults) stream);
         }
 
@@ -405,7 +407,7 @@ module _ (number : ℕ) (names : List (List ℕ)) (flow : FlowLine) (was now : M
         failed = λ is. absurd (print_not_read fault (sym stop ∙ is));
         creates = λ name. ap (λ (d : DepotState). d.creates name) folder ∙ taken.creates name;
         still = λ no_output name. ap (λ (d : DepotState). d.appends name) folder ∙ taken.still no_output name;
-        moved = subst (λ (s : Option FlowStop). IsMoved flow s (outside_of was) (outside_of new)) (sym stop) (moved_print flow fault was now new moved_none hands.counts.cause);
+        moved = subst (λ (s : Option FlowStop). IsMoved flow s (outside_of was) (outside_of new)) (sym stop) (moved_print flow fault was now new moved_none hands.counts folder);
         faults = omega (arith, taken.faults, hands.counts.no_less);
       }
 
@@ -519,7 +521,7 @@ taken_begins number names flow was none fetched there = record {
   failed = λ is. absurd (let no_stop : None ≡ Some the_stop.Read = sym none ∙ is in cc);
   creates = λ name. refl;
   still = λ no_output name. refl;
-  moved = subst (λ (s : Option FlowStop). IsMoved flow s (outside_of was) (outside_of was)) (sym none) (λ name. refl, refl);
+  moved = subst (λ (s : Option FlowStop). IsMoved flow s (outside_of was) (outside_of was)) (sym none) (record { writes = refl; appends = λ name. refl });
   faults = le_refl _;
 }
 
@@ -581,8 +583,3 @@ taken_appended number names flow was folder folder' stream lines octets octets' 
       moved = moved_more flow stop was (moment_at folder stream lines octets seen passed denied source None) (moment_at folder' stream lines octets' seen passed denied source stop) taken.moved appended.moved refl;
       faults = taken.faults;
     }
-
-pub fed_appended : (stop : Option FlowStop) (output : Option (List ℕ)) (octets waits waits' : List ℕ) (a b : DepotState) (source : Source) → HasAppended stop output octets waits waits' a b
-    → output ≢ Some source.frames.name → IsFed a source → IsFed b source
-fed_appended stop output octets waits waits' a b source appended apart fed =
-    fed_kept a b source source appended.told (λ told. appended.others told source.frames.name apart) refl refl refl refl fed

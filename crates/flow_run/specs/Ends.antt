@@ -1,25 +1,22 @@
 -- How one flow of a script ends, with what it has printed, made, and left as it was.
-use Rattle.std.specs.Prelude.{ℕ, ◌≡◌, ◌≢◌, ◌≤◌, ◌+◌, IsTrue, true, List, ◌++◌, length, take, Option, Some, None, Ok, Result}
-use Rattle.net_io.specs.Depot.{DepotState}
+use Rattle.std.specs.Prelude.{ℕ, ◌≡◌, ◌≢◌, ◌≤◌, ◌⊎◌, ◌+◌, IsTrue, List, ◌++◌, length, take, Option, Some, None, Ok}
 use Rattle.net_io.specs.Sink.{SinkState, WritesPrefix}
 use Rattle.net_io.specs.Faults.{Rose, SameCounts}
-use Rattle.net_io.specs.declared.fault.IoFault.{IoFault}
 use Rattle.flow_lines.specs.declared.flow.FlowLine.{FlowLine}
-use Rattle.command_forms.specs.declared.command.Step.{Step}
 use Rattle.node_tables.specs.Steps.{tables_after}
 use Rattle.shared_tables.specs.Plan.{PlanState}
 use Rattle.label_flow.specs.Round.{AreReplies}
 use Rattle.label_flow.specs.Schedule.{AreLawful}
 use Rattle.report_lines.specs.Capture.{capture_line}
 use Rattle.report_lines.specs.Fixed.{packets_limit_line}
-use Rattle.call_report.specs.Event.{Event}
-use Rattle.call_report.specs.Outside.{Outside}
+use Rattle.call_report.specs.Outside.{Outside, NoneFailed, NoWriteFailed}
 use Rattle.call_report.specs.Output.{Output, IsBegun, IsMade}
 use Rattle.call_report.specs.Printing.{HandsOn, Breaks}
+use Rattle.flow_run.specs.declared.end.FlowPlace.{FlowPlace}
 use Rattle.flow_run.specs.declared.end.FlowEnd.{FlowEnd}
 use Rattle.flow_run.specs.declared.end.FlowEnd.TheVariants.{GoesOn, Broken, TooMany, Stopped}
-use Rattle.flow_run.specs.declared.end.FlowStop.{FlowStop}
 use Rattle.flow_run.specs.declared.end.FlowStop.TheVariants as stop
+use Rattle.flow_run.specs.Place.{plan_at}
 use Rattle.flow_run.specs.Input.{flow_input, packets_in}
 use Rattle.flow_run.specs.Run.{FlowRun, IsRun, is_judged, goes_on, run_text, run_end, run_output}
 
@@ -27,10 +24,10 @@ use Rattle.flow_run.specs.Run.{FlowRun, IsRun, is_judged, goes_on, run_text, run
 abbrev pub IsHandedOn : List ℕ → List ℕ → List ℕ → SinkState → SinkState → Type 0
 IsHandedOn text waits waits' before after = HandsOn {T = Unit {0}} text waits waits' (Ok tt) before after
 
--- a text was handed on till the stream failed, or memory
+-- a text was handed on till memory ran out, and no write has failed
 pub record IsCutOff (text waits : List ℕ) (before after : SinkState) : Type 0 where
   pub told : after.tells ≡ before.tells
-  pub faults : before.faults ≤ after.faults
+  pub faults : after.faults ≡ before.faults
   pub prefix : IsTrue before.tells → WritesPrefix (waits ++ text) before.written after.written
 
 -- what was printed of a flow
@@ -63,18 +60,22 @@ pub record HasMade (run : FlowRun) (end : FlowEnd) (before after : List ℕ → 
   pub made : HasEnded end → (output : Output) → run_output run ≡ Some output → IsMade output before after
   pub others : (name : List ℕ) → run.flow.output ≢ Some name → after name ≡ before name
 
--- The numbers of faults: what stopped it has its number risen, and none moves where nothing stopped it; in front of a fault of a capture those of reads may.
+-- Memory ran out: no making, no write and no append has failed, and no read, unless one of the input behind the packets that were judged.
+pub record RanShort (flow : FlowLine) (before after : Outside) : Type 0 where
+  pub reads : SameCounts before.folder.reads after.folder.reads ⊎ Rose (before.folder.reads flow.input) (after.folder.reads flow.input)
+  pub creates : SameCounts before.folder.creates after.folder.creates
+  pub written : NoWriteFailed before after
+
+-- The numbers of faults: what stopped it has its number risen, and none has moved where nothing stopped it. Where a read or the making of the output
+-- has failed, no write and no append has.
 abbrev pub IsCause : FlowLine → FlowEnd → Outside → Outside → Type 0
-IsCause flow (Stopped stop.Read) before after = Rose (before.folder.reads flow.input) (after.folder.reads flow.input)
-IsCause flow (Stopped stop.Create) before after = (name : List ℕ) × (flow.output ≡ Some name) × Rose (before.folder.creates name) (after.folder.creates name)
+IsCause flow (Stopped stop.Read) before after = Rose (before.folder.reads flow.input) (after.folder.reads flow.input) × NoWriteFailed before after
+IsCause flow (Stopped stop.Create) before after =
+    (name : List ℕ) × (flow.output ≡ Some name) × Rose (before.folder.creates name) (after.folder.creates name) × NoWriteFailed before after
 IsCause flow (Stopped stop.Append) before after = (name : List ℕ) × (flow.output ≡ Some name) × Rose (before.folder.appends name) (after.folder.appends name)
 IsCause flow (Stopped stop.Print) before after = Rose before.stream.faults after.stream.faults
-IsCause flow (Stopped stop.OutOfMemory) before after = Unit {0}
-IsCause flow (Broken fault) before after =
-    SameCounts before.folder.creates after.folder.creates × SameCounts before.folder.appends after.folder.appends × (after.stream.faults ≡ before.stream.faults)
-IsCause flow end before after =
-    SameCounts before.folder.reads after.folder.reads × SameCounts before.folder.creates after.folder.creates
-    × SameCounts before.folder.appends after.folder.appends × (after.stream.faults ≡ before.stream.faults)
+IsCause flow (Stopped stop.OutOfMemory) before after = RanShort flow before after
+IsCause flow end before after = NoneFailed before after
 
 -- How a flow has run, where the folder tells what it holds: the flow of this number, of which so many packets may be read, with so many workers
 pub record IsRunOf (plan : PlanState) (names : List (List ℕ)) (workers number most upto : ℕ) (flow : FlowLine) (before after : Outside) (waits waits' : List ℕ) (seen : List (List ℕ)) (end : FlowEnd) : Type 0 where
@@ -104,3 +105,7 @@ pub record FlowEnds (plan : PlanState) (names : List (List ℕ)) (workers number
   pub faults : before.stream.faults ≤ after.stream.faults
   pub folder_told : after.folder.tells ≡ before.folder.tells
   pub stream_told : after.stream.tells ≡ before.stream.tells
+
+-- the same of a flow at its place
+abbrev pub FlowEndsAt : FlowPlace → FlowLine → Outside → Outside → List ℕ → List ℕ → List (List ℕ) → FlowEnd → Type 0
+FlowEndsAt place flow before after waits waits' seen end = FlowEnds (plan_at place) place.names.now place.workers place.number place.most place.upto flow before after waits waits' seen end

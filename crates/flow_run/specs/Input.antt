@@ -1,5 +1,5 @@
 -- What a flow reads: the frames of its capture that are judged, and what ends them in front of the capture's end.
-use Rattle.std.specs.Prelude.{ℕ, List, [], map, take, Bool, true, false, Option, Some, None, Result, Ok, Err}
+use Rattle.std.specs.Prelude.{ℕ, List, [], map, take, true, false, Option, Some, None, Result, Ok, Err}
 use Rattle.std.specs.Option.{option_map_or}
 use Rattle.pcap_frames.specs.declared.header.CaptureHeader.{CaptureHeader}
 use Rattle.pcap_frames.specs.declared.fault.CaptureFault.{CaptureFault}

@@ -1,3 +1,4 @@
+pub mod Place
 pub mod Input
 pub mod Run
 pub mod Ends

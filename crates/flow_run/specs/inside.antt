@@ -1,4 +1,5 @@
 pub mod Source
 pub mod Output
 pub mod Taken
+pub mod Board
 pub mod Flown

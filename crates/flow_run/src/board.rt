@@ -1,10 +1,12 @@
 //! The board of a flow: the tables in front of it, and the steps that are made beside it.
 
-ghost use Rattle.std.specs.Prelude.{◌≡◌, ◌≤◌, ◌<◌, ◌^◌, length, take, All, IfOk};
-ghost use Rattle.node_tables.specs.Steps.{tables_after};
+ghost use Rattle.std.specs.Prelude.{◌≡◌, ◌≤◌, length, take, IfOk};
+ghost use Rattle.flow_run.specs.Place.{StandsAt, tables_at};
+ghost use Rattle.flow_run.specs.inside.Board.{IsOpenFor};
 
 use crate::end::FlowPlace;
 use command_forms::Step;
+use flow_lines::FlowLine;
 use mls_label::OutOfMemory;
 use node_tables::Network;
 use shared_tables::{Board, Plan, Publisher, Viewer};
@@ -29,22 +31,16 @@ pub(crate) fn open_board<R: Wait>(
     rt: &R,
     alloc: Global,
     place: &FlowPlace<'_>,
-    before: u32,
+    flow: &FlowLine,
     network: Network,
 ) -> Result<(Publisher, Vec<Viewer>), OutOfMemory>
-    requires workers { (0 < place.now.workers) × (place.now.workers ≤ 16) }
-    requires names { length place.now.names.now ≤ 32 }
-    requires steps { length place.now.steps.now < 2 ^ 32 }
-    requires nodes { All (λ step. step.node < length place.now.names.now) place.now.steps.now }
-    requires upto { (before ≤ place.now.upto) × (place.now.upto ≤ length place.now.steps.now) }
-    requires network { network ≡ tables_after (length place.now.names.now) place.now.steps.now before }
-    ensures publisher { IfOk result (λ begun. (begun.0.plan ≡ record { nodes = length place.now.names.now; steps = take place.now.upto place.now.steps.now }) × (begun.0.version ≡ before)) }
-    ensures viewers { IfOk result (λ begun. (length begun.1.items ≡ place.now.workers)
-        × All (λ viewer. viewer ≡ record { board = begun.0.board; plan = record { nodes = length place.now.names.now; steps = take place.now.upto place.now.steps.now }; seen = before }) begun.1.items) }
+    requires stands { StandsAt place.now flow.now }
+    requires network { network ≡ tables_at place.now flow.now }
+    ensures { IfOk result (λ begun. IsOpenFor place.now flow.now begun.0 begun.1.items) }
 {
     let steps = first_steps(alloc, place.steps, place.upto as usize)?;
     let plan = Plan::from_steps(alloc, steps, place.names.len())?;
-    match Board::begin(rt, alloc, network, plan, before, place.workers) {
+    match Board::begin(rt, alloc, network, plan, flow.before, place.workers) {
         Ok(begun) => Ok(begun),
         Err(_) => Err(OutOfMemory),
     }

@@ -1,7 +1,6 @@
 //! The feed of a flow.
 
-ghost use Rattle.std.specs.Prelude.{◌≡◌, ◌≤◌, ◌<◌, ◌+◌, ◌^◌, ◌++◌, ◌∷◌, [], ℕ, List, None, Some, length, OnOk, OnErr, IfErr, if◌then◌else◌};
-ghost use Rattle.packet_walk.specs.declared.walked.End.{End};
+ghost use Rattle.std.specs.Prelude.{◌≡◌, ◌≤◌, ◌<◌, ◌+◌, ◌^◌, ◌++◌, ◌∷◌, [], None, Some, length, OnOk, OnErr, IfErr, if◌then◌else◌};
 ghost use Rattle.flow_run.specs.declared.end.FlowStop.TheVariants.{OutOfMemory as NoMemoryStop};
 ghost use Rattle.report_lines.specs.Flow.{walked_line};
 ghost use Rattle.flow_run.specs.Run.{is_denied as is_denied_end};

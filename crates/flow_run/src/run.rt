@@ -1,21 +1,22 @@
 //! One flow, from its line to the next one's.
 
-ghost use Rattle.std.specs.Prelude.{◌≡◌, ◌≢◌, ◌⊎◌, ◌+◌, ◌-◌, ◌<◌, ◌≤◌, ◌^◌, ◌++◌, ℕ, List, [], length, take, All, None, Some, Ok, true, OnOk, IfOk, IsOk};
+ghost use Rattle.std.specs.Prelude.{◌≡◌, ◌≢◌, ◌⊎◌, ◌+◌, ◌-◌, ◌<◌, ◌≤◌, ◌++◌, ℕ, List, [], length, All, None, Some, Ok, true, OnOk, IfOk, IsOk};
 ghost use Rattle.flow_lines.specs.Hop.{node_of};
-ghost use Rattle.node_tables.specs.Steps.{tables_after};
 ghost use Rattle.packet_walk.specs.declared.packet.PacketIn.{PacketIn};
 ghost use Rattle.label_flow.specs.Pair.{PairState};
 ghost use Rattle.label_flow.specs.Feed.{AreBegun, AreWhole};
-ghost use Rattle.label_flow.specs.Round.{AreLater, AreReplies, IsRound};
+ghost use Rattle.label_flow.specs.Round.{AreReplies, IsRound};
 ghost use Rattle.report_lines.specs.Flow.{flow_line};
 ghost use Rattle.call_report.specs.Outside.{Outside};
-ghost use Rattle.flow_run.specs.Ends.{HasEnded, FlowEnds};
+ghost use Rattle.flow_run.specs.Place.{StandsAt, tables_at};
+ghost use Rattle.flow_run.specs.Ends.{HasEnded, FlowEndsAt};
 ghost use Rattle.flow_run.specs.declared.end.FlowStop.TheVariants.{OutOfMemory as NoMemoryStop};
 ghost use Rattle.flow_run.specs.declared.source.Behind.TheVariants as the_behind;
+ghost use Rattle.flow_run.specs.inside.Board.{IsOpenFor};
 ghost use Rattle.flow_run.specs.inside.Output.{IsThere};
 ghost use Rattle.flow_run.specs.inside.Source.{IsFed, is_end, packets_left, file_of};
-ghost use Rattle.flow_run.specs.inside.Taken.{Moment, IsGoing, HasTaken, moment_at, stop_in};
-ghost use Rattle.flow_run.specs.inside.Flown.{IsFresh, HasRead, HasFlown, Gives, WaitsFor, IsBehind, stop_of, end_at};
+ghost use Rattle.flow_run.specs.inside.Taken.{Moment, IsGoing, HasTaken, moment_at, first_moment, stop_in};
+ghost use Rattle.flow_run.specs.inside.Flown.{IsFresh, IsPrepared, HasRead, HasFlownAt, Gives, WaitsFor, IsBehind, stop_of, end_at};
 
 use crate::board::open_board;
 use crate::end::{FlowEnd, FlowPlace, FlowStop};
@@ -180,18 +181,10 @@ fn run_on<D: Depot + Send, S: Sink + Send, G: Gate + Sync, R: Threads + Wait + S
     out: &mut S,
     gate: &G,
 ) -> (FlowSeen, FlowEnd)
-    requires workers { (0 < place.now.workers) × (place.now.workers ≤ 16) }
-    requires upto { (flow.now.before ≤ place.now.upto) × (place.now.upto ≤ length place.now.steps.now) }
-    requires publisher { (board.0.plan ≡ record { nodes = length place.now.names.now; steps = take place.now.upto place.now.steps.now }) × (board.0.version ≡ flow.now.before) }
-    requires viewers { (length board.1.items ≡ place.now.workers)
-        × All (λ viewer. viewer ≡ record { board = board.0.board; plan = record { nodes = length place.now.names.now; steps = take place.now.upto place.now.steps.now }; seen = flow.now.before }) board.1.items }
-    requires nodes { All (λ hop. node_of hop < length place.now.names.now) flow.now.hops }
-    requires fresh { IsFresh flow.now.input place.now.most source }
-    requires fed { IsFed (D.state depot.old) source }
-    requires apart { flow.now.output ≢ Some flow.now.input }
-    requires there { IsThere flow.now.output (D.state depot.old) }
-    ensures { HasFlown (record { nodes = length place.now.names.now; steps = place.now.steps.now }) place.now.names.now place.now.workers place.now.number place.now.upto flow.now
-        (moment_at (D.state depot.old) (S.state out.old) report.old.waiting.items octets.items [] 0 0 source None)
+    requires stands { StandsAt place.now flow.now }
+    requires board { IsOpenFor place.now flow.now board.0 board.1.items }
+    requires prepared { IsPrepared place.now flow.now source (D.state depot.old) }
+    ensures { HasFlownAt place.now flow.now (first_moment (D.state depot.old) (S.state out.old) report.old.waiting.items octets.items source)
         (record { folder = D.state depot.new; stream = S.state out.new }) report.new.waiting.items result.0 result.1 }
 {
     let (mut publisher, mut viewers) = board;
@@ -212,40 +205,23 @@ fn run_on<D: Depot + Send, S: Sink + Send, G: Gate + Sync, R: Threads + Wait + S
         stop: None,
     };
     let seats = viewers.as_mut_slice();
-    let driven = drive(
-        rt,
-        alloc,
-        place.upto,
-        &mut publisher,
-        seats,
-        &mut feed,
-        gate,
-    );
+    let upto = place.upto;
+    let driven = drive(rt, alloc, upto, &mut publisher, seats, &mut feed, gate);
     let network = publisher.close(rt);
     let RunFeed {
         depot,
         out,
         report,
         source,
-        mut octets,
+        octets: mut waiting,
         seen,
         passed,
         denied,
         ..
     } = feed;
+    let left = &mut waiting;
     let end = finish(
-        depot,
-        out,
-        report,
-        number,
-        flow,
-        &mut octets,
-        &seen,
-        passed,
-        denied,
-        &source,
-        driven,
-        network,
+        depot, out, report, number, flow, left, &seen, passed, denied, &source, driven, network,
     );
     (seen, end)
 }
@@ -264,22 +240,13 @@ fn run_made<D: Depot + Send, S: Sink + Send, G: Gate + Sync, R: Threads + Wait +
     out: &mut S,
     gate: &G,
 ) -> (FlowSeen, FlowEnd)
-    requires workers { (0 < place.now.workers) × (place.now.workers ≤ 16) }
-    requires names { length place.now.names.now ≤ 32 }
-    requires steps { length place.now.steps.now < 2 ^ 32 }
-    requires step_nodes { All (λ step. step.node < length place.now.names.now) place.now.steps.now }
-    requires hop_nodes { All (λ hop. node_of hop < length place.now.names.now) flow.now.hops }
-    requires upto { (flow.now.before ≤ place.now.upto) × (place.now.upto ≤ length place.now.steps.now) }
-    requires network { network ≡ tables_after (length place.now.names.now) place.now.steps.now flow.now.before }
-    requires apart { flow.now.output ≢ Some flow.now.input }
-    requires fresh { IsFresh flow.now.input place.now.most source }
-    requires fed { IsFed (D.state depot.old) source }
-    requires there { IsThere flow.now.output (D.state depot.old) }
-    ensures { HasFlown (record { nodes = length place.now.names.now; steps = place.now.steps.now }) place.now.names.now place.now.workers place.now.number place.now.upto flow.now
-        (moment_at (D.state depot.old) (S.state out.old) report.old.waiting.items octets.items [] 0 0 source None)
+    requires stands { StandsAt place.now flow.now }
+    requires network { network ≡ tables_at place.now flow.now }
+    requires prepared { IsPrepared place.now flow.now source (D.state depot.old) }
+    ensures { HasFlownAt place.now flow.now (first_moment (D.state depot.old) (S.state out.old) report.old.waiting.items octets.items source)
         (record { folder = D.state depot.new; stream = S.state out.new }) report.new.waiting.items result.0 result.1 }
 {
-    match open_board(rt, alloc, place, flow.before, network) {
+    match open_board(rt, alloc, place, flow, network) {
         Ok(board) => run_on(
             rt, alloc, place, flow, board, source, octets, report, depot, out, gate,
         ),
@@ -303,20 +270,13 @@ fn run_read<D: Depot + Send, S: Sink + Send, G: Gate + Sync, R: Threads + Wait +
     out: &mut S,
     gate: &G,
 ) -> (FlowSeen, FlowEnd)
-    requires workers { (0 < place.now.workers) × (place.now.workers ≤ 16) }
-    requires names { length place.now.names.now ≤ 32 }
-    requires steps { length place.now.steps.now < 2 ^ 32 }
-    requires step_nodes { All (λ step. step.node < length place.now.names.now) place.now.steps.now }
-    requires hop_nodes { All (λ hop. node_of hop < length place.now.names.now) flow.now.hops }
-    requires upto { (flow.now.before ≤ place.now.upto) × (place.now.upto ≤ length place.now.steps.now) }
-    requires network { network ≡ tables_after (length place.now.names.now) place.now.steps.now flow.now.before }
-    requires apart { flow.now.output ≢ Some flow.now.input }
+    requires stands { StandsAt place.now flow.now }
+    requires network { network ≡ tables_at place.now flow.now }
     requires fresh { IsFresh flow.now.input place.now.most source }
     requires fed { IsFed (D.state depot.old) source }
     ensures { (before : Outside) (waits : List ℕ) → HasRead flow.now place.now.most before.folder (D.state depot.old) source → S.state out.old ≡ before.stream
         → report.old.waiting.items ≡ waits ++ flow_line place.now.number flow.now.input
-        → FlowEnds (record { nodes = length place.now.names.now; steps = place.now.steps.now }) place.now.names.now place.now.workers place.now.number place.now.most place.now.upto flow.now
-        before (record { folder = D.state depot.new; stream = S.state out.new }) waits report.new.waiting.items result.0 result.1 }
+        → FlowEndsAt place.now flow.now before (record { folder = D.state depot.new; stream = S.state out.new }) waits report.new.waiting.items result.0 result.1 }
 {
     match create_output(alloc, depot, &flow.output, source.frames.nanos()) {
         Ok(octets) => run_made(
@@ -354,15 +314,9 @@ pub fn run_flow<D: Depot + Send, S: Sink + Send, G: Gate + Sync, R: Threads + Wa
     out: &mut S,
     gate: &G,
 ) -> (FlowSeen, FlowEnd)
-    requires workers { (0 < place.now.workers) × (place.now.workers ≤ 16) }
-    requires names { length place.now.names.now ≤ 32 }
-    requires steps { length place.now.steps.now < 2 ^ 32 }
-    requires step_nodes { All (λ step. step.node < length place.now.names.now) place.now.steps.now }
-    requires hop_nodes { All (λ hop. node_of hop < length place.now.names.now) flow.now.hops }
-    requires upto { (flow.now.before ≤ place.now.upto) × (place.now.upto ≤ length place.now.steps.now) }
-    requires network { network ≡ tables_after (length place.now.names.now) place.now.steps.now flow.now.before }
-    requires apart { flow.now.output ≢ Some flow.now.input }
-    ensures { FlowEnds (record { nodes = length place.now.names.now; steps = place.now.steps.now }) place.now.names.now place.now.workers place.now.number place.now.most place.now.upto flow.now
+    requires stands { StandsAt place.now flow.now }
+    requires network { network ≡ tables_at place.now flow.now }
+    ensures { FlowEndsAt place.now flow.now
         (record { folder = D.state depot.old; stream = S.state out.old }) (record { folder = D.state depot.new; stream = S.state out.new })
         report.old.waiting.items report.new.waiting.items result.0 result.1 }
 {

@@ -1,6 +1,6 @@
 //! The packets of a capture, read in batches.
 
-ghost use Rattle.std.specs.Prelude.{◌≡◌, ◌≤◌, ◌<◌, ◌⊎◌, IsTrue, ◌+◌, ◌-◌, ◌∷◌, [], length, drop, None, Some, IsSome, is_some, option_map, if◌then◌else◌, IfOk, IfErr, IfSome, true, false, vec_len, vec_capacity};
+ghost use Rattle.std.specs.Prelude.{◌≡◌, ◌≤◌, ◌<◌, ◌⊎◌, IsTrue, ◌+◌, ◌-◌, [], length, drop, None, Some, IsSome, is_some, option_map, if◌then◌else◌, IfOk, IfErr, IfSome, true, false, vec_len, vec_capacity};
 ghost use Rattle.net_io.specs.Depot.{octets_of, OnlyReads};
 ghost use Rattle.pcap_frames.specs.Header.{capture_header};
 ghost use Rattle.pcap_frames.specs.Reader.{IsReady, IsAnswerOf, SpeaksOf};

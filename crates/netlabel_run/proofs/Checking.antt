@@ -92,4 +92,4 @@ module _ (file : List ℕ) where
         last = λ e. refl;
         whole = λ told. refl;
       })
-      status (λ e. counts) printed
+      status counts printed

@@ -26,32 +26,6 @@ no_words words two four (Show f, asks) = two (sym (length-map words string_bytes
 no_words words two four (Run f n, plainly are name) = two (sym (length-map words string_bytes) ∙ ap length are)
 no_words words two four (Run f n, with_workers t w are name named) = four (sym (length-map words string_bytes) ∙ ap length are)
 
--- two words ask for a command of one file, or for nothing
-pub no_two : (command file : List ℕ) → (command ≡ codes "check" → IsTrue (is_file_name file) → ⊥) → (command ≡ codes "show" → IsTrue (is_file_name file) → ⊥) → (command ≡ codes "run" → IsTrue (is_file_name file) → ⊥)
-    → IsForm (command ∷ file ∷ []) → ⊥
-no_two command file check show run (Judge d l f, asks) = omega (arith, ap length asks.are)
-no_two command file check show run (Check f, asks) = check (ap (λ ws. get_or ws 0 []) asks.are) (subst (λ t. IsTrue (is_file_name t)) (sym (ap (λ ws. get_or ws 1 []) asks.are)) asks.is_name)
-no_two command file check show run (Show f, asks) = show (ap (λ ws. get_or ws 0 []) asks.are) (subst (λ t. IsTrue (is_file_name t)) (sym (ap (λ ws. get_or ws 1 []) asks.are)) asks.is_name)
-no_two command file check show run (Run f n, plainly are name) = run (ap (λ ws. get_or ws 0 []) are) (subst (λ t. IsTrue (is_file_name t)) (sym (ap (λ ws. get_or ws 1 []) are)) name)
-no_two command file check show run (Run f n, with_workers t w are name named) = omega (arith, ap length are)
-
--- four words ask for a judgement or for flows, or for nothing
-pub no_four : (command second third fourth : List ℕ) → command ≢ codes "run" → command ≢ codes "judge" → IsForm (command ∷ second ∷ third ∷ fourth ∷ []) → ⊥
-no_four command second third fourth run judge (Judge d l f, asks) = judge (ap (λ ws. get_or ws 0 []) asks.are)
-no_four command second third fourth run judge (Check f, asks) = omega (arith, ap length asks.are)
-no_four command second third fourth run judge (Show f, asks) = omega (arith, ap length asks.are)
-no_four command second third fourth run judge (Run f n, plainly are name) = omega (arith, ap length are)
-no_four command second third fourth run judge (Run f n, with_workers t w are name named) = run (ap (λ ws. get_or ws 0 []) are)
-
--- of the words of `run` the third is `-w`, the second a name, and the fourth a number of workers
-pub no_run : (file flag number : List ℕ) → (flag ≡ codes "-w" → IsTrue (is_file_name file) → (workers : ℕ) → NamesWorkers number workers → ⊥) → IsForm (codes "run" ∷ file ∷ flag ∷ number ∷ []) → ⊥
-no_run file flag number none (Judge d l f, asks) = absurd (let no = asks.are in cc)
-no_run file flag number none (Check f, asks) = omega (arith, ap length asks.are)
-no_run file flag number none (Show f, asks) = omega (arith, ap length asks.are)
-no_run file flag number none (Run f n, plainly are name) = omega (arith, ap length are)
-no_run file flag number none (Run f n, with_workers t w are name named) =
-    none (ap (λ ws. get_or ws 2 []) are) (subst (λ t. IsTrue (is_file_name t)) (sym (ap (λ ws. get_or ws 1 []) are)) name) w (subst (λ t. NamesWorkers t w) (sym (ap (λ ws. get_or ws 3 []) are)) named)
-
 -- a text of another number names no workers
 pub no_workers : (text : List ℕ) (n : ℕ) → text ≡ decimal n → n < 2 ^ 64 → (n ≡ 0) ⊎ ((n ≡ 0 → ⊥) × 16 < n) → (workers : ℕ) → NamesWorkers text workers → ⊥
 no_workers text n is small other workers named =

@@ -4,7 +4,7 @@ use Rattle.std.specs.Prelude.{IsTrue, Contains}
 use Rattle.std.proofs.lemmas.List.{append-nil, take-append-le, length-append}
 use Rattle.net_io.specs.Depot.{SameHeld}
 use Rattle.net_io.specs.Faults.{Rose, SameCounts}
-use Rattle.net_io.specs.Sink.{WritesPrefix, WritesLess}
+use Rattle.net_io.specs.Sink.{SinkState, WritesPrefix, WritesLess}
 use Rattle.netlabel_run.specs.declared.command.Command.{Command}
 use Rattle.call_report.specs.declared.status.Status.{Status}
 use Rattle.call_report.specs.declared.status.Status.TheVariants.{ReadFault, WriteFault, OutOfMemory}
@@ -89,15 +89,26 @@ module _ (request : Option Command) (before after : Outside) (stages : List Stag
   short_of_memory : IsClean stages before after 6 → ⊥
   short_of_memory clean = elim clean [ inl e ↦ omega (arith, e) | inr c ↦ c.0 refl ]
 
+  -- no read has failed, or one that is counted
+  abbrev Reads : Type 0
+  Reads = SameCounts before.folder.reads after.folder.reads ⊎ ReadRose stages before after
+
   -- memory ran out, and nothing or a beginning of the report was printed
-  ends_without_memory : (IsTrue before.folder.tells → IsTrue before.stream.tells → Part) → CallEnds request before after 6 []
-  ends_without_memory part = ends 6 (record {
+  ends_without_memory : Reads → after.stream.faults ≡ before.stream.faults → (IsTrue before.folder.tells → IsTrue before.stream.tells → Part) → CallEnds request before after 6 []
+  ends_without_memory reads writes part = ends 6 (record {
     due = λ told. inr (inr (inr refl));
     possible = inr (inr (inr refl));
     no_form = λ e. absurd (omega (arith, e));
     usage = λ none. inr refl;
     read_fault = λ e. absurd (omega (arith, e));
     write_fault = λ e. absurd (omega (arith, e));
+    memory = λ e. (
+      record { writes = writes; appends = knows.appends },
+      elim reads [
+        | inl same ↦ inl (record { reads = same; creates = knows.creates; appends = knows.appends; writes = writes })
+        | inr rose ↦ inr (inl rose)
+      ],
+    );
     unmoved = λ e. absurd (omega (arith, e));
   }) (λ told. record {
     whole = λ out clean. absurd (short_of_memory clean);
@@ -106,13 +117,14 @@ module _ (request : Option Command) (before after : Outside) (stages : List Stag
     stop = λ e. absurd (omega (arith, e));
   }) (λ out e. absurd (omega (arith, e))) (λ told clean. absurd (short_of_memory clean))
 
-  pub ends_unprinted : after.stream.written ≡ before.stream.written → CallEnds request before after 6 []
-  ends_unprinted same = ends_without_memory (λ told out. inl (same ∙ sym (append-nil before.stream.written)))
+  pub ends_unprinted : SameCounts before.folder.reads after.folder.reads → after.stream ≡ before.stream → CallEnds request before after 6 []
+  ends_unprinted reads same =
+      ends_without_memory (inl reads) (ap (λ (s : SinkState). s.faults) same) (λ told out. inl (ap (λ (s : SinkState). s.written) same ∙ sym (append-nil before.stream.written)))
 
   -- memory ran out behind the beginning of a report
-  pub ends_short : (text : List ℕ) → (IsTrue before.folder.tells → Begins request before.folder.held text) → (IsTrue before.stream.tells → WritesPrefix text before.stream.written after.stream.written)
+  pub ends_short : (text : List ℕ) → Reads → after.stream.faults ≡ before.stream.faults → (IsTrue before.folder.tells → Begins request before.folder.held text) → (IsTrue before.stream.tells → WritesPrefix text before.stream.written after.stream.written)
       → CallEnds request before after 6 []
-  ends_short text begins prefix = ends_without_memory (λ told out.
+  ends_short text reads writes begins prefix = ends_without_memory reads writes (λ told out.
       let b = begins told in
       let p = prefix out in
       begun_part text b (record { count = p.count; within = omega (arith, p.within, length-append text (b.rest ++ b.report.last)); written = p.written ∙ ap (λ t. before.stream.written ++ t) (sym (take-append-le p.count text (b.rest ++ b.report.last) p.within)) }))
@@ -130,6 +142,7 @@ module _ (request : Option Command) (before after : Outside) (stages : List Stag
     usage = λ none. absurd (form none);
     read_fault = λ e. absurd (omega (arith, e));
     write_fault = λ e. inl rose;
+    memory = λ e. absurd (omega (arith, e));
     unmoved = λ e. absurd (omega (arith, e));
   }) (λ told.
       let b = begins told in
@@ -162,6 +175,7 @@ module _ (request : Option Command) (before after : Outside) (stages : List Stag
     usage = λ none. absurd (form none);
     read_fault = λ e. inl rose;
     write_fault = λ e. absurd (omega (arith, e));
+    memory = λ e. absurd (omega (arith, e));
     unmoved = λ e. absurd (omega (arith, e));
   }) (λ told. record {
     whole = λ out clean. absurd (read_failed rose clean);
@@ -175,19 +189,20 @@ module _ (request : Option Command) (before after : Outside) (stages : List Stag
 
   -- its reader has stopped behind the beginning of a report, which was printed, or could not be
   module _ (text : List ℕ) (form : request ≢ None) (begins : IsTrue before.folder.tells → Begins request before.folder.held text) where
-    short_of : (status : Status) → status ≡ OutOfMemory → (IsTrue before.stream.tells → WritesPrefix (text ++ []) before.stream.written after.stream.written) → CallEnds request before after (status_number status) []
-    short_of status is prefix =
+    short_of : (status : Status) → status ≡ OutOfMemory → Reads → after.stream.faults ≡ before.stream.faults → (IsTrue before.stream.tells → WritesPrefix (text ++ []) before.stream.written after.stream.written)
+        → CallEnds request before after (status_number status) []
+    short_of status is reads writes prefix =
         subst (λ (n : ℕ). CallEnds request before after n []) (sym (ap status_number is))
-        (ends_short text begins (λ out. subst (λ (t : List ℕ). WritesPrefix t before.stream.written after.stream.written) (append-nil text) (prefix out)))
+        (ends_short text reads writes begins (λ out. subst (λ (t : List ℕ). WritesPrefix t before.stream.written after.stream.written) (append-nil text) (prefix out)))
 
     unwritten_of : (status : Status) → status ≡ WriteFault → Rose before.stream.faults after.stream.faults → Breaks text before.stream after.stream → CallEnds request before after (status_number status) []
     unwritten_of status is rose breaks = subst (λ (n : ℕ). CallEnds request before after n []) (sym (ap status_number is)) (ends_unwritten text form rose breaks begins)
 
-    pub ends_stopped_short : (status : Status) → Printed text [] OutOfMemory status before.stream after.stream → CallEnds request before after (status_number status) []
-    ends_stopped_short status printed = elim printed.how [
-      | inl all ↦ short_of status all.0 (λ out. subst (λ (t : List ℕ). WritesPrefix t before.stream.written after.stream.written) (append-nil (text ++ [])) (a_whole_text_is_a_front (text ++ []) [] before.stream.written after.stream.written (all.2 out)))
+    pub ends_stopped_short : (status : Status) → SameCounts before.folder.reads after.folder.reads → Printed text [] OutOfMemory status before.stream after.stream → CallEnds request before after (status_number status) []
+    ends_stopped_short status reads printed = elim printed.how [
+      | inl all ↦ short_of status all.0 (inl reads) all.1 (λ out. subst (λ (t : List ℕ). WritesPrefix t before.stream.written after.stream.written) (append-nil (text ++ [])) (a_whole_text_is_a_front (text ++ []) [] before.stream.written after.stream.written (all.2 out)))
       | inr rest ↦ elim rest [
-        | inl memory ↦ short_of status memory.0 memory.1
+        | inl memory ↦ short_of status memory.0 (inl reads) memory.1 memory.2
         | inr failed ↦ elim failed [
           | inl broken ↦ unwritten_of status broken.0 broken.1 broken.2
           | inr line ↦ absurd (omega (arith, line.2))
@@ -202,7 +217,7 @@ module _ (request : Option Command) (before after : Outside) (stages : List Stag
       | inl all ↦ subst (λ (n : ℕ). CallEnds request before after n []) (sym (ap status_number all.0))
           (ends_unread text form rose (λ out. all.2 out ∙ ap (λ t. before.stream.written ++ t) (append-nil text)) (λ told. inr (begins told)) pauses quiet)
       | inr rest ↦ elim rest [
-        | inl memory ↦ short_of status memory.0 memory.1
+        | inl memory ↦ short_of status memory.0 (inr rose) memory.1 memory.2
         | inr failed ↦ elim failed [
           | inl broken ↦ unwritten_of status broken.0 broken.1 broken.2
           | inr line ↦ absurd (omega (arith, line.2))
@@ -222,6 +237,7 @@ module _ (request : Option Command) (before after : Outside) (stages : List Stag
       usage = λ none. inl (is.usage none).0;
       read_fault = λ e. absurd (is.event.0 e);
       write_fault = λ e. absurd (is.event.1 e);
+      memory = λ e. absurd (is.event.2 e);
       unmoved = unmoved;
     }) (λ told.
         let p = is.parts told in
@@ -238,16 +254,16 @@ module _ (request : Option Command) (before after : Outside) (stages : List Stag
     has_form some none = omega (arith, some, ap length (is.usage none).1)
 
     -- the report was printed, or could not be
-    pub ends_printed : (status : Status) → (status_number due ≡ 0 → SameCounts before.folder.reads after.folder.reads) → Printed body last due status before.stream after.stream
+    pub ends_printed : (status : Status) → SameCounts before.folder.reads after.folder.reads → Printed body last due status before.stream after.stream
         → CallEnds request before after (status_number status) []
     ends_printed status reads printed =
         let ended = λ (n : ℕ). CallEnds request before after n [] in
         elim printed.how [
           | inl all ↦ subst ended (sym (ap status_number all.0)) (ends_due (λ out clean. all.2 out)
               (λ out. subst (λ (t : List ℕ). WritesPrefix t before.stream.written after.stream.written) (append-nil (body ++ last)) (a_whole_text_is_a_front (body ++ last) [] before.stream.written after.stream.written (all.2 out)))
-              (λ zero. record { reads = reads zero; creates = knows.creates; appends = knows.appends; writes = all.1 }))
+              (λ zero. record { reads = reads; creates = knows.creates; appends = knows.appends; writes = all.1 }))
           | inr rest ↦ elim rest [
-            | inl memory ↦ subst ended (sym (ap status_number memory.0)) (ends_without_memory (λ told out. parts_part body last (is.parts told) (memory.1 out)))
+            | inl memory ↦ subst ended (sym (ap status_number memory.0)) (ends_without_memory (inl reads) memory.1 (λ told out. parts_part body last (is.parts told) (memory.2 out)))
             | inr failed ↦ elim failed [
               | inl broken ↦ subst ended (sym (ap status_number broken.0)) (ends_unwritten body (has_form broken.2.some) broken.1 broken.2 (λ told. parts_begin request before.folder.held body last (is.parts told)))
               | inr line ↦

@@ -9,7 +9,7 @@ use Rattle.label_commands.specs.declared.stop.ScriptStop.{ScriptStop}
 use Rattle.flow_lines.specs.declared.flow.FlowLine.{FlowLine}
 use Rattle.net_io.specs.Depot.{DepotState, SameHeld}
 use Rattle.net_io.specs.Faults.{Rose, SameCounts}
-use Rattle.net_io.specs.Sink.{WritesPrefix, WritesLess}
+use Rattle.net_io.specs.Sink.{SinkState, WritesPrefix, WritesLess}
 use Rattle.call_report.specs.declared.status.Status.{Status}
 use Rattle.call_report.specs.declared.status.Status.TheVariants.{Done, NoForm, WrongScript, ReadFault, WriteFault, WrongCapture, OutOfMemory, Limit}
 use Rattle.call_report.specs.Numbers.{status_number}
@@ -17,13 +17,14 @@ use Rattle.call_report.specs.Report.{Folder, Versions, Report, report_text, late
 use Rattle.call_report.specs.Event.{Event, packets_limit}
 use Rattle.call_report.specs.Output.{Output, IsBegun, IsMade}
 use Rattle.call_report.specs.Outside.{Outside, ReadRose, CreateRose, AppendRose, NoneFailed}
+use Rattle.call_report.specs.Printing.{Printed}
 use Rattle.call_report.specs.Stages.{Stage, reading_stage}
 use Rattle.call_report.proofs.Law.{a_whole_text_is_a_front, a_part_of_a_text_is_a_front}
 use Rattle.flow_run.specs.Run.{FlowRun}
 use Rattle.shared_tables.specs.Plan.{PlanState}
 use Rattle.script_run.specs.Runs.{plan_of, AreRuns, AreWholeRuns, IsLawfulRun, FlowsStatus, last_event}
 use Rattle.script_run.specs.Report.{pause_text, runs_report, runs_outputs}
-use Rattle.script_run.specs.Ends.{flow_in_hand, last_of, InputRose, OutputRose, EndsBy, IsDue, IsCauseOf, HasRuns, HasFinished, ScriptEnds, due_body, due_line}
+use Rattle.script_run.specs.Ends.{flow_in_hand, last_of, InputRose, OutputRose, EndsBy, IsDue, IsCauseOf, IsPrintedSo, HasRuns, HasFinished, ScriptEnds, due_body, due_line}
 use Rattle.script_run.proofs.Law.{runs_are_determined, done_flows_have_status_0, events_have_their_status}
 use Rattle.netlabel_run.specs.declared.command.Command.{Command}
 use Rattle.netlabel_run.specs.declared.command.Command.TheVariants.{Run}
@@ -69,45 +70,58 @@ content_told false held text told = absurd (let no : false ≡ true = told in cc
 
 -- ---- numbers of statuses
 
-is_done_by : (status : Status) → status_number status ≡ 0 → status ≡ Done
-is_done_by Done e = refl
-is_done_by NoForm e = absurd (omega (arith, e))
-is_done_by WrongScript e = absurd (omega (arith, e))
-is_done_by ReadFault e = absurd (omega (arith, e))
-is_done_by WriteFault e = absurd (omega (arith, e))
-is_done_by WrongCapture e = absurd (omega (arith, e))
-is_done_by OutOfMemory e = absurd (omega (arith, e))
-is_done_by Limit e = absurd (omega (arith, e))
+of_number : ℕ → Status
+of_number zero = Done
+of_number (suc zero) = NoForm
+of_number (suc (suc zero)) = WrongScript
+of_number (suc (suc (suc zero))) = ReadFault
+of_number (suc (suc (suc (suc zero)))) = WriteFault
+of_number (suc (suc (suc (suc (suc zero))))) = WrongCapture
+of_number (suc (suc (suc (suc (suc (suc zero)))))) = OutOfMemory
+of_number (suc (suc (suc (suc (suc (suc (suc n))))))) = Limit
 
-is_form_by : (status : Status) → status_number status ≡ 1 → status ≡ NoForm
-is_form_by NoForm e = refl
-is_form_by Done e = absurd (omega (arith, e))
-is_form_by WrongScript e = absurd (omega (arith, e))
-is_form_by ReadFault e = absurd (omega (arith, e))
-is_form_by WriteFault e = absurd (omega (arith, e))
-is_form_by WrongCapture e = absurd (omega (arith, e))
-is_form_by OutOfMemory e = absurd (omega (arith, e))
-is_form_by Limit e = absurd (omega (arith, e))
+back : (status : Status) → of_number (status_number status) ≡ status
+unfolding of_number
+back Done = refl
+back NoForm = refl
+back WrongScript = refl
+back ReadFault = refl
+back WriteFault = refl
+back WrongCapture = refl
+back OutOfMemory = refl
+back Limit = refl
 
-is_read_by : (status : Status) → status_number status ≡ 3 → status ≡ ReadFault
-is_read_by ReadFault e = refl
-is_read_by Done e = absurd (omega (arith, e))
-is_read_by NoForm e = absurd (omega (arith, e))
-is_read_by WrongScript e = absurd (omega (arith, e))
-is_read_by WriteFault e = absurd (omega (arith, e))
-is_read_by WrongCapture e = absurd (omega (arith, e))
-is_read_by OutOfMemory e = absurd (omega (arith, e))
-is_read_by Limit e = absurd (omega (arith, e))
+is_by : (status due : Status) → status_number status ≡ status_number due → status ≡ due
+is_by status due e = sym (back status) ∙ ap of_number e ∙ back due
 
-is_write_by : (status : Status) → status_number status ≡ 4 → status ≡ WriteFault
-is_write_by WriteFault e = refl
-is_write_by Done e = absurd (omega (arith, e))
-is_write_by NoForm e = absurd (omega (arith, e))
-is_write_by WrongScript e = absurd (omega (arith, e))
-is_write_by ReadFault e = absurd (omega (arith, e))
-is_write_by WrongCapture e = absurd (omega (arith, e))
-is_write_by OutOfMemory e = absurd (omega (arith, e))
-is_write_by Limit e = absurd (omega (arith, e))
+-- some first octets of what was to be printed
+prefix_of : (body last : List ℕ) (due status : Status) (a b : SinkState) → Printed body last due status a b → IsTrue a.tells → WritesPrefix (body ++ last) a.written b.written
+prefix_of body last due status a b printed out = elim printed.how [
+  | inl all ↦ subst (λ (t : List ℕ). WritesPrefix t a.written b.written) (append-nil (body ++ last)) (a_whole_text_is_a_front (body ++ last) [] a.written b.written (all.2 out))
+  | inr rest ↦ elim rest [
+    | inl memory ↦ memory.2 out
+    | inr failed ↦ elim failed [
+      | inl broken ↦ a_part_of_a_text_is_a_front body last a.written b.written (broken.2.written out)
+      | inr line ↦ line.3 out
+    ]
+  ]
+]
+
+-- an append has failed, and so that is the status
+record HasKept (body last : List ℕ) (due status : Status) (a b : SinkState) : Type 0 where
+  due_is : due ≡ WriteFault
+  is : status ≡ WriteFault
+  front : IsTrue a.tells → WritesPrefix (body ++ last) a.written b.written
+
+printed_or_kept : (body last : List ℕ) (due status : Status) (a b : SinkState) → IsPrintedSo body last due status a b → Printed body last due status a b ⊎ HasKept body last due status a b
+printed_or_kept body last WriteFault status a b so = inr (record { due_is = refl; is = so.1; front = prefix_of body last WriteFault so.0 a b so.2 })
+printed_or_kept body last Done status a b so = inl so
+printed_or_kept body last NoForm status a b so = inl so
+printed_or_kept body last WrongScript status a b so = inl so
+printed_or_kept body last ReadFault status a b so = inl so
+printed_or_kept body last WrongCapture status a b so = inl so
+printed_or_kept body last OutOfMemory status a b so = inl so
+printed_or_kept body last Limit status a b so = inl so
 
 contains_first : (text : List ℕ) → Contains (text ∷ []) text
 contains_first text = (0, omega arith, refl)
@@ -183,6 +197,14 @@ module _ (file : List ℕ) (workers : ℕ) (before : Outside) (folder : DepotSta
     rose = subst (λ (n : ℕ). Rose n (after.folder.appends rose.name)) (reads.appends rose.name) rose.rose;
   }
 
+  none_failed : NoneFailed mid after → NoneFailed before after
+  none_failed none = record {
+    reads = λ name. none.reads name ∙ counts name;
+    creates = λ name. none.creates name ∙ reads.creates name;
+    appends = λ name. none.appends name ∙ reads.appends name;
+    writes = none.writes;
+  }
+
   -- ---- where the folder tells what it holds
 
   module _ (told : IsTrue before.folder.tells) where
@@ -191,6 +213,11 @@ module _ (file : List ℕ) (workers : ℕ) (before : Outside) (folder : DepotSta
 
     are : AreItsRuns script before.folder.held seen has.runs
     are = runs_same (plan_of script) before.folder.held folder.held (reads.kept told) 1 packets_limit script.flows seen has.runs has.are
+
+    -- how it was printed
+    shown : Printed (due_body script has.runs ends.due) (due_line script has.runs ends.due) ends.due status before.stream after.stream
+        ⊎ HasKept (due_body script has.runs ends.due) (due_line script has.runs ends.due) ends.due status before.stream after.stream
+    shown = printed_or_kept (due_body script has.runs ends.due) (due_line script has.runs ends.due) ends.due status before.stream after.stream has.printed
 
     abbrev report : Report
     report = runs_report script has.runs
@@ -215,33 +242,29 @@ module _ (file : List ℕ) (workers : ℕ) (before : Outside) (folder : DepotSta
     due_status OutOfMemory d = inr (inr (inr refl))
     due_status Limit d = inl (by_event 7 d)
 
-    status_due : HasStatus asked before.folder.held (status_number status) ⊎ IsRefusal (status_number status)
-    status_due = elim has.printed.how [
-      | inl all ↦ subst (λ (s : Status). HasStatus asked before.folder.held (status_number s) ⊎ IsRefusal (status_number s)) (sym all.0) (due_status ends.due has.is_due)
-      | inr rest ↦ elim rest [
-        | inl memory ↦ inr (inr (inr (ap status_number memory.0)))
-        | inr failed ↦ elim failed [
-          | inl broken ↦ inr (inr (inl (ap status_number broken.0)))
-          | inr line ↦ subst (λ (s : Status). HasStatus asked before.folder.held (status_number s) ⊎ IsRefusal (status_number s)) (sym line.0) (due_status ends.due has.is_due)
+    abbrev Told : Status → Type 0
+    Told s = HasStatus asked before.folder.held (status_number s) ⊎ IsRefusal (status_number s)
+
+    status_due : Told status
+    status_due = elim shown [
+      | inl printed ↦ elim printed.how [
+        | inl all ↦ subst Told (sym all.0) (due_status ends.due has.is_due)
+        | inr rest ↦ elim rest [
+          | inl memory ↦ inr (inr (inr (ap status_number memory.0)))
+          | inr failed ↦ elim failed [
+            | inl broken ↦ inr (inr (inl (ap status_number broken.0)))
+            | inr line ↦ subst Told (sym line.0) (due_status ends.due has.is_due)
+          ]
         ]
       ]
+      | inr kept ↦ inr (inr (inl (ap status_number kept.is)))
     ]
 
     -- ---- what was printed
 
     -- some first octets of what is printed with the event's line
     due_prefix : IsTrue before.stream.tells → WritesPrefix (due_body script has.runs ends.due ++ due_line script has.runs ends.due) before.stream.written after.stream.written
-    due_prefix out = elim has.printed.how [
-      | inl all ↦ subst (λ (t : List ℕ). WritesPrefix t before.stream.written after.stream.written) (append-nil (due_body script has.runs ends.due ++ due_line script has.runs ends.due))
-          (a_whole_text_is_a_front (due_body script has.runs ends.due ++ due_line script has.runs ends.due) [] before.stream.written after.stream.written (all.2 out))
-      | inr rest ↦ elim rest [
-        | inl memory ↦ memory.1 out
-        | inr failed ↦ elim failed [
-          | inl broken ↦ a_part_of_a_text_is_a_front (due_body script has.runs ends.due) (due_line script has.runs ends.due) before.stream.written after.stream.written (broken.2.written out)
-          | inr line ↦ line.3 out
-        ]
-      ]
-    ]
+    due_prefix out = elim shown [ inl printed ↦ prefix_of (due_body script has.runs ends.due) (due_line script has.runs ends.due) ends.due status before.stream after.stream printed out | inr kept ↦ kept.front out ]
 
     part : IsTrue before.stream.tells → IsWritten [] before after
         ⊎ ((r : Report) × HasReport asked before.folder.held seen r × WritesPrefix (report_text r) before.stream.written after.stream.written)
@@ -272,22 +295,30 @@ module _ (file : List ℕ) (workers : ℕ) (before : Outside) (folder : DepotSta
     clean_due Limit d clean = record { finished = tt; whole = event_whole 7 d; printed = refl }
 
     no_line : (due : Status) → status_number due ≡ 0 → due_line script has.runs due ≡ []
-    no_line due e = ap (due_line script has.runs) (is_done_by due e)
+    no_line due e = ap (due_line script has.runs) (is_by due Done e)
+
+    append_rose : ends.due ≡ WriteFault → AppendRose stages before after
+    append_rose is = output_rose (subst (IsDue script has.runs hand mid after) is has.is_due)
 
     -- where nothing was refused
     clean_ends : IsClean stages before after (status_number status) → Finished ends.due × (IsTrue before.stream.tells → IsWritten (report_text report) before after)
-    clean_ends clean = elim has.printed.how [
-      | inl all ↦
-          let f = clean_due ends.due has.is_due (subst (λ (s : Status). IsClean stages before after (status_number s)) all.0 clean) in
-          (f, λ out. all.2 out ∙ ap (λ t. before.stream.written ++ t) f.printed)
-      | inr rest ↦ absurd (elim rest [
-        | inl memory ↦ elim (subst (λ (s : Status). IsClean stages before after (status_number s)) memory.0 clean) [ inl e ↦ omega (arith, e) | inr c ↦ c.0 refl ]
-        | inr failed ↦ elim failed [
-          | inl broken ↦ elim (subst (λ (s : Status). IsClean stages before after (status_number s)) broken.0 clean) [ inl e ↦ omega (arith, e) | inr c ↦ c.1 (inl broken.1) ]
-          | inr line ↦ elim (subst (λ (s : Status). IsClean stages before after (status_number s)) line.0 clean) [ inl e ↦ omega (arith, line.2, ap length (no_line ends.due e)) | inr c ↦ c.1 (inl line.1) ]
-        ]
-      ])
-    ]
+    clean_ends clean = elim shown [
+      | inl printed ↦ elim printed.how [
+        | inl all ↦
+            let f = clean_due ends.due has.is_due (so all.0) in
+            (f, λ out. all.2 out ∙ ap (λ t. before.stream.written ++ t) f.printed)
+        | inr rest ↦ absurd (elim rest [
+          | inl memory ↦ elim (so memory.0) [ inl e ↦ omega (arith, e) | inr c ↦ c.0 refl ]
+          | inr failed ↦ elim failed [
+            | inl broken ↦ elim (so broken.0) [ inl e ↦ omega (arith, e) | inr c ↦ c.1 (inl broken.1) ]
+            | inr line ↦ elim (so line.0) [ inl e ↦ omega (arith, line.2, ap length (no_line ends.due e)) | inr c ↦ c.1 (inl line.1) ]
+          ]
+        ])
+      ]
+      | inr kept ↦ absurd (elim (so kept.is) [ inl e ↦ omega (arith, e) | inr c ↦ c.1 (inr (inr (inr (append_rose kept.due_is)))) ])
+    ] where
+      so : {s : Status} → status ≡ s → IsClean stages before after (status_number s)
+      so is = subst (λ (s : Status). IsClean stages before after (status_number s)) is clean
 
     -- every report of what was asked for has the same texts where a call of the folder can fail
     pauses : (r : Report) → HasReport asked before.folder.held seen r → Contains r.pauses (pause_text script has.runs)
@@ -299,42 +330,48 @@ module _ (file : List ℕ) (workers : ℕ) (before : Outside) (folder : DepotSta
     pause : IsTrue before.stream.tells → status_number status ≡ 3
         → (t : List ℕ) × IsWritten t before after × ((r : Report) → HasReport asked before.folder.held seen r → Contains r.pauses t)
     pause out e =
-        let read = is_read_by status e in
-        elim has.printed.how [
-          | inl all ↦
-              let due : ends.due ≡ ReadFault = sym all.0 ∙ read in (
-                pause_text script has.runs,
-                all.2 out ∙ ap (λ (d : Status). before.stream.written ++ (due_body script has.runs d ++ due_line script has.runs d)) due ∙ ap (λ t. before.stream.written ++ t) (append-nil (pause_text script has.runs)),
-                pauses,
-              )
-          | inr rest ↦ absurd (elim rest [
-            | inl memory ↦ omega (arith, e, ap status_number memory.0)
-            | inr failed ↦ elim failed [
-              | inl broken ↦ omega (arith, e, ap status_number broken.0)
-              | inr line ↦ omega (arith, line.2, ap (λ (d : Status). length (due_line script has.runs d)) (sym line.0 ∙ read))
-            ]
-          ])
+        let read = is_by status ReadFault e in
+        elim shown [
+          | inl printed ↦ elim printed.how [
+            | inl all ↦
+                let due : ends.due ≡ ReadFault = sym all.0 ∙ read in (
+                  pause_text script has.runs,
+                  all.2 out ∙ ap (λ (d : Status). before.stream.written ++ (due_body script has.runs d ++ due_line script has.runs d)) due ∙ ap (λ t. before.stream.written ++ t) (append-nil (pause_text script has.runs)),
+                  pauses,
+                )
+            | inr rest ↦ absurd (elim rest [
+              | inl memory ↦ omega (arith, e, ap status_number memory.0)
+              | inr failed ↦ elim failed [
+                | inl broken ↦ omega (arith, e, ap status_number broken.0)
+                | inr line ↦ omega (arith, line.2, ap (λ (d : Status). length (due_line script has.runs d)) (sym line.0 ∙ read))
+              ]
+            ])
+          ]
+          | inr kept ↦ absurd (omega (arith, e, ap status_number kept.is))
         ]
 
     stop : status_number status ≡ 4 → StopsInBody asked before after seen ⊎ AppendRose stages before after
     stop e =
-        let write = is_write_by status e in
-        elim has.printed.how [
-          | inl all ↦ inr (output_rose (subst (IsDue script has.runs hand mid after) (sym all.0 ∙ write) has.is_due))
-          | inr rest ↦ elim rest [
-            | inl memory ↦ absurd (omega (arith, e, ap status_number memory.0))
-            | inr failed ↦ elim failed [
-              | inl broken ↦
-                  let begins = body_begins script has.runs ends.due in
-                  inl (record {
-                    report = report;
-                    has = has_report;
-                    some = omega (arith, broken.2.some, ap length begins.1, length-append (due_body script has.runs ends.due) begins.0);
-                    part = λ out. longer_less (due_body script has.runs ends.due) begins.0 report.body before.stream.written after.stream.written begins.1 (broken.2.written out);
-                  })
-              | inr line ↦ absurd (omega (arith, line.2, ap (λ (d : Status). length (due_line script has.runs d)) (sym line.0 ∙ write)))
+        let write = is_by status WriteFault e in
+        elim shown [
+          | inl printed ↦ elim printed.how [
+            | inl all ↦ inr (append_rose (sym all.0 ∙ write))
+            | inr rest ↦ elim rest [
+              | inl memory ↦ absurd (omega (arith, e, ap status_number memory.0))
+              | inr failed ↦ elim failed [
+                | inl broken ↦
+                    let begins = body_begins script has.runs ends.due in
+                    inl (record {
+                      report = report;
+                      has = has_report;
+                      some = omega (arith, broken.2.some, ap length begins.1, length-append (due_body script has.runs ends.due) begins.0);
+                      part = λ out. longer_less (due_body script has.runs ends.due) begins.0 report.body before.stream.written after.stream.written begins.1 (broken.2.written out);
+                    })
+                | inr line ↦ absurd (omega (arith, line.2, ap (λ (d : Status). length (due_line script has.runs d)) (sym line.0 ∙ write)))
+              ]
             ]
           ]
+          | inr kept ↦ inr (append_rose kept.due_is)
         ]
 
     prints : Prints asked before after (status_number status) seen stages
@@ -382,18 +419,16 @@ module _ (file : List ℕ) (workers : ℕ) (before : Outside) (folder : DepotSta
   with_ends = record {
     due = status_due;
     possible = possible status ends.cause;
-    no_form = λ e. absurd (subst (λ (s : Status). IsCauseOf hand s mid after) (is_form_by status e) ends.cause);
+    no_form = λ e. absurd (subst (λ (s : Status). IsCauseOf hand s mid after) (is_by status NoForm e) ends.cause);
     usage = λ none. absurd cc;
-    read_fault = λ e. input_rose (subst (λ (s : Status). IsCauseOf hand s mid after) (is_read_by status e) ends.cause);
-    write_fault = λ e. elim (subst (λ (s : Status). IsCauseOf hand s mid after) (is_write_by status e) ends.cause) [ inl write ↦ inl write | inr append ↦ inr (output_rose append) ];
-    unmoved = λ e.
-        let none : NoneFailed mid after = subst (λ (s : Status). IsCauseOf hand s mid after) (is_done_by status e) ends.cause in
-        record {
-          reads = λ name. none.reads name ∙ counts name;
-          creates = λ name. none.creates name ∙ reads.creates name;
-          appends = λ name. none.appends name ∙ reads.appends name;
-          writes = none.writes;
-        };
+    read_fault = λ e. input_rose (subst (λ (s : Status). IsCauseOf hand s mid after) (is_by status ReadFault e) ends.cause);
+    write_fault = λ e. elim (subst (λ (s : Status). IsCauseOf hand s mid after) (is_by status WriteFault e) ends.cause) [ inl write ↦ inl write | inr append ↦ inr (output_rose append) ];
+    memory = λ e.
+        let cause = subst (λ (s : Status). IsCauseOf hand s mid after) (is_by status OutOfMemory e) ends.cause in (
+          record { writes = cause.0.writes; appends = λ name. cause.0.appends name ∙ reads.appends name },
+          elim cause.1 [ inl none ↦ inl (none_failed none) | inr rose ↦ inr (input_rose rose) ],
+        );
+    unmoved = λ e. none_failed (subst (λ (s : Status). IsCauseOf hand s mid after) (is_by status Done e) ends.cause);
   }
 
   pub run_ends : CallEnds asked before after (status_number status) seen

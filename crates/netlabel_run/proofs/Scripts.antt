@@ -4,7 +4,7 @@ use Rattle.std.specs.Prelude.{IsTrue, Contains}
 use Rattle.std.proofs.lemmas.Bool.{lt-ltb}
 use Rattle.std.proofs.lemmas.List.{append-nil, length-replicate}
 use Rattle.net_io.specs.Depot.{octets_of}
-use Rattle.net_io.specs.Faults.{Rose}
+use Rattle.net_io.specs.Faults.{Rose, SameCounts}
 use Rattle.script_lines.specs.declared.stop.LimitName.TheVariants.{Octets}
 use Rattle.line_forms.specs.Form.{with_translations}
 use Rattle.label_commands.specs.declared.script.Script.{Script}
@@ -50,8 +50,8 @@ module _ (asked : Option Command) (file : List ℕ) (asks : ReadsScript asked fi
 
   refused_by : (like : List ℕ) (why : ScriptStop) (due : Status) (status : Status) → script_read file like ≡ Err why → Reads why
       → status_number due ≡ script_stop_status why → (status_number due ≢ 3) × (status_number due ≢ 4) × (status_number due ≢ 6) → status_number due ≢ 1 → status_number due ≢ 0
-      → Printed [] (script_stop_line why) due status before.stream after.stream → CallEnds asked before after (status_number status) []
-  refused_by like why due status may read is event not_1 not_0 printed =
+      → SameCounts before.folder.reads after.folder.reads → Printed [] (script_stop_line why) due status before.stream after.stream → CallEnds asked before after (status_number status) []
+  refused_by like why due status may read is event not_1 not_0 counts printed =
       ends_printed asked before after (reading_stage file ∷ []) known due [] (script_stop_line why)
       (record {
         event = event;
@@ -65,27 +65,27 @@ module _ (asked : Option Command) (file : List ℕ) (asks : ReadsScript asked fi
         last = λ e. absurd (not_0 e);
         whole = λ told. let r = read told in (asks.refused before.folder.held r.0 why r.1 r.2).whole;
       })
-      status (λ e. absurd (not_0 e)) printed
+      status counts printed
 
   -- the text is no script
-  pub ends_refused : (text : List ℕ) (why : ScriptStop) (status : Status) → (IsTrue before.folder.tells → before.folder.held file ≡ Some text) → IsScriptStop with_translations file text why
+  pub ends_refused : SameCounts before.folder.reads after.folder.reads → (text : List ℕ) (why : ScriptStop) (status : Status) → (IsTrue before.folder.tells → before.folder.held file ≡ Some text) → IsScriptStop with_translations file text why
       → Printed [] (script_stop_line why) (script_due why) status before.stream after.stream → CallEnds asked before after (status_number status) []
-  ends_refused text (stop.Fault fault) status holds is printed =
-      refused_by text (stop.Fault fault) WrongScript status is (λ told. (text, holds told, is)) refl (λ e. omega (arith, e), λ e. omega (arith, e), λ e. omega (arith, e)) (λ e. omega (arith, e)) (λ e. omega (arith, e)) printed
-  ends_refused text (stop.Limit what number) status holds is printed =
-      refused_by text (stop.Limit what number) Limit status is (λ told. (text, holds told, is)) refl (λ e. omega (arith, e), λ e. omega (arith, e), λ e. omega (arith, e)) (λ e. omega (arith, e)) (λ e. omega (arith, e)) printed
-  ends_refused text stop.OutOfMemory status holds is printed = ends_stopped_short asked before after (reading_stage file ∷ []) known [] asks.form (λ told. asks.begins before.folder.held) status printed
+  ends_refused counts text (stop.Fault fault) status holds is printed =
+      refused_by text (stop.Fault fault) WrongScript status is (λ told. (text, holds told, is)) refl (λ e. omega (arith, e), λ e. omega (arith, e), λ e. omega (arith, e)) (λ e. omega (arith, e)) (λ e. omega (arith, e)) counts printed
+  ends_refused counts text (stop.Limit what number) status holds is printed =
+      refused_by text (stop.Limit what number) Limit status is (λ told. (text, holds told, is)) refl (λ e. omega (arith, e), λ e. omega (arith, e), λ e. omega (arith, e)) (λ e. omega (arith, e)) (λ e. omega (arith, e)) counts printed
+  ends_refused counts text stop.OutOfMemory status holds is printed = ends_stopped_short asked before after (reading_stage file ∷ []) known [] asks.form (λ told. asks.begins before.folder.held) status counts printed
 
   there : (held : Option (List ℕ)) → 1048576 < length (octets_of held) → (text : List ℕ) × (held ≡ Some text) × (script_read file text ≡ Err (stop.Limit Octets 1048576))
   there None long = absurd (omega (arith, long))
   there (Some text) long = (text, refl, too_long_by text file long)
 
   -- the file has more octets than a script may have
-  pub ends_too_long : (status : Status) → (IsTrue before.folder.tells → 1048576 < length (octets_of (before.folder.held file)))
+  pub ends_too_long : SameCounts before.folder.reads after.folder.reads → (status : Status) → (IsTrue before.folder.tells → 1048576 < length (octets_of (before.folder.held file)))
       → Printed [] (limit_line Octets 1048576) Limit status before.stream after.stream → CallEnds asked before after (status_number status) []
-  ends_too_long status long printed =
+  ends_too_long counts status long printed =
       refused_by (zeros 1048577) (stop.Limit Octets 1048576) Limit status (too_long_by (zeros 1048577) file (omega (arith, length-zeros 1048577)))
-      (λ told. there (before.folder.held file) (long told)) refl (λ e. omega (arith, e), λ e. omega (arith, e), λ e. omega (arith, e)) (λ e. omega (arith, e)) (λ e. omega (arith, e)) printed
+      (λ told. there (before.folder.held file) (long told)) refl (λ e. omega (arith, e), λ e. omega (arith, e), λ e. omega (arith, e)) (λ e. omega (arith, e)) (λ e. omega (arith, e)) counts printed
 
   -- it couldn't be read
   pub ends_without_script : after.stream.written ≡ before.stream.written → Rose (before.folder.reads file) (after.folder.reads file) → CallEnds asked before after 3 []
@@ -95,5 +95,5 @@ module _ (asked : Option Command) (file : List ℕ) (asks : ReadsScript asked fi
       (λ told report has. asks.pauses before.folder.held report has) (λ late. refl)
 
   -- nor was there memory for it
-  pub ends_without_room : after.stream.written ≡ before.stream.written → CallEnds asked before after 6 []
-  ends_without_room same = ends_unprinted asked before after (reading_stage file ∷ []) known same
+  pub ends_without_room : SameCounts before.folder.reads after.folder.reads → after.stream ≡ before.stream → CallEnds asked before after 6 []
+  ends_without_room counts same = ends_unprinted asked before after (reading_stage file ∷ []) known counts same

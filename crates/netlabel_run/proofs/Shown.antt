@@ -2,6 +2,7 @@
 use Rattle.std.proofs.Common.{◌≡◌, ◌<◌, ◌≤◌, ℕ, ◌+◌, List, [], ◌∷◌, ◌++◌, length, drop, Option, Some, None, Result, Ok, Err, refl, sym, ap, subst, ◌∙◌, arith, inl}
 use Rattle.std.specs.Prelude.{IsTrue, IsSome, Contains}
 use Rattle.std.specs.Option.{option_map, option_map_or}
+use Rattle.std.specs.Result.{IsErrOf}
 use Rattle.net_io.specs.Depot.{DepotState, octets_of, SameHeld, OnlyReads}
 use Rattle.net_io.specs.Faults.{Rose, SameCounts}
 use Rattle.net_io.specs.declared.fault.IoFault.{IoFault}
@@ -178,6 +179,10 @@ module _ (file : List ℕ) (before now after : Outside) (reader : Reader) (waiti
   knows : (result : Result (Option FrameHead) FrameStop) → Reads result → after.stream.tells ≡ now.stream.tells → Knows (asked file) before after (reading_stage file ∷ [])
   knows result reads told = knows_show file before after (only result reads) (told ∙ showing.way.told)
 
+  -- no read has failed but where the reader tells that one has
+  same_reads : (result : Result (Option FrameHead) FrameStop) → Reads result → (IsErrOf result stop.ReadFault → ⊥) → SameCounts before.folder.reads after.folder.reads
+  same_reads result reads other name = reads.reads.still other name ∙ showing.same.reads name
+
   -- the parts of a report whose event is known
   parts : (event : Option Event) → ((told : IsTrue before.folder.tells) → Ends (showing.told told).0 reader.header (showing.told told).2.frames event) → (told : IsTrue before.folder.tells)
       → HasReport (asked file) before.folder.held [] (lines_report (showing.told told).2.lines event)
@@ -203,29 +208,29 @@ module _ (file : List ℕ) (before now after : Outside) (reader : Reader) (waiti
       record { report = lines_report amid.lines None; has = parts None whole told; body = λ i. sym amid.is i ++ shown_end_line (count i); last = refl } in
       ends_printed (asked file) before after (reading_stage file ∷ []) (knows (Ok None) reads printed.told) Done (showing.text ++ end) []
       (show_due file before Done (showing.text ++ end) [] (capture_with 0) whole_status (λ e. omega (arith, e)) (λ e. omega (arith, e)) (λ e. omega (arith, e)) (λ e. omega (arith, e)) (λ e. refl) (due None whole) has)
-      status (λ e. λ name. reads.reads.ok name ∙ showing.same.reads name)
+      status (same_reads (Ok None) reads (λ failed. absurd cc))
       (a_report_is_printed (showing.text ++ end) (waiting ++ end) before.stream now.stream (a_report_takes_a_text showing.text waiting before.stream now.stream showing.way end) [] Done status after.stream printed)
 
   -- an event in front of the capture's end
-  ends_by : (result : Result (Option FrameHead) FrameStop) (kind : Status) (line octets' : List ℕ) (status : Status) → Reads result
+  ends_by : (result : Result (Option FrameHead) FrameStop) (kind : Status) (line octets' : List ℕ) (status : Status) → Reads result → (IsErrOf result stop.ReadFault → ⊥)
       → status_number kind ≡ capture_status (capture_of octets') → (status_number kind ≡ 3 → ⊥) → (status_number kind ≡ 4 → ⊥) → (status_number kind ≡ 6 → ⊥) → (status_number kind ≡ 1 → ⊥) → (status_number kind ≡ 0 → ⊥)
       → ((told : IsTrue before.folder.tells) → Ends (showing.told told).0 reader.header (showing.told told).2.frames (Some (record { status = status_number kind; line = line })))
       → Printed waiting line kind status now.stream after.stream → CallEnds (asked file) before after (status_number status) []
-  ends_by result kind line octets' status reads may not_3 not_4 not_6 not_1 not_0 ends printed =
+  ends_by result kind line octets' status reads other may not_3 not_4 not_6 not_1 not_0 ends printed =
       let event : Option Event = Some (record { status = status_number kind; line = line }) in
       let has : IsTrue before.folder.tells → HasParts (asked file) before.folder.held showing.text line = λ told.
       let amid = (showing.told told).2 in
       record { report = lines_report amid.lines event; has = parts event ends told; body = sym amid.is; last = refl } in
       ends_printed (asked file) before after (reading_stage file ∷ []) (knows result reads printed.told) kind showing.text line
       (show_due file before kind showing.text line octets' may not_3 not_4 not_6 not_1 (λ e. absurd (not_0 e)) (due event ends) has)
-      status (λ e. absurd (not_0 e))
+      status (same_reads result reads other)
       (a_report_is_printed showing.text waiting before.stream now.stream showing.way line kind status after.stream printed)
 
   -- one packet too many
   pub ends_at_limit : (head : FrameHead) (octets : List ℕ) (status : Status) → n ≡ packets_limit → Reads (Ok (Some head)) → (IsTrue now.folder.tells → Answers octets (Ok (Some head)) (octets_of (now.folder.held reader.name)))
       → Printed waiting packets_limit_line Limit status now.stream after.stream → CallEnds (asked file) before after (status_number status) []
   ends_at_limit head octets status full reads answer printed =
-      ends_by (Ok (Some head)) Limit packets_limit_line (capture_with 1048577) status reads full_status (λ e. omega (arith, e)) (λ e. omega (arith, e)) (λ e. omega (arith, e)) (λ e. omega (arith, e)) (λ e. omega (arith, e))
+      ends_by (Ok (Some head)) Limit packets_limit_line (capture_with 1048577) status reads (λ failed. absurd cc) full_status (λ e. omega (arith, e)) (λ e. omega (arith, e)) (λ e. omega (arith, e)) (λ e. omega (arith, e)) (λ e. omega (arith, e))
       (λ told. let t = showing.told told in ends_full t.0 reader.header reader.place n showing.text t.2 showing.few (record { head = head; octets = octets }) full (said octets (Ok (Some head)) answer told))
       printed
 
@@ -233,7 +238,7 @@ module _ (file : List ℕ) (before now after : Outside) (reader : Reader) (waiti
   pub ends_at_stop : (why : FrameStop) (octets : List ℕ) (status : Status) → Reads (Err why) → (IsTrue now.folder.tells → Answers octets (Err why) (octets_of (now.folder.held reader.name)))
       → Printed waiting (stop_line why) (stop_status why) status now.stream after.stream → CallEnds (asked file) before after (status_number status) []
   ends_at_stop (stop.Capture fault) octets status reads answer printed =
-      ends_by (Err (stop.Capture fault)) WrongCapture (capture_line 1 fault) [] status reads empty_is_broken (λ e. omega (arith, e)) (λ e. omega (arith, e)) (λ e. omega (arith, e)) (λ e. omega (arith, e)) (λ e. omega (arith, e))
+      ends_by (Err (stop.Capture fault)) WrongCapture (capture_line 1 fault) [] status reads (λ failed. absurd cc) empty_is_broken (λ e. omega (arith, e)) (λ e. omega (arith, e)) (λ e. omega (arith, e)) (λ e. omega (arith, e)) (λ e. omega (arith, e))
       (λ told. let t = showing.told told in ends_broken t.0 reader.header reader.place n showing.text t.2 showing.few fault (said octets (Err (stop.Capture fault)) answer told))
       printed
   ends_at_stop stop.ReadFault octets status reads answer printed =
@@ -243,6 +248,7 @@ module _ (file : List ℕ) (before now after : Outside) (reader : Reader) (waiti
       (a_report_is_printed showing.text waiting before.stream now.stream showing.way [] ReadFault status after.stream printed)
   ends_at_stop stop.OutOfMemory octets status reads answer printed =
       ends_stopped_short (asked file) before after (reading_stage file ∷ []) (knows (Err stop.OutOfMemory) reads printed.told) showing.text (has_form file) begins status
+      (same_reads (Err stop.OutOfMemory) reads (λ failed. absurd cc))
       (a_report_is_printed showing.text waiting before.stream now.stream showing.way [] OutOfMemory status after.stream printed)
 
   -- ---- one packet more
@@ -293,6 +299,7 @@ module _ (file : List ℕ) (before now after : Outside) (reader : Reader) (waiti
       let line = shown_line (n + 1) s in
       let breaks = a_report_breaks showing.text waiting before.stream now.stream showing.way line after.stream hands.err in
       ends_short (asked file) before after (reading_stage file ∷ []) (knows (Ok (Some head)) reads hands.told) (showing.text ++ line)
+      (inl (same_reads (Ok (Some head)) reads (λ failed. absurd cc))) (hands.counts.still (λ failed. absurd cc) ∙ showing.way.faults)
       (write_front head octets s few answer shown)
       (λ out. let less = breaks.written out in record { count = less.count; within = omega (arith, less.within); written = less.written })
 
@@ -319,10 +326,10 @@ module _ (file : List ℕ) (before after : Outside) where
         body = refl;
         last = refl;
       }))
-      status (λ e. absurd (omega (arith, e))) printed
+      status (reads.reads.still (λ failed. absurd cc)) printed
   ends_unbegun shown stop.ReadFault status reads answer there printed =
       ends_stopped_unread (asked file) before after (reading_stage file ∷ []) (knows_show file before after (only_read stop.ReadFault _ file before.folder after.folder reads) printed.told) [] (has_form file) any_begins status
       (record { name = file; counted = inl refl; rose = reads.reads.cause refl })
       (λ told report has. first_pause (before.folder.held file) report has) (λ quiet. refl) printed
   ends_unbegun shown stop.OutOfMemory status reads answer there printed =
-      ends_stopped_short (asked file) before after (reading_stage file ∷ []) (knows_show file before after (only_read stop.ReadFault _ file before.folder after.folder reads) printed.told) [] (has_form file) any_begins status printed
+      ends_stopped_short (asked file) before after (reading_stage file ∷ []) (knows_show file before after (only_read stop.ReadFault _ file before.folder after.folder reads) printed.told) [] (has_form file) any_begins status (reads.reads.still (λ failed. absurd cc)) printed

@@ -12,7 +12,7 @@ use Rattle.netlabel_run.specs.Stages.{HasStages, HasOutputs}
 use Rattle.call_report.specs.Stages.{Stage}
 use Rattle.call_report.specs.Output.{Output, IsBegun, IsMade}
 use Rattle.netlabel_run.specs.Seen.{IsLawful, IsWhole}
-use Rattle.call_report.specs.Outside.{Outside, ReadRose, CreateRose, AppendRose, WriteRose, CountRose, NoneFailed}
+use Rattle.call_report.specs.Outside.{Outside, ReadRose, CreateRose, AppendRose, WriteRose, CountRose, NoneFailed, NoWriteFailed}
 
 -- nothing was refused: the status is 0, or no counted number rose and memory sufficed
 abbrev pub IsClean : List Stage → Outside → Outside → ℕ → Type 0
@@ -29,6 +29,8 @@ pub record EndsWith (request : Option Command) (before after : Outside) (status 
   -- 3 and 4: only where a counted number rose in this call
   pub read_fault : status ≡ 3 → ReadRose stages before after ⊎ CreateRose stages before after
   pub write_fault : status ≡ 4 → WriteRose before after ⊎ AppendRose stages before after
+  -- 6: only where no write and no append has failed, and nothing else, unless memory ran out while what stands in front of a read or a making that failed was printed
+  pub memory : status ≡ 6 → NoWriteFailed before after × (NoneFailed before after ⊎ ReadRose stages before after ⊎ CreateRose stages before after)
   -- 0: only where nothing has failed
   pub unmoved : status ≡ 0 → NoneFailed before after
 

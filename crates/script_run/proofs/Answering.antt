@@ -1,6 +1,6 @@
 -- Replies that are handed on one by one, over plain values.
-use Rattle.std.proofs.Common.{◌≡◌, ◌<◌, ℕ, zero, suc, ◌+◌, ◌-◌, get_or, List, [], ◌∷◌, ◌++◌, length, Some, Ok, Err, refl, sym, ap, subst, ◌∙◌, append_assoc, arith}
-use Rattle.std.specs.Prelude.{All, slice_get, option_map}
+use Rattle.std.proofs.Common.{◌≡◌, ◌<◌, ℕ, zero, suc, ◌+◌, ◌-◌, get_or, List, [], ◌∷◌, ◌++◌, length, Some, Result, Ok, Err, refl, sym, ap, subst, ◌∙◌, append_assoc, arith}
+use Rattle.std.specs.Prelude.{All, OnOk, slice_get, option_map}
 use Rattle.std.proofs.lemmas.List.{append-nil}
 use Rattle.std.proofs.lemmas.Option.{none-some, slice_get_within, get_or_from_slice_get, slice_get-get_or, unwrap_or-slice_get}
 use Rattle.net_io.specs.declared.fault.IoFault.{IoFault}
@@ -9,7 +9,7 @@ use Rattle.command_forms.specs.declared.command.Step.{Step}
 use Rattle.node_tables.specs.declared.reply.Reply.{Reply}
 use Rattle.node_tables.specs.Tables.{TableState, fresh}
 use Rattle.node_tables.specs.Effect.{reply_of}
-use Rattle.node_tables.specs.Steps.{step_applied, step_reply, tables_after}
+use Rattle.node_tables.specs.Steps.{step_applied, step_reply, reply_at, tables_after}
 use Rattle.node_tables.proofs.Law.{steps_apply_one_by_one, nodes_keep_their_number}
 use Rattle.shared_tables.specs.Plan.{PlanState, reply_after}
 use Rattle.label_flow.specs.Round.{AreReplies}
@@ -27,11 +27,16 @@ at_place P xs i x all at = subst P (get_or_from_slice_get xs i x x at) (all i x 
 pub name_there : (names : List (List ℕ)) (node : ℕ) → node < length names → slice_get names node ≡ Some (name_at names node)
 name_there names node within = let none : List ℕ = [] in slice_get-get_or names node none within ∙ ap Some (sym (unwrap_or-slice_get names node none))
 
--- the reply of a step's node is the one to be printed
-pub answered : (names : List (List ℕ)) (steps : List Step) (k : ℕ) (nodes : List TableState) (step : Step) (reply : Reply) → slice_get steps k ≡ Some step → step.node < length names → nodes ≡ tables_after (length names) steps k
-    → step_reply nodes step ≡ Some reply → reply_text (k + 1) (name_at names step.node) reply ≡ reply_line_at names steps k
-answered names steps k nodes step reply at within is replied =
-    sym (a_step_is_answered_at_its_node names steps k step (name_at names step.node) reply at (name_there names step.node within) (ap (λ (ns : List TableState). step_reply ns step) (sym is) ∙ replied))
+-- what a step answers that is carried out behind those in front of it
+pub given_by : (count : ℕ) (steps : List Step) (k : ℕ) (nodes : List TableState) (step : Step) (reply : Reply) → slice_get steps k ≡ Some step → nodes ≡ tables_after count steps k → step_reply nodes step ≡ Some reply
+    → reply_at count steps k ≡ Some reply
+given_by count steps k nodes step reply at is replied = (steps_apply_one_by_one count steps k step at).1 ∙ ap (λ (ns : List TableState). step_reply ns step) (sym is) ∙ replied
+
+-- the reply to a step is the one to be printed, at the step's node
+pub answered : (names : List (List ℕ)) (steps : List Step) (k : ℕ) (step : Step) (reply : Reply) → slice_get steps k ≡ Some step → step.node < length names → reply_at (length names) steps k ≡ Some reply
+    → reply_text (k + 1) (name_at names step.node) reply ≡ reply_line_at names steps k
+answered names steps k step reply at within given =
+    sym (a_step_is_answered_at_its_node names steps k step (name_at names step.node) reply at (name_there names step.node within) (sym (steps_apply_one_by_one (length names) steps k step at).1 ∙ given))
 
 pub one_on : (count : ℕ) (steps : List Step) (k : ℕ) (nodes next : List TableState) (step : Step) → slice_get steps k ≡ Some step → nodes ≡ tables_after count steps k → next ≡ step_applied nodes step → next ≡ tables_after count steps (k + 1)
 one_on count steps k nodes next step at is made = made ∙ ap (λ (ns : List TableState). step_applied ns step) is ∙ sym (steps_apply_one_by_one count steps k step at).0
@@ -54,13 +59,18 @@ given_at plan from (first ∷ replies) zero reply are at = let here : from + 0 �
 given_at plan from (first ∷ replies) (suc k) reply are at =
     let further : from + suc k ≡ from + 1 + k = omega arith in ap (reply_after plan) further ∙ given_at plan (from + 1) replies k reply are.1 at
 
--- the reply that was given to a step is the one to be printed
-pub given_answered : (names : List (List ℕ)) (steps : List Step) (from : ℕ) (replies : List Reply) (k : ℕ) (step : Step) (reply : Reply) → slice_get steps (from + k) ≡ Some step → slice_get replies k ≡ Some reply → step.node < length names
-    → AreReplies (record { nodes = length names; steps = steps }) from replies → reply_text (from + k + 1) (name_at names step.node) reply ≡ reply_line_at names steps (from + k)
-given_answered names steps from replies k step reply at at' within are =
-    let plan : PlanState = record { nodes = length names; steps = steps } in
-    answered names steps (from + k) (tables_after (length names) steps (from + k)) step reply at within refl
-    (sym (steps_apply_one_by_one (length names) steps (from + k) step at).1 ∙ given_at plan from replies k reply are at')
+-- each step's line has some octets
+pub line_some : (names : List (List ℕ)) (steps : List Step) (k : ℕ) (step : Step) → slice_get steps k ≡ Some step → step.node < length names → 0 < length (reply_line_at names steps k)
+line_some names steps k step at within =
+    let nodes = tables_after (length names) steps k in
+    let many : step.node < length nodes = omega (arith, within, nodes_keep_their_number (length names) steps k) in
+    let reply = has_reply nodes step many in
+    subst (λ (t : List ℕ). 0 < length t) (answered names steps k step reply.0 at within (given_by (length names) steps k nodes step reply.0 at refl reply.1))
+    (reply_some (k + 1) (name_at names step.node) reply.0)
+
+pub on_ok_of : {T E P : Type 0} (result : Result T E) → P → OnOk result P
+on_ok_of (Ok given) fact = fact
+on_ok_of (Err error) fact = tt
 
 -- ---- replies one after the other
 

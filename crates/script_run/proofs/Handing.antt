@@ -40,10 +40,10 @@ front_of_more part more old new front = record {
 }
 
 -- memory ran out in a part of a text
-pub printed_in_part : (part more whole : List ℕ) (due : Status) (a b : SinkState) → part ++ more ≡ whole → b.tells ≡ a.tells → (IsTrue a.tells → WritesPrefix part a.written b.written) → Printed whole [] due OutOfMemory a b
-printed_in_part part more whole due a b is told front = record {
+pub printed_in_part : (part more whole : List ℕ) (due : Status) (a b : SinkState) → part ++ more ≡ whole → b.tells ≡ a.tells → b.faults ≡ a.faults → (IsTrue a.tells → WritesPrefix part a.written b.written) → Printed whole [] due OutOfMemory a b
+printed_in_part part more whole due a b is told same front = record {
   told = told;
-  how = inr (inl (refl, λ t. subst (λ (w : List ℕ). WritesPrefix (w ++ []) a.written b.written) is (front_of_more (part ++ more) [] a.written b.written (front_of_more part more a.written b.written (front t)))));
+  how = inr (inl (refl, same, λ t. subst (λ (w : List ℕ). WritesPrefix (w ++ []) a.written b.written) is (front_of_more (part ++ more) [] a.written b.written (front_of_more part more a.written b.written (front t)))));
 }
 
 pub in_parts : (waits text more rest : List ℕ) → (waits ++ text) ++ (more ++ rest) ≡ waits ++ ((text ++ more) ++ rest)
@@ -57,9 +57,9 @@ pub printed_more : (body more : List ℕ) (status : Status) (a b : SinkState) �
 printed_more body more status a b printed = record {
   told = printed.told;
   how = elim printed.how [
-    | inl all ↦ inr (inl (all.0, λ told. of_part (whole_front body a.written b.written (all.2 told))))
+    | inl all ↦ inr (inl (all.0, all.1, λ told. of_part (whole_front body a.written b.written (all.2 told))))
     | inr rest ↦ elim rest [
-      | inl short ↦ inr (inl (short.0, λ told. of_part (short.1 told)))
+      | inl short ↦ inr (inl (short.0, short.1, λ told. of_part (short.2 told)))
       | inr broken ↦ elim broken [
         | inl failed ↦ inr (inr (inl (failed.0, failed.1, a_failing_part_is_a_failing_whole body more a b failed.2)))
         | inr line ↦ absurd (omega (arith, line.2))
@@ -73,16 +73,16 @@ printed_more body more status a b printed = record {
 -- memory ran out while a text was under way
 pub printed_on_the_way : (text waits more : List ℕ) (due : Status) (a b : SinkState) → IsUnderWay text waits a b → Printed (text ++ more) [] due OutOfMemory a b
 printed_on_the_way text waits more due a b way =
-    printed_in_part way.goes.sent (waits ++ more) (text ++ more) due a b (sym (append_assoc way.goes.sent waits more) ∙ ap (λ t. t ++ more) way.goes.all) way.told
+    printed_in_part way.goes.sent (waits ++ more) (text ++ more) due a b (sym (append_assoc way.goes.sent waits more) ∙ ap (λ t. t ++ more) way.goes.all) way.told way.faults
     (λ told. subst (λ (t : List ℕ). WritesPrefix t a.written b.written) (append-nil way.goes.sent) (a_whole_text_is_a_front way.goes.sent [] a.written b.written (way.goes.written told)))
 
 -- with which statuses a report ends
-pub ends_so : (P : Status → Type 0) (body last : List ℕ) (due status : Status) (a b : SinkState) → Printed body last due status a b → P due → P OutOfMemory → (Rose a.faults b.faults → P WriteFault) → P status
+pub ends_so : (P : Status → Type 0) (body last : List ℕ) (due status : Status) (a b : SinkState) → Printed body last due status a b → P due → (b.faults ≡ a.faults → P OutOfMemory) → (Rose a.faults b.faults → P WriteFault) → P status
 ends_so P body last due status a b printed here memory failed =
     elim printed.how [
       | inl all ↦ subst P (sym all.0) here
       | inr rest ↦ elim rest [
-        | inl short ↦ subst P (sym short.0) memory
+        | inl short ↦ subst P (sym short.0) (memory short.1)
         | inr broken ↦ elim broken [
           | inl body ↦ subst P (sym body.0) (failed body.1)
           | inr line ↦ subst P (sym line.0) here
@@ -91,12 +91,12 @@ ends_so P body last due status a b printed here memory failed =
     ]
 
 -- a report that has no line behind its body has that status only where no write has failed
-pub ends_done : (P : Status → Type 0) (body : List ℕ) (due status : Status) (a b : SinkState) → Printed body [] due status a b → (b.faults ≡ a.faults → P due) → P OutOfMemory → (Rose a.faults b.faults → P WriteFault) → P status
+pub ends_done : (P : Status → Type 0) (body : List ℕ) (due status : Status) (a b : SinkState) → Printed body [] due status a b → (b.faults ≡ a.faults → P due) → (b.faults ≡ a.faults → P OutOfMemory) → (Rose a.faults b.faults → P WriteFault) → P status
 ends_done P body due status a b printed here memory failed =
     elim printed.how [
       | inl all ↦ subst P (sym all.0) (here all.1)
       | inr rest ↦ elim rest [
-        | inl short ↦ subst P (sym short.0) memory
+        | inl short ↦ subst P (sym short.0) (memory short.1)
         | inr broken ↦ elim broken [
           | inl body ↦ subst P (sym body.0) (failed body.1)
           | inr line ↦ absurd (omega (arith, line.2))
@@ -107,5 +107,5 @@ ends_done P body due status a b printed here memory failed =
 -- a text behind what waits, and behind all that was handed on
 pub ways_join : (text more waits still : List ℕ) (a b c : SinkState) → IsUnderWay text waits a b → IsUnderWay (waits ++ more) still b c → IsUnderWay (text ++ more) still a c
 ways_join text more waits still a b c way next =
-    let hands : HandsOn {T = Unit {0}} more waits still (Ok tt) b c = record { ok = next.goes; err = tt; told = next.told; counts = record { no_less = omega (arith, next.faults); ok = next.faults; cause = λ e. absurd cc } } in
+    let hands : HandsOn {T = Unit {0}} more waits still (Ok tt) b c = record { ok = next.goes; err = tt; told = next.told; counts = record { no_less = omega (arith, next.faults); ok = next.faults; still = λ _. next.faults; cause = λ e. absurd cc } } in
     a_report_goes_on text waits a b way more still tt c hands

@@ -15,15 +15,15 @@ use Rattle.call_report.specs.declared.status.Status.{Status}
 use Rattle.call_report.specs.declared.status.Status.TheVariants.{Done, OutOfMemory}
 use Rattle.call_report.specs.Report.{Versions}
 use Rattle.call_report.specs.Output.{Output, IsBegun, IsMade}
-use Rattle.call_report.specs.Outside.{Outside}
+use Rattle.call_report.specs.Outside.{Outside, NoneFailed}
 use Rattle.call_report.specs.Printing.{Printed}
 use Rattle.flow_run.specs.Run.{FlowRun, goes_on}
 use Rattle.script_run.specs.Runs.{plan_of, IsLawfulRun, is_done}
 use Rattle.script_run.specs.Report.{first_replies, runs_outputs}
 use Rattle.script_run.specs.Ends.{flow_in_hand, IsCauseOf, ScriptEnds}
-use Rattle.script_run.proofs.Handing.{printed_more, printed_on_the_way, ends_so, ends_done}
+use Rattle.script_run.proofs.Handing.{printed_more, printed_on_the_way, ends_done}
 use Rattle.script_run.proofs.Runs.{as_many_runs, turns_text, of_each_output}
-use Rattle.script_run.proofs.Underway.{HaveRun, AreUnderWay, made_has_begun, printed_further}
+use Rattle.script_run.proofs.Underway.{HaveRun, AreUnderWay, short_of_memory, made_has_begun, printed_further}
 
 -- the call ends before any flow
 pub ends_first : (script : Script) (workers : ℕ) (start after : Outside) (status : Status) → after.folder ≡ start.folder → Printed (first_replies script) [] OutOfMemory status start.stream after.stream
@@ -41,11 +41,18 @@ ends_first script workers start after status same printed = record {
     made = λ finished. absurd finished;
     others = λ name all. ap (λ f. f.held name) same;
   };
-  cause = ends_so (λ s. IsCauseOf None s start after) (first_replies script) [] OutOfMemory status start.stream after.stream printed tt tt inl;
+  cause = ends_done (λ s. IsCauseOf None s start after) (first_replies script) OutOfMemory status start.stream after.stream printed short short inl;
   still = λ none. (λ name. ap (λ f. f.creates name) same, λ name. ap (λ f. f.appends name) same);
   folder_told = ap (λ f. f.tells) same;
   stream_told = printed.told;
-}
+} where
+  short : after.stream.faults ≡ start.stream.faults → IsCauseOf None OutOfMemory start after
+  short still = short_of_memory None start after (record {
+    reads = λ name. ap (λ f. f.reads name) same;
+    creates = λ name. ap (λ f. f.creates name) same;
+    appends = λ name. ap (λ f. f.appends name) same;
+    writes = still;
+  })
 
 module _ (script : Script) (workers : ℕ) (start now : Outside) (waits : List ℕ) (left : ℕ) (seen : Versions) (under : AreUnderWay script workers start now waits left seen) (few : length seen ≤ length script.flows) where
   abbrev rest_of : List FlowRun → List ℕ
@@ -77,7 +84,7 @@ module _ (script : Script) (workers : ℕ) (start now : Outside) (waits : List �
           made = λ finished. absurd finished;
           others = have.others;
         };
-    cause = tt;
+    cause = short_of_memory (flow_in_hand script seen) start now under.none;
     still = λ none. (under.none.creates, under.none.appends);
     folder_told = under.folder_told;
     stream_told = under.stream_told;
@@ -109,13 +116,14 @@ module _ (script : Script) (workers : ℕ) (start now : Outside) (waits : List �
               made = λ finished. all_made have;
               others = have.others;
             };
-        cause = ends_done (λ s. IsCauseOf (flow_in_hand script seen) s start after) (waits ++ done_line) Done status now.stream c printed
-            (λ same. record { reads = under.none.reads; creates = under.none.creates; appends = under.none.appends; writes = same ∙ under.none.writes }) tt
-            (λ rose. inl (subst (λ (n : ℕ). Rose n c.faults) under.none.writes rose));
+        cause = ends_done (λ s. IsCauseOf (flow_in_hand script seen) s start after) (waits ++ done_line) Done status now.stream c printed none
+            (λ same. short_of_memory (flow_in_hand script seen) start after (none same)) (λ rose. inl (subst (λ (n : ℕ). Rose n c.faults) under.none.writes rose));
         still = λ none. (under.none.creates, under.none.appends);
         folder_told = under.folder_told;
         stream_told = printed.told ∙ under.stream_told;
-      }
+      } where
+        none : c.faults ≡ now.stream.faults → NoneFailed start (record { folder = now.folder; stream = c })
+        none same = record { reads = under.none.reads; creates = under.none.creates; appends = under.none.appends; writes = same ∙ under.none.writes }
 
 -- the steps above a flow
 pub above_is : (script : Script) (k : ℕ) (flow : FlowLine) → slice_get script.flows k ≡ Some flow → before script k ≡ flow.before

@@ -26,11 +26,12 @@ use Rattle.call_report.specs.declared.status.Status.TheVariants.{ReadFault, Writ
 use Rattle.call_report.specs.Numbers.{write_status}
 use Rattle.call_report.specs.Report.{Versions}
 use Rattle.call_report.specs.Event.{Event}
-use Rattle.call_report.specs.Outside.{Outside}
+use Rattle.call_report.specs.Outside.{Outside, NoneFailed, NoWriteFailed}
 use Rattle.call_report.specs.Printing.{HandsOn, Printed}
 use Rattle.call_report.proofs.Law.{texts_join}
 use Rattle.flow_run.specs.declared.end.FlowEnd.{FlowEnd}
 use Rattle.flow_run.specs.declared.end.FlowEnd.TheVariants.{GoesOn, Broken, TooMany, Stopped}
+use Rattle.flow_run.specs.declared.end.FlowStop.{FlowStop}
 use Rattle.flow_run.specs.declared.end.FlowStop.TheVariants as stop
 use Rattle.flow_run.specs.Run.{FlowRun, is_judged, goes_on, run_text, run_end}
 use Rattle.flow_run.specs.Ends.{FlowEnds, IsRunOf, HasSteps}
@@ -42,7 +43,7 @@ use Rattle.script_run.specs.Ends.{IsCauseOf, InputRose, OutputRose, ScriptEnds}
 use Rattle.script_run.specs.inside.Turn.{IsTurnEnd}
 use Rattle.script_run.proofs.Handing.{way_of, printed_behind, printed_failing, printed_broken, printed_in_part, printed_more, in_parts, ends_so}
 use Rattle.script_run.proofs.Runs.{turns_text, turns_behind, pause_behind, turn_on, turn_off, not_done, event_stops, last_event_behind}
-use Rattle.script_run.proofs.Underway.{HaveRun, AreUnderWay, goes_on_so, ends_here}
+use Rattle.script_run.proofs.Underway.{HaveRun, AreUnderWay, short_of_memory, goes_on_so, ends_here}
 
 -- ---- the parts of a flow's text, and of the report up to it
 
@@ -106,6 +107,18 @@ module _
   rose_here : (c : SinkState) → Rose now.stream.faults c.faults → Rose start.stream.faults c.faults
   rose_here c rose = subst (λ (n : ℕ). Rose n c.faults) under.none.writes rose
 
+  unwritten_over : (c : SinkState) → NoWriteFailed now mid → c.faults ≡ mid.stream.faults → NoWriteFailed start (after c)
+  unwritten_over c none same = record { writes = same ∙ none.writes ∙ under.none.writes; appends = λ name. none.appends name ∙ under.none.appends name }
+
+  -- memory ran out where nothing has failed
+  short_here : (c : SinkState) → NoneFailed now mid → c.faults ≡ mid.stream.faults → IsCauseOf (Some flow) OutOfMemory start (after c)
+  short_here c none same = short_of_memory (Some flow) start (after c) (record {
+    reads = λ name. none.reads name ∙ under.none.reads name;
+    creates = λ name. none.creates name ∙ under.none.creates name;
+    appends = λ name. none.appends name ∙ under.none.appends name;
+    writes = same ∙ none.writes ∙ under.none.writes;
+  })
+
   -- ---- the replies behind it
 
   replies_of : (network : List TableState) (replies : Vec Reply Global) (ir : RunOf (GoesOn network replies)) → replies_text script.nodes script.steps flow.before (before script (k + 1) - flow.before) ≡ replies_behind script ir.run
@@ -133,7 +146,7 @@ module _
       → AreUnderWay script workers start (after c) next.report.waiting.items (left - length lists) (seen ++ lists ∷ [])
   next_begins (GoesOn network replies) c next ran ends =
       goes_on_so own script sound workers start now mid waits waits' left k seen under count flow at lists (GoesOn network replies) ran c next.report.waiting.items tt
-      (record { reads = ran.cause.0; creates = ran.cause.1; appends = ran.cause.2; writes = ends.1.counts.ok ∙ ran.cause.3 }) ends.1.told
+      (record { reads = ran.cause.reads; creates = ran.cause.creates; appends = ran.cause.appends; writes = ends.1.counts.ok ∙ ran.cause.writes }) ends.1.told
       (λ have ir. (ir.ends, way_of (turn_text script ir.run) waits next.report.waiting.items tt now.stream c (turn_handed network replies ir (Ok tt) next.report.waiting.items c ends.1)))
   next_begins (Broken fault) c next ran ends = absurd ends
   next_begins TooMany c next ran ends = absurd ends
@@ -159,8 +172,8 @@ module _
       }) where
         cause : (fault : IoFault) → HandsOn {T = Unit {0}} (replies_text script.nodes script.steps flow.before (before script (k + 1) - flow.before)) waits' still (Err fault) mid.stream c
             → IsCauseOf (Some flow) (write_status fault) start (after c)
-        cause Failed h = inl (rose_here c (subst (λ (n : ℕ). Rose n c.faults) ran.cause.3 (h.counts.cause refl)))
-        cause NoMemory h = tt
+        cause Failed h = inl (rose_here c (subst (λ (n : ℕ). Rose n c.faults) ran.cause.writes (h.counts.cause refl)))
+        cause NoMemory h = short_here c ran.cause (h.counts.still (λ failed. absurd cc))
 
         printed_cut : (ir : RunOf (GoesOn network replies)) (more : List ℕ) → Printed (waits ++ (turn_text script ir.run ++ more)) [] OutOfMemory (write_status fault) now.stream c
         printed_cut ir more =
@@ -172,7 +185,7 @@ module _
       → ScriptEnds script workers start (after c) (seen ++ lists ∷ []) status
   broken fault c status ran printed =
       ends_here own script sound workers start now mid waits waits' left k seen under count flow at lists (Broken fault) ran c WrongCapture status (λ e. tt) printed.told
-      (ends_so (λ s. IsCauseOf (Some flow) s start (after c)) waits' (capture_line (k + 1) fault) WrongCapture status mid.stream c printed refl tt (λ rose. inl (rose_over c ran.faults rose)))
+      (ends_so (λ s. IsCauseOf (Some flow) s start (after c)) waits' (capture_line (k + 1) fault) WrongCapture status mid.stream c printed refl (short_here c ran.cause) (λ rose. inl (rose_over c ran.faults rose)))
       (λ have ir.
       let event : Event = record { status = 5; line = capture_line ir.run.number fault } in
       let line : capture_line (k + 1) fault ≡ (runs_report script (have.runs ++ ir.run ∷ [])).last = ap (λ n. capture_line n fault) (sym ir.numbered) ∙ event_line script have.runs ir.run event ir.ends.0 ir.ends.1 in
@@ -187,7 +200,7 @@ module _
   too_many : (c : SinkState) (status : Status) → Ran TooMany → Printed waits' packets_limit_line Limit status mid.stream c → ScriptEnds script workers start (after c) (seen ++ lists ∷ []) status
   too_many c status ran printed =
       ends_here own script sound workers start now mid waits waits' left k seen under count flow at lists TooMany ran c Limit status (λ e. tt) printed.told
-      (ends_so (λ s. IsCauseOf (Some flow) s start (after c)) waits' packets_limit_line Limit status mid.stream c printed refl tt (λ rose. inl (rose_over c ran.faults rose)))
+      (ends_so (λ s. IsCauseOf (Some flow) s start (after c)) waits' packets_limit_line Limit status mid.stream c printed refl (short_here c ran.cause) (λ rose. inl (rose_over c ran.faults rose)))
       (λ have ir.
       let event : Event = record { status = 7; line = packets_limit_line } in
       record {
@@ -211,36 +224,45 @@ module _
   read_failed : (c : SinkState) (status : Status) → Ran (Stopped stop.Read) → Printed waits' [] ReadFault status mid.stream c → ScriptEnds script workers start (after c) (seen ++ lists ∷ []) status
   read_failed c status ran printed =
       ends_here own script sound workers start now mid waits waits' left k seen under count flow at lists (Stopped stop.Read) ran c ReadFault status (λ e. absurd e) printed.told
-      (ends_so (λ s. IsCauseOf (Some flow) s start (after c)) waits' [] ReadFault status mid.stream c printed (input_rose c ran.cause) tt (λ rose. inl (rose_over c ran.faults rose)))
+      (ends_so (λ s. IsCauseOf (Some flow) s start (after c)) waits' [] ReadFault status mid.stream c printed (input_rose c ran.cause.0) (λ same. (unwritten_over c ran.cause.1 same, inr (input_rose c ran.cause.0))) (λ rose. inl (rose_over c ran.faults rose)))
       (λ have ir. record {
         part = run_text script.nodes ir.run;
         printed = printed_behind (run_text script.nodes ir.run) waits waits' [] tt ReadFault status now.stream mid.stream c ir.printed printed;
         body = sym (pause_behind script have.runs ir.run);
-        is_due = input_rose c ran.cause;
+        is_due = input_rose c ran.cause.0;
       })
 
   create_failed : (c : SinkState) (status : Status) → Ran (Stopped stop.Create) → Printed waits' [] ReadFault status mid.stream c → ScriptEnds script workers start (after c) (seen ++ lists ∷ []) status
   create_failed c status ran printed =
+      let rose_of = create_rose c ran.cause.0 ran.cause.1 ran.cause.2 in
       ends_here own script sound workers start now mid waits waits' left k seen under count flow at lists (Stopped stop.Create) ran c ReadFault status (λ e. absurd e) printed.told
-      (ends_so (λ s. IsCauseOf (Some flow) s start (after c)) waits' [] ReadFault status mid.stream c printed (create_rose c ran.cause.0 ran.cause.1 ran.cause.2) tt (λ rose. inl (rose_over c ran.faults rose)))
+      (ends_so (λ s. IsCauseOf (Some flow) s start (after c)) waits' [] ReadFault status mid.stream c printed rose_of (λ same. (unwritten_over c ran.cause.3 same, inr rose_of)) (λ rose. inl (rose_over c ran.faults rose)))
       (λ have ir. record {
         part = run_text script.nodes ir.run;
         printed = printed_behind (run_text script.nodes ir.run) waits waits' [] tt ReadFault status now.stream mid.stream c ir.printed printed;
         body = sym (pause_behind script have.runs ir.run);
-        is_due = create_rose c ran.cause.0 ran.cause.1 ran.cause.2;
+        is_due = rose_of;
       })
 
-  append_failed : (c : SinkState) (status : Status) → Ran (Stopped stop.Append) → Printed waits' [] WriteFault status mid.stream c → ScriptEnds script workers start (after c) (seen ++ lists ∷ []) status
-  append_failed c status ran printed =
+  append_failed : (c : SinkState) (ending : Status) → Ran (Stopped stop.Append) → Printed waits' [] WriteFault ending mid.stream c → ScriptEnds script workers start (after c) (seen ++ lists ∷ []) WriteFault
+  append_failed c ending ran printed =
       let rose = output_rose c ran.cause.0 ran.cause.1 ran.cause.2 in
-      ends_here own script sound workers start now mid waits waits' left k seen under count flow at lists (Stopped stop.Append) ran c WriteFault status (λ e. absurd e) printed.told
-      (ends_so (λ s. IsCauseOf (Some flow) s start (after c)) waits' [] WriteFault status mid.stream c printed (inr rose) tt (λ more. inr rose))
+      ends_here own script sound workers start now mid waits waits' left k seen under count flow at lists (Stopped stop.Append) ran c WriteFault WriteFault (λ e. absurd e) printed.told (inr rose)
       (λ have ir. record {
         part = run_text script.nodes ir.run;
-        printed = printed_behind (run_text script.nodes ir.run) waits waits' [] tt WriteFault status now.stream mid.stream c ir.printed printed;
+        printed = (ending, refl, printed_behind (run_text script.nodes ir.run) waits waits' [] tt WriteFault ending now.stream mid.stream c ir.printed printed);
         body = sym (pause_behind script have.runs ir.run);
         is_due = rose;
       })
+
+  -- what would stand behind the packets of a flow that was stopped
+  more_of : (why : FlowStop) → HaveRun script workers start now waits seen → RunOf (Stopped why) → List ℕ
+  more_of why have ir = cond (goes_on ir.run) (run_end ir.run ++ replies_behind script ir.run) [] ++ ending script have.runs ir.run
+
+  whole_of : (why : FlowStop) (have : HaveRun script workers start now waits seen) (ir : RunOf (Stopped why))
+      → (waits ++ run_text script.nodes ir.run) ++ more_of why have ir ≡ waits ++ (turn_text script ir.run ++ ending script have.runs ir.run)
+  unfolding more_of
+  whole_of why have ir = in_parts waits (run_text script.nodes ir.run) (cond (goes_on ir.run) (run_end ir.run ++ replies_behind script ir.run) []) (ending script have.runs ir.run)
 
   -- the stream has failed, or memory
   print_failed : Ran (Stopped stop.Print) → ScriptEnds script workers start mid (seen ++ lists ∷ []) WriteFault
@@ -248,30 +270,27 @@ module _
       ends_here own script sound workers start now mid waits waits' left k seen under count flow at lists (Stopped stop.Print) ran mid.stream OutOfMemory WriteFault (λ e. absurd e) refl (inl (rose_here mid.stream ran.cause))
       (λ have ir. record {
         part = turn_text script ir.run ++ ending script have.runs ir.run;
-        printed = printed_broken (waits ++ run_text script.nodes ir.run) (more_of have ir) (waits ++ (turn_text script ir.run ++ ending script have.runs ir.run)) OutOfMemory now.stream mid.stream (whole_of have ir) ir.printed.0 ir.printed.1 ir.printed.2;
+        printed = printed_broken (waits ++ run_text script.nodes ir.run) (more_of stop.Print have ir) (waits ++ (turn_text script ir.run ++ ending script have.runs ir.run)) OutOfMemory now.stream mid.stream
+            (whole_of stop.Print have ir) ir.printed.0 ir.printed.1 ir.printed.2;
         body = body_whole script have.runs ir.run;
         is_due = tt;
-      }) where
-        more_of : HaveRun script workers start now waits seen → RunOf (Stopped stop.Print) → List ℕ
-        more_of have ir = cond (goes_on ir.run) (run_end ir.run ++ replies_behind script ir.run) [] ++ ending script have.runs ir.run
-
-        whole_of : (have : HaveRun script workers start now waits seen) (ir : RunOf (Stopped stop.Print)) → (waits ++ run_text script.nodes ir.run) ++ more_of have ir ≡ waits ++ (turn_text script ir.run ++ ending script have.runs ir.run)
-        whole_of have ir = in_parts waits (run_text script.nodes ir.run) (cond (goes_on ir.run) (run_end ir.run ++ replies_behind script ir.run) []) (ending script have.runs ir.run)
+      })
 
   memory_failed : Ran (Stopped stop.OutOfMemory) → ScriptEnds script workers start mid (seen ++ lists ∷ []) OutOfMemory
   memory_failed ran =
-      ends_here own script sound workers start now mid waits waits' left k seen under count flow at lists (Stopped stop.OutOfMemory) ran mid.stream OutOfMemory OutOfMemory (λ e. absurd e) refl tt
+      ends_here own script sound workers start now mid waits waits' left k seen under count flow at lists (Stopped stop.OutOfMemory) ran mid.stream OutOfMemory OutOfMemory (λ e. absurd e) refl cause
       (λ have ir. record {
         part = turn_text script ir.run ++ ending script have.runs ir.run;
-        printed = printed_in_part (waits ++ run_text script.nodes ir.run) (more_of have ir) (waits ++ (turn_text script ir.run ++ ending script have.runs ir.run)) OutOfMemory now.stream mid.stream (whole_of have ir) ir.printed.told ir.printed.prefix;
+        printed = printed_in_part (waits ++ run_text script.nodes ir.run) (more_of stop.OutOfMemory have ir) (waits ++ (turn_text script ir.run ++ ending script have.runs ir.run)) OutOfMemory now.stream mid.stream
+            (whole_of stop.OutOfMemory have ir) ir.printed.told ir.printed.faults ir.printed.prefix;
         body = body_whole script have.runs ir.run;
         is_due = tt;
       }) where
-        more_of : HaveRun script workers start now waits seen → RunOf (Stopped stop.OutOfMemory) → List ℕ
-        more_of have ir = cond (goes_on ir.run) (run_end ir.run ++ replies_behind script ir.run) [] ++ ending script have.runs ir.run
-
-        whole_of : (have : HaveRun script workers start now waits seen) (ir : RunOf (Stopped stop.OutOfMemory)) → (waits ++ run_text script.nodes ir.run) ++ more_of have ir ≡ waits ++ (turn_text script ir.run ++ ending script have.runs ir.run)
-        whole_of have ir = in_parts waits (run_text script.nodes ir.run) (cond (goes_on ir.run) (run_end ir.run ++ replies_behind script ir.run) []) (ending script have.runs ir.run)
+        cause : IsCauseOf (Some flow) OutOfMemory start mid
+        cause = elim ran.cause.reads [
+          | inl same ↦ short_here mid.stream (record { reads = same; creates = ran.cause.creates; appends = ran.cause.written.appends; writes = ran.cause.written.writes }) refl
+          | inr rose ↦ (unwritten_over mid.stream ran.cause.written refl, inr (input_rose mid.stream rose))
+        ]
 
   pub call_ends : (end : FlowEnd) (c : SinkState) (status : Status) → Ran end → Ends end c (Err status) → ScriptEnds script workers start (after c) (seen ++ lists ∷ []) status
   call_ends (GoesOn network replies) c status ran ends = subst (ScriptEnds script workers start (after c) (seen ++ lists ∷ [])) (sym ends.2) (replies_fail network replies c ends.1 ends.0 ran ends.3)
@@ -279,7 +298,7 @@ module _
   call_ends TooMany c status ran ends = too_many c status ran ends
   call_ends (Stopped stop.Read) c status ran ends = read_failed c status ran ends
   call_ends (Stopped stop.Create) c status ran ends = create_failed c status ran ends
-  call_ends (Stopped stop.Append) c status ran ends = append_failed c status ran ends
+  call_ends (Stopped stop.Append) c status ran ends = subst (ScriptEnds script workers start (after c) (seen ++ lists ∷ [])) (sym ends.1) (append_failed c ends.0 ran ends.2)
   call_ends (Stopped stop.Print) c status ran ends =
       subst (λ (s : SinkState). ScriptEnds script workers start (after s) (seen ++ lists ∷ []) status) (sym ends.1) (subst (ScriptEnds script workers start mid (seen ++ lists ∷ [])) (sym ends.0) (print_failed ran))
   call_ends (Stopped stop.OutOfMemory) c status ran ends =

@@ -13,6 +13,7 @@ use Rattle.label_commands.specs.Sound.{IsSoundScript}
 use Rattle.label_flow.specs.Pair.{PairState}
 use Rattle.label_flow.specs.Schedule.{AreLawful, versions_in}
 use Rattle.call_report.specs.declared.status.Status.{Status}
+use Rattle.call_report.specs.declared.status.Status.TheVariants.{Done, NoForm, WrongScript, ReadFault, WriteFault, WrongCapture, OutOfMemory, Limit}
 use Rattle.call_report.specs.Report.{Folder, Versions}
 use Rattle.call_report.specs.Event.{packets_limit}
 use Rattle.call_report.specs.Output.{Output, IsBegun, IsMade}
@@ -25,7 +26,7 @@ use Rattle.flow_run.specs.Run.{FlowRun, goes_on, run_output}
 use Rattle.flow_run.specs.Ends.{FlowEnds, IsRunOf, HasEnded}
 use Rattle.script_run.specs.Runs.{plan_of, AreRuns, IsLawfulRun}
 use Rattle.script_run.specs.Report.{first_replies, turn_text}
-use Rattle.script_run.specs.Ends.{last_of, flow_in_hand, IsCauseOf, IsDue, due_body, due_line, HasFinished, ScriptEnds}
+use Rattle.script_run.specs.Ends.{last_of, flow_in_hand, IsCauseOf, IsDue, due_body, due_line, IsPrintedSo, HasFinished, ScriptEnds}
 use Rattle.script_run.proofs.Handing.{ways_join}
 use Rattle.script_run.proofs.Names.{input_is_kept, output_is_kept}
 use Rattle.script_run.proofs.Runs.{left_after, left_behind, of_each_flow, one_more_run, all_on_behind, turns_text, turns_behind, in_hand, of_flow_in_hand, of_each_output, output_named}
@@ -62,6 +63,10 @@ pub record AreUnderWay (script : Script) (workers : ℕ) (start now : Outside) (
   pub folder_told : now.folder.tells ≡ start.folder.tells
   pub stream_told : now.stream.tells ≡ start.stream.tells
   pub runs : IsTrue start.folder.tells → HaveRun script workers start now waits seen
+
+-- memory ran out, and nothing has failed
+pub short_of_memory : (hand : Option FlowLine) (before after : Outside) → NoneFailed before after → IsCauseOf hand OutOfMemory before after
+short_of_memory hand before after none = (record { writes = none.writes; appends = none.appends }, inl none)
 
 pub none_failed : (a : Outside) → NoneFailed a a
 none_failed a = record { reads = λ name. refl; creates = λ name. refl; appends = λ name. refl; writes = refl }
@@ -123,6 +128,18 @@ module _ (script : Script) (runs : List FlowRun) where
   printed_further waits part a b c way line due status printed =
       subst (λ (t : List ℕ). Printed t line due status a c) (append_assoc (first_replies script) (turns_text script runs) part)
       (a_report_is_printed (all ++ part) (waits ++ part) a b (a_report_takes_a_text all waits a b way part) line due status c printed)
+
+  -- the same, as it is by a call that is to end so
+  pub so_further : (waits part : List ℕ) (a b c : SinkState) → IsUnderWay all waits a b → (line : List ℕ) (due status : Status) → IsPrintedSo (waits ++ part) line due status b c
+      → IsPrintedSo (first_replies script ++ (turns_text script runs ++ part)) line due status a c
+  so_further waits part a b c way line WriteFault status printed = (printed.0, printed.1, printed_further waits part a b c way line WriteFault printed.0 printed.2)
+  so_further waits part a b c way line Done status printed = printed_further waits part a b c way line Done status printed
+  so_further waits part a b c way line NoForm status printed = printed_further waits part a b c way line NoForm status printed
+  so_further waits part a b c way line WrongScript status printed = printed_further waits part a b c way line WrongScript status printed
+  so_further waits part a b c way line ReadFault status printed = printed_further waits part a b c way line ReadFault status printed
+  so_further waits part a b c way line WrongCapture status printed = printed_further waits part a b c way line WrongCapture status printed
+  so_further waits part a b c way line OutOfMemory status printed = printed_further waits part a b c way line OutOfMemory status printed
+  so_further waits part a b c way line Limit status printed = printed_further waits part a b c way line Limit status printed
 
 module _
     (own : List ℕ) (script : Script) (sound : IsSoundScript own script) (workers : ℕ) (start now mid : Outside) (waits waits' : List ℕ) (left k : ℕ) (seen : Versions)
@@ -241,7 +258,7 @@ module _
   -- how the call ends at this flow: the rest of its text, and what is due
   pub record EndsHere (have : HaveRun script workers start now waits seen) (ir : IsRunOf (plan_of script) script.nodes workers (k + 1) left (before script (k + 1)) flow now mid waits waits' lists end) (c : SinkState) (due status : Status) : Type 0 where
     pub part : List ℕ
-    pub printed : Printed (waits ++ part) (due_line script (have.runs ++ ir.run ∷ []) due) due status now.stream c
+    pub printed : IsPrintedSo (waits ++ part) (due_line script (have.runs ++ ir.run ∷ []) due) due status now.stream c
     pub body : first_replies script ++ (turns_text script have.runs ++ part) ≡ due_body script (have.runs ++ ir.run ∷ []) due
     pub is_due : IsDue script (have.runs ++ ir.run ∷ []) (Some flow) start (record { folder = mid.folder; stream = c }) due
 
@@ -260,8 +277,8 @@ module _
           are = more_runs have ir;
           lawful = more_lawful have ir;
           is_due = subst (λ (f : Option FlowLine). IsDue script (have.runs ++ ir.run ∷ []) f start (record { folder = mid.folder; stream = c }) due) (sym in_hand_here) e.is_due;
-          printed = subst (λ (t : List ℕ). Printed t (due_line script (have.runs ++ ir.run ∷ []) due) due status start.stream c) e.body
-              (printed_further script have.runs waits e.part start.stream now.stream c have.way (due_line script (have.runs ++ ir.run ∷ []) due) due status e.printed);
+          printed = subst (λ (t : List ℕ). IsPrintedSo t (due_line script (have.runs ++ ir.run ∷ []) due) due status start.stream c) e.body
+              (so_further script have.runs waits e.part start.stream now.stream c have.way (due_line script (have.runs ++ ir.run ∷ []) due) due status e.printed);
           begun = of_each_output (λ (o : Output). IsBegun o start.folder.held mid.folder.held) (have.runs ++ ir.run ∷ []) (more_begun have ir);
           made = λ finished. of_each_output (λ (o : Output). IsMade o start.folder.held mid.folder.held) (have.runs ++ ir.run ∷ []) (more_made have ir (ended finished));
           others = more_others have ir;

@@ -1,5 +1,6 @@
 -- How the flows of a script end, with what was printed, what was made, and what was left as it was.
 use Rattle.std.specs.Prelude.{ℕ, ◌≡◌, ◌≢◌, ◌≤◌, ◌⊎◌, IsTrue, IsSome, List, [], ◌∷◌, length, take, All, Option, Some, None}
+use Rattle.net_io.specs.Sink.{SinkState}
 use Rattle.net_io.specs.Faults.{Rose, SameCounts}
 use Rattle.label_commands.specs.declared.script.Script.{Script}
 use Rattle.flow_lines.specs.declared.flow.FlowLine.{FlowLine}
@@ -7,7 +8,7 @@ use Rattle.call_report.specs.declared.status.Status.{Status}
 use Rattle.call_report.specs.declared.status.Status.TheVariants.{Done, NoForm, WrongScript, ReadFault, WriteFault, WrongCapture, OutOfMemory, Limit}
 use Rattle.call_report.specs.Report.{Versions}
 use Rattle.call_report.specs.Event.{Event, packets_limit}
-use Rattle.call_report.specs.Outside.{Outside, NoneFailed}
+use Rattle.call_report.specs.Outside.{Outside, NoneFailed, NoWriteFailed}
 use Rattle.call_report.specs.Output.{IsBegun, IsMade}
 use Rattle.call_report.specs.Printing.{Printed}
 use Rattle.flow_run.specs.Run.{FlowRun}
@@ -38,7 +39,8 @@ pub record OutputRose (flow : Option FlowLine) (before after : Outside) : Type 0
   pub makes : of.output ≡ Some name
   pub rose : Rose (before.folder.appends name) (after.folder.appends name)
 
--- what moved where the call ends with this status
+-- What moved where the call ends with this status. For want of memory no write and no append has failed, and nothing else, unless memory ran out
+-- while what stands in front of a read or a making that failed was printed.
 abbrev pub IsCauseOf : Option FlowLine → Status → Outside → Outside → Type 0
 IsCauseOf flow Done before after = NoneFailed before after
 IsCauseOf flow NoForm before after = ⊥
@@ -46,7 +48,7 @@ IsCauseOf flow WrongScript before after = ⊥
 IsCauseOf flow ReadFault before after = InputRose flow before after
 IsCauseOf flow WriteFault before after = Rose before.stream.faults after.stream.faults ⊎ OutputRose flow before after
 IsCauseOf flow WrongCapture before after = IsSome flow
-IsCauseOf flow OutOfMemory before after = Unit {0}
+IsCauseOf flow OutOfMemory before after = NoWriteFailed before after × (NoneFailed before after ⊎ InputRose flow before after)
 IsCauseOf flow Limit before after = IsSome flow
 
 -- The last flow ends with this event's status.
@@ -78,6 +80,11 @@ due_line script runs WrongCapture = (runs_report script runs).last
 due_line script runs Limit = (runs_report script runs).last
 due_line script runs due = []
 
+-- how it was printed: as it is by a call that is to end so; an append that has failed came first, and its status stands however the print ends
+abbrev pub IsPrintedSo : List ℕ → List ℕ → Status → Status → SinkState → SinkState → Type 0
+IsPrintedSo body line WriteFault status before after = (ending : Status) × (status ≡ WriteFault) × Printed body line WriteFault ending before after
+IsPrintedSo body line due status before after = Printed body line due status before after
+
 -- no call of the folder failed, and memory sufficed for the flows
 abbrev pub HasFinished : Status → Type 0
 HasFinished Done = Unit {0}
@@ -91,7 +98,7 @@ pub record HasRuns (script : Script) (workers : ℕ) (before after : Outside) (s
   pub are : AreRuns (plan_of script) before.folder.held 1 packets_limit script.flows seen runs
   pub lawful : All (IsLawfulRun script workers) runs
   pub is_due : IsDue script runs (flow_in_hand script seen) before after due
-  pub printed : Printed (due_body script runs due) (due_line script runs due) due status before.stream after.stream
+  pub printed : IsPrintedSo (due_body script runs due) (due_line script runs due) due status before.stream after.stream
   pub begun : All (λ output. IsBegun output before.folder.held after.folder.held) (runs_outputs runs)
   pub made : HasFinished due → All (λ output. IsMade output before.folder.held after.folder.held) (runs_outputs runs)
   pub others : (name : List ℕ) → All (λ run. run.flow.output ≢ Some name) runs → after.folder.held name ≡ before.folder.held name

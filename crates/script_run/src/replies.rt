@@ -2,10 +2,9 @@
 
 ghost use Rattle.std.specs.Prelude.{◌≡◌, ◌+◌, ◌<◌, ◌≤◌, All, Some, length, OnOk};
 ghost use Rattle.command_forms.specs.declared.command.Step.{Step as StepValue};
-ghost use Rattle.node_tables.specs.declared.reply.Reply.{Reply as ReplyValue};
-ghost use Rattle.node_tables.specs.Steps.{step_applied, step_reply, tables_after};
+ghost use Rattle.node_tables.specs.Steps.{reply_at, tables_after};
 ghost use Rattle.label_flow.specs.Round.{AreReplies};
-ghost use Rattle.reply_lines.specs.Reply.{name_at, reply_text, replies_text};
+ghost use Rattle.reply_lines.specs.Reply.{reply_line_at, reply_text, replies_text};
 ghost use Rattle.call_report.specs.Printing.{HandsOn};
 
 use call_report::{OutOfMemory, Report};
@@ -31,31 +30,31 @@ pub fn answer_steps<S: Sink>(
 {
     let mut done = 0;
     while done < upto {
-        answer_step(done as u64 + 1, names, &steps[done], network, report, out)?;
+        answer_step(names, steps, done, network, report, out)?;
         done += 1;
     }
     Ok(())
 }
 
-/// Carries out the step of this number and hands on its reply.
+/// Carries out the step at this place and hands on its reply.
 fn answer_step<S: Sink>(
-    number: u64,
     names: &[Name],
-    step: &Step,
+    steps: &[Step],
+    place: usize,
     network: &mut Network,
     report: &mut Report,
     out: &mut S,
 ) -> Result<(), IoFault>
-    requires node { step.now.node < length network.old }
-    requires named { length network.old ≡ length names.now }
-    ensures replied { (reply : ReplyValue) × (step_reply network.old step.now ≡ Some reply)
-        × HandsOn (reply_text number (name_at names.now step.now.node) reply) report.old.waiting.items report.new.waiting.items result (S.state out.old) (S.state out.new) }
-    ensures applied { OnOk result (network.new ≡ step_applied network.old step.now) }
+    requires nodes { All (λ (step : StepValue). step.node < length names.now) steps.now }
+    requires within { place < length steps.now }
+    requires tables { network.old ≡ tables_after (length names.now) steps.now place }
+    ensures replied { HandsOn (reply_line_at names.now steps.now place) report.old.waiting.items report.new.waiting.items result (S.state out.old) (S.state out.new) }
+    ensures applied { OnOk result (network.new ≡ tables_after (length names.now) steps.now (place + 1)) }
 {
-    let Ok(reply) = network.apply(step) else {
+    let Ok(reply) = network.apply(&steps[place]) else {
         return Err(IoFault::OutOfMemory);
     };
-    hand_on(number, &names[step.node], &reply, report, out)
+    hand_on_at(names, steps, place, &reply, report, out)
 }
 
 /// Hands on the replies that were given to the steps behind the first `from`.
@@ -74,13 +73,29 @@ pub(crate) fn hand_on_replies<S: Sink>(
 {
     let mut done = 0;
     while done < replies.len() {
-        let number = (from + done) as u64 + 1;
-        let step = &steps[from + done];
-        let name = &names[step.node];
-        hand_on(number, name, &replies[done], report, out)?;
+        hand_on_at(names, steps, from + done, &replies[done], report, out)?;
         done += 1;
     }
     Ok(())
+}
+
+/// Hands on the reply that was given to the step at this place.
+fn hand_on_at<S: Sink>(
+    names: &[Name],
+    steps: &[Step],
+    place: usize,
+    reply: &Reply,
+    report: &mut Report,
+    out: &mut S,
+) -> Result<(), IoFault>
+    requires nodes { All (λ (step : StepValue). step.node < length names.now) steps.now }
+    requires within { place < length steps.now }
+    requires given { reply_at (length names.now) steps.now place ≡ Some reply.now }
+    ensures { HandsOn (reply_line_at names.now steps.now place) report.old.waiting.items report.new.waiting.items result (S.state out.old) (S.state out.new) }
+{
+    let step = &steps[place];
+    let name = &names[step.node];
+    hand_on(place as u64 + 1, name, reply, report, out)
 }
 
 /// Adds a reply to what waits, and hands this on where it is a piece.

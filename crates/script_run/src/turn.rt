@@ -82,7 +82,11 @@ fn end_stopped<S: Sink>(why: FlowStop, report: Report, out: &mut S) -> Status
     match why {
         FlowStop::Read => report.end(out, b"", Status::ReadFault),
         FlowStop::Create => report.end(out, b"", Status::ReadFault),
-        FlowStop::Append => report.end(out, b"", Status::WriteFault),
+        FlowStop::Append => {
+            // The append came first.
+            let _ending = report.end(out, b"", Status::WriteFault);
+            Status::WriteFault
+        }
         FlowStop::Print => Status::WriteFault,
         FlowStop::OutOfMemory => Status::OutOfMemory,
     }

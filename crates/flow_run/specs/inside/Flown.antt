@@ -17,6 +17,7 @@ use Rattle.label_flow.specs.Walked.{AreWalked}
 use Rattle.label_flow.specs.Schedule.{AreLawful, versions_in}
 use Rattle.report_lines.specs.Flow.{flow_end_line}
 use Rattle.call_report.specs.Outside.{Outside}
+use Rattle.flow_run.specs.declared.end.FlowPlace.{FlowPlace}
 use Rattle.flow_run.specs.declared.end.FlowEnd.{FlowEnd}
 use Rattle.flow_run.specs.declared.end.FlowEnd.TheVariants.{GoesOn, Broken, TooMany, Stopped}
 use Rattle.flow_run.specs.declared.end.FlowStop.{FlowStop}
@@ -24,7 +25,9 @@ use Rattle.flow_run.specs.declared.end.FlowStop.TheVariants as the_stop
 use Rattle.flow_run.specs.declared.source.Source.{Source}
 use Rattle.flow_run.specs.declared.source.Behind.{Behind}
 use Rattle.flow_run.specs.declared.source.Behind.TheVariants as the_behind
+use Rattle.flow_run.specs.Place.{plan_at}
 use Rattle.flow_run.specs.Ends.{HasEnded, HasSteps}
+use Rattle.flow_run.specs.inside.Output.{IsThere}
 use Rattle.flow_run.specs.inside.Source.{IsFed, packets_left, file_of}
 use Rattle.flow_run.specs.inside.Taken.{Moment, HasTaken}
 
@@ -38,14 +41,20 @@ pub record IsFresh (input : List ℕ) (most : ℕ) (source : Source) : Type 0 wh
   pub heads : source.heads.items ≡ []
   pub at : source.at ≡ 0
 
--- the numbers of makings that have failed
+-- a flow's input was begun, and its output is there
+pub record IsPrepared (place : FlowPlace) (flow : FlowLine) (source : Source) (folder : DepotState) : Type 0 where
+  pub fresh : IsFresh flow.input place.most source
+  pub fed : IsFed folder source
+  pub there : IsThere flow.output folder
+
+-- the numbers of failed makings: none has moved, unless it stopped for that
 abbrev pub CreatesMove : Option FlowStop → Option (List ℕ) → (List ℕ → ℕ) → (List ℕ → ℕ) → Type 0
 CreatesMove None output old new = SameCounts old new
 CreatesMove (Some the_stop.Read) output old new = ⊥
 CreatesMove (Some the_stop.Create) output old new = (name : List ℕ) × (output ≡ Some name) × Rose (old name) (new name)
 CreatesMove (Some the_stop.Append) output old new = ⊥
 CreatesMove (Some the_stop.Print) output old new = ⊥
-CreatesMove (Some the_stop.OutOfMemory) output old new = Unit {0}
+CreatesMove (Some the_stop.OutOfMemory) output old new = SameCounts old new
 
 -- An output was made, if there is one; or it holds what it held.
 pub record HasCreated (stop : Option FlowStop) (output : Option (List ℕ)) (old new : DepotState) : Type 0 where
@@ -144,3 +153,7 @@ pub record HasFlown (plan : PlanState) (names : List (List ℕ)) (workers number
   pub walked : AreWalked plan flow.hops packets pairs
   pub lawful : AreLawful plan flow.hops workers flow.before upto packets (versions_in pairs)
   pub steps : HasSteps plan flow.before upto end
+
+-- the same of a flow at its place
+abbrev pub HasFlownAt : FlowPlace → FlowLine → Moment → Outside → List ℕ → List (List ℕ) → FlowEnd → Type 0
+HasFlownAt place flow was after waits seen end = HasFlown (plan_at place) place.names.now place.workers place.number place.upto flow was after waits seen end

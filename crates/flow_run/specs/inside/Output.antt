@@ -1,5 +1,5 @@
 -- What is appended to the output of a flow.
-use Rattle.std.specs.Prelude.{ℕ, ◌≡◌, ◌≢◌, ◌≤◌, IsTrue, List, [], ◌++◌, if◌then◌else◌, Option, Some, None}
+use Rattle.std.specs.Prelude.{ℕ, ◌≡◌, ◌≢◌, IsTrue, List, [], ◌++◌, if◌then◌else◌, Option, Some, None}
 use Rattle.net_io.specs.Depot.{DepotState}
 use Rattle.net_io.specs.Faults.{Rose, SameCounts}
 use Rattle.pcap_frames.specs.declared.record.FrameHead.{FrameHead}
@@ -23,14 +23,14 @@ pub record IsAppended (stop : Option FlowStop) (octets waits : List ℕ) (before
 abbrev pub IsThere : Option (List ℕ) → DepotState → Type 0
 IsThere output folder = IsTrue folder.tells → (name : List ℕ) → output ≡ Some name → (octets : List ℕ) × (folder.held name ≡ Some octets)
 
--- the number of appends that have failed: none more, unless it stopped for that
+-- the numbers of failed appends: none has moved, unless it stopped for that
 abbrev pub AppendsMove : Option FlowStop → Option (List ℕ) → (List ℕ → ℕ) → (List ℕ → ℕ) → Type 0
 AppendsMove None output old new = SameCounts old new
 AppendsMove (Some the_stop.Read) output old new = ⊥
 AppendsMove (Some the_stop.Create) output old new = ⊥
 AppendsMove (Some the_stop.Append) output old new = (name : List ℕ) × (output ≡ Some name) × Rose (old name) (new name)
 AppendsMove (Some the_stop.Print) output old new = ⊥
-AppendsMove (Some the_stop.OutOfMemory) output old new = Unit {0}
+AppendsMove (Some the_stop.OutOfMemory) output old new = SameCounts old new
 
 -- Octets were added behind what waits for an output, and appended but for what waits now, up to this stop.
 pub record HasAppended (stop : Option FlowStop) (output : Option (List ℕ)) (octets waits waits' : List ℕ) (old new : DepotState) : Type 0 where

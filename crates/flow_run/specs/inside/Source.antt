@@ -101,14 +101,14 @@ pub record HasGot (tells : Bool) (file : List ℕ) (old new : Source) (batch bat
   pub short : All (λ packet. length packet.bytes ≤ 262144) (map (packet_in old.frames.header.link) frames)
   pub left : IsTrue tells → frames_left old file ≡ frames ++ frames_left new file
 
--- the number of reads that have failed: one more where one did; in front of a fault of the capture, and where memory ran out, it isn't told
+-- the numbers of failed reads: that of this name rose where one has failed, and else none has moved
 abbrev pub ReadsMove : Option Behind → List ℕ → (List ℕ → ℕ) → (List ℕ → ℕ) → Type 0
 ReadsMove None name old new = SameCounts old new
 ReadsMove (Some Whole) name old new = SameCounts old new
-ReadsMove (Some (Broken fault)) name old new = Unit {0}
+ReadsMove (Some (Broken fault)) name old new = SameCounts old new
 ReadsMove (Some TooMany) name old new = SameCounts old new
 ReadsMove (Some Failed) name old new = Rose (old name) (new name)
-ReadsMove (Some NoMemory) name old new = Unit {0}
+ReadsMove (Some NoMemory) name old new = SameCounts old new
 
 -- A folder was only read, up to this.
 pub record HasOnlyRead (behind : Option Behind) (name : List ℕ) (old new : DepotState) : Type 0 where

@@ -1,5 +1,5 @@
 -- What a flow has done since a moment: the lines that it printed, what it appended to its output, what it keeps of both, and what has failed.
-use Rattle.std.specs.Prelude.{ℕ, zero, suc, ◌≡◌, ◌≢◌, ◌≤◌, ◌⊎◌, ◌+◌, IsTrue, List, [], ◌∷◌, ◌++◌, length, drop, map, if◌then◌else◌, Option, Some, None, Result, Ok, Err}
+use Rattle.std.specs.Prelude.{ℕ, ◌≡◌, ◌≢◌, ◌≤◌, ◌⊎◌, ◌+◌, IsTrue, List, [], ◌∷◌, ◌++◌, length, drop, if◌then◌else◌, Option, Some, None, Result, Ok, Err}
 use Rattle.net_io.specs.Depot.{DepotState}
 use Rattle.net_io.specs.Sink.{SinkState}
 use Rattle.net_io.specs.Faults.{Rose, SameCounts}
@@ -11,7 +11,7 @@ use Rattle.pcap_frames.specs.Record.{Frame}
 use Rattle.pcap_frames.specs.Written.{frames_octets}
 use Rattle.label_flow.specs.Pair.{PairState}
 use Rattle.label_flow.specs.Schedule.{versions_in}
-use Rattle.call_report.specs.Outside.{Outside}
+use Rattle.call_report.specs.Outside.{Outside, NoWriteFailed}
 use Rattle.call_report.specs.Printing.{Breaks, HandsOn}
 use Rattle.flow_run.specs.declared.end.FlowStop.{FlowStop}
 use Rattle.flow_run.specs.declared.end.FlowStop.TheVariants as the_stop
@@ -43,6 +43,10 @@ abbrev pub moment_at : DepotState → SinkState → List ℕ → List ℕ → Li
 moment_at folder stream lines octets seen passed denied source stop =
     record { folder = folder; stream = stream; lines = lines; octets = octets; seen = seen; passed = passed; denied = denied; source = source; stop = stop }
 
+-- in front of its first packet
+abbrev pub first_moment : DepotState → SinkState → List ℕ → List ℕ → Source → Moment
+first_moment folder stream lines octets source = moment_at folder stream lines octets [] 0 0 source None
+
 -- the stop where a write was refused
 abbrev pub print_stop : IoFault → FlowStop
 print_stop io.Failed = the_stop.Print
@@ -71,14 +75,14 @@ kept_by (head ∷ heads) [] = []
 kept_by (head ∷ heads) (pair ∷ pairs) =
     if is_denied pair.walked.end then kept_by heads pairs else record { head = head; octets = pair.octets } ∷ kept_by heads pairs
 
--- the numbers of failed appends and prints: none more where nothing stopped it, and one where that did
+-- the numbers of failed appends and prints: none has moved, unless it stopped for that
 abbrev pub IsMoved : FlowLine → Option FlowStop → Outside → Outside → Type 0
-IsMoved flow None before after = SameCounts before.folder.appends after.folder.appends × (after.stream.faults ≡ before.stream.faults)
-IsMoved flow (Some the_stop.Read) before after = Unit {0}
+IsMoved flow None before after = NoWriteFailed before after
+IsMoved flow (Some the_stop.Read) before after = NoWriteFailed before after
 IsMoved flow (Some the_stop.Create) before after = ⊥
 IsMoved flow (Some the_stop.Append) before after = (name : List ℕ) × (flow.output ≡ Some name) × Rose (before.folder.appends name) (after.folder.appends name)
 IsMoved flow (Some the_stop.Print) before after = Rose before.stream.faults after.stream.faults
-IsMoved flow (Some the_stop.OutOfMemory) before after = Unit {0}
+IsMoved flow (Some the_stop.OutOfMemory) before after = NoWriteFailed before after
 
 abbrev pub outside_of : Moment → Outside
 outside_of moment = record { folder = moment.folder; stream = moment.stream }

@@ -32,6 +32,11 @@ abbrev pub HasPrinted : List ℕ → List ℕ → Status → SinkState → SinkS
 HasPrinted waits last due a b (Ok next) = ⊥
 HasPrinted waits last due a b (Err status) = Printed waits last due status a b
 
+-- the same with this status, however the print ends
+abbrev pub HasKept : List ℕ → Status → SinkState → SinkState → Result Next Status → Type 0
+HasKept waits due a b (Ok next) = ⊥
+HasKept waits due a b (Err status) = (ending : Status) × (status ≡ due) × Printed waits [] due ending a b
+
 -- nothing more is printed
 abbrev pub HasCeased : Status → SinkState → SinkState → Result Next Status → Type 0
 HasCeased due a b (Ok next) = ⊥
@@ -44,7 +49,7 @@ IsTurnEnd names steps number from upto (Broken fault) waits a b result = HasPrin
 IsTurnEnd names steps number from upto TooMany waits a b result = HasPrinted waits packets_limit_line Limit a b result
 IsTurnEnd names steps number from upto (Stopped stop.Read) waits a b result = HasPrinted waits [] ReadFault a b result
 IsTurnEnd names steps number from upto (Stopped stop.Create) waits a b result = HasPrinted waits [] ReadFault a b result
-IsTurnEnd names steps number from upto (Stopped stop.Append) waits a b result = HasPrinted waits [] WriteFault a b result
+IsTurnEnd names steps number from upto (Stopped stop.Append) waits a b result = HasKept waits WriteFault a b result
 IsTurnEnd names steps number from upto (Stopped stop.Print) waits a b result = HasCeased WriteFault a b result
 IsTurnEnd names steps number from upto (Stopped stop.OutOfMemory) waits a b result = HasCeased OutOfMemory a b result
 

@@ -1,4 +1,4 @@
-use Rattle.std.proofs.Common.{refl, ap, Err}
+use Rattle.std.proofs.Common.{refl}
 use Rattle.net_io.specs.declared.fault.IoFault.TheVariants as io
 use Rattle.flow_run.specs.declared.end.FlowStop.TheVariants as the_stop
 use Rattle.flow_run.proofs.Outputs.{there_is, append_fails}
@@ -15,4 +15,4 @@ returns-in-Err-Failed-clause-appended g c =
 pub returns-in-Err-OutOfMemory-clause-appended : goal.returns-in-Err-OutOfMemory-clause-appended
 returns-in-Err-OutOfMemory-clause-appended g c =
     let clauses = rw (c.in-Err-OutOfMemory.field-0-is, c.text.ensures.text, c.as_slice.ensures.value) at c.in-Err-OutOfMemory.ensures in
-    append_fails the_stop.OutOfMemory io.OutOfMemory c.args.name.now c.args.octets.now.items _ _ _ c.requires clauses.err clauses.frame tt
+    append_fails the_stop.OutOfMemory io.OutOfMemory c.args.name.now c.args.octets.now.items _ _ _ c.requires clauses.err clauses.frame (clauses.frame.appends.still (λ failed. absurd cc))

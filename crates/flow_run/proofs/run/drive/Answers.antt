@@ -1,7 +1,5 @@
-use Rattle.std.proofs.Common.{refl, [], sym, ap, Some, None}
-use Rattle.flow_run.specs.declared.end.FlowStop.TheVariants as the_stop
+use Rattle.std.proofs.Common.{refl, [], None}
 use Rattle.flow_run.proofs.Steps.{taken_begins, taken_at, taken_out}
-use Rattle.label_flow.specs.Stops.{IsStop}
 use Rattle.flow_run.proofs.run.drive.Goals as goal
 
 pub returns-in-Ok-clause-same : goal.returns-in-Ok-clause-same

@@ -1,4 +1,4 @@
-use Rattle.std.proofs.Common.{refl, ap, None, Some}
+use Rattle.std.proofs.Common.{refl, ap, None}
 use Rattle.flow_run.specs.inside.Taken.{stop_in}
 use Rattle.flow_run.proofs.Steps.{taken_at, taken_ends, taken_appended}
 use Rattle.flow_run.proofs.run.finish.Goals as goal

@@ -5,7 +5,7 @@ use Rattle.flow_run.proofs.Ending.{read_of, ends_lineless, ends_unbegun}
 use Rattle.flow_run.proofs.run.run_flow.Goals as goal
 
 pub returns-in_default : goal.returns-in_default
-returns-in_default g c = rw c.new-none.ensures (ends_lineless _ _ _ _ _ _ _ _ _ _ _ c.requires.upto.0 refl refl)
+returns-in_default g c = rw c.new-none.ensures (ends_lineless _ _ _ _ _ _ _ _ _ _ _ c.requires.stands.beside.0 refl refl)
 
 pub returns-in-Ok-begin_source : goal.returns-in-Ok-begin_source
 returns-in-Ok-begin_source g c =
@@ -19,4 +19,4 @@ pub returns-in-Err : goal.returns-in-Err
 returns-in-Err g c =
     let clauses = c.in-Err.ensures in
     rw (c.new-none.ensures, c.end_at.ensures)
-    (ends_unbegun _ _ _ _ _ _ c.args.flow.now _ _ _ _ (λ (s : Source). s.frames.header) c.in-Err.stop c.requires.upto.0 (rw c.from.ensures at c.in-Ok.ensures) refl clauses.answer clauses.present clauses.frame)
+    (ends_unbegun _ _ _ _ _ _ c.args.flow.now _ _ _ _ (λ (s : Source). s.frames.header) c.in-Err.stop c.requires.stands.beside.0 (rw c.from.ensures at c.in-Ok.ensures) refl clauses.answer clauses.present clauses.frame)

@@ -1,10 +1,7 @@
-use Rattle.std.proofs.Common.{rules, length, refl, sym, ap, subst, ◌∙◌, ◌≡◌, Some, None, [], List, ℕ}
-use Rattle.call_report.specs.declared.report.Report.{Report}
-use Rattle.label_flow.specs.Feed.{AreWhole}
+use Rattle.std.proofs.Common.{rules, length, refl, sym, ap, ◌∙◌, Some, None, []}
 use Rattle.shared_tables.specs.Plan.{PlanState}
-use Rattle.flow_run.specs.inside.Source.{packets_left, file_of}
-use Rattle.flow_run.specs.inside.Taken.{Moment, moment_at, HasTaken}
-use Rattle.flow_run.specs.inside.Flown.{WaitsFor, stop_of, HasFlown}
+use Rattle.flow_run.specs.inside.Taken.{Moment, moment_at}
+use Rattle.flow_run.specs.inside.Flown.{stop_of, HasFlown}
 use Rattle.flow_run.proofs.Flown.{round_walked, round_lawful, ok_of, steps_flown, flown_at}
 use Rattle.flow_run.proofs.run.run_on.Given.{Over}
 use Rattle.flow_run.proofs.run.run_on.Goals as goal
@@ -23,7 +20,8 @@ built g c =
     moment_at (g.D.Depot.state c.finish-end.new.depot) (g.S.Sink.state c.finish-end.new._out) feed.report.now.waiting.items c.finish-end.new.octets.items feed.seen feed.passed feed.denied feed.source
     (stop_of c.finish-end.result) in
     let taken = rw (c.new.ensures, c.from-number.ensures) at (ended.ran c.args.place.now.names.now _ ran.1 ran.4) in
-    let seats = rw (sym c.as_mut_slice-seats.ensures.value) at c.requires.viewers in
+    let seats = rw (sym c.as_mut_slice-seats.ensures.value) at c.requires.board.seats in
+    let count = rw (sym c.as_mut_slice-seats.ensures.value) at c.requires.board.count in
     record {
       now = now;
       packets = ran.0;
@@ -36,12 +34,12 @@ built g c =
       waits_are = rw c.from-number.ensures at ended.waits;
       whole = ended.whole;
       behind = ended.behind;
-      fed = ended.fed driven.fed (λ is. c.requires.apart (is ∙ ap Some (taken.source.name ∙ c.requires.fresh.name)));
+      fed = ended.fed driven.fed (λ is. c.requires.stands.apart (is ∙ ap Some (taken.source.name ∙ c.requires.prepared.fresh.name)));
       begun = ran.3;
       all = λ done. ok_of _ c.drive-driven.result (ended.done done) ran.5;
-      walked = round_walked plan _ _ _ _ _ _ _ _ _ seats.1 seats.0 c.requires.workers.0 c.requires.upto.1 c.requires.upto.0 ran.2;
-      lawful = round_lawful plan _ _ _ _ _ _ _ _ _ seats.1 seats.0 c.requires.workers.0 c.requires.upto.1 c.requires.upto.0 ran.2;
-      steps = steps_flown plan _ _ c.finish-end.result c.drive-driven.result c.close-network.result c.args.board.0 c.drive-driven.new.publisher ended.done ended.gives driven.replies c.close-network.ensures driven.publisher.0 c.requires.publisher.0 c.requires.publisher.1;
+      walked = round_walked plan _ _ _ _ _ _ _ _ _ seats count c.requires.stands.workers.0 c.requires.stands.beside.1 c.requires.stands.beside.0 ran.2;
+      lawful = round_lawful plan _ _ _ _ _ _ _ _ _ seats count c.requires.stands.workers.0 c.requires.stands.beside.1 c.requires.stands.beside.0 ran.2;
+      steps = steps_flown plan _ _ c.finish-end.result c.drive-driven.result c.close-network.result c.args.board.0 c.drive-driven.new.publisher ended.done ended.gives driven.replies c.close-network.ensures driven.publisher.0 c.requires.board.plan c.requires.board.version;
     }
 
 pub returns : goal.returns

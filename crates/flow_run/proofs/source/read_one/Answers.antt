@@ -1,10 +1,11 @@
-use Rattle.std.proofs.Common.{rules, refl, sym, ap, ◌∙◌, ◌++◌, ◌∷◌, [], arith}
+use Rattle.std.proofs.Common.{rules, refl, ap, ◌∙◌, ◌++◌, ◌∷◌, [], arith}
 use Rattle.pcap_frames.specs.declared.header.CaptureHeader.{CaptureHeader}
-use Rattle.pcap_frames.specs.declared.record.FrameHead.{FrameHead}
 use Rattle.pcap_frames.specs.Record.{Frame}
 use Rattle.packet_walk.specs.declared.packet.PacketIn.{PacketIn}
+use Rattle.pcap_frames.specs.declared.fault.FrameStop.TheVariants.{Capture, OutOfMemory}
+use Rattle.flow_run.specs.declared.source.Behind.TheVariants.{Broken, NoMemory}
 use Rattle.flow_run.specs.Input.{packet_in}
-use Rattle.flow_run.proofs.Reading.{got_nothing, got_stays, got_full, got_goes, amid_stays, amid_goes, ends_whole, ends_broken, ends_full}
+use Rattle.flow_run.proofs.Reading.{got_nothing, got_stays, got_full, got_goes, amid_stays, amid_goes, ends_whole, ends_broken, ends_full, only_refused}
 use Rattle.flow_run.proofs.source.read_one.Goals as goal
 
 pub returns-then-not-has_room-clause-got : goal.returns-then-not-has_room-clause-got
@@ -65,6 +66,11 @@ returns-in-Err-Capture-clause-got g c =
     let clauses = rw c.in-Err-Capture.field-0-is at c.in-Err-Capture.ensures in
     got_stays _ _ _ _ _ _ (record { name = clauses.name; header = clauses.header; most = refl }) room.heads refl room.batch clauses.stands refl
 
+pub returns-in-Err-Capture-clause-reads : goal.returns-in-Err-Capture-clause-reads
+returns-in-Err-Capture-clause-reads g c =
+    let clauses = rw c.in-Err-Capture.field-0-is at c.in-Err-Capture.ensures in
+    only_refused (Broken c.in-Err-Capture.fault) (Capture c.in-Err-Capture.fault) _ _ _ (λ is. absurd cc) (λ same. same) clauses.frame
+
 pub returns-in-Err-ReadFault-clause-stands : goal.returns-in-Err-ReadFault-clause-stands
 returns-in-Err-ReadFault-clause-stands g c told =
     let clauses = rw c.in-Err-ReadFault.field-0-is at c.in-Err-ReadFault.ensures in
@@ -86,3 +92,8 @@ returns-clause-got g c =
     let room = c.has_room.ensures in
     let clauses = rw c.in-Err-OutOfMemory.field-0-is at c.in-Err-OutOfMemory.ensures in
     got_stays _ _ _ _ _ _ (record { name = clauses.name; header = clauses.header; most = refl }) room.heads refl room.batch clauses.stands refl
+
+pub returns-clause-reads : goal.returns-clause-reads
+returns-clause-reads g c =
+    let clauses = rw c.in-Err-OutOfMemory.field-0-is at c.in-Err-OutOfMemory.ensures in
+    only_refused NoMemory OutOfMemory _ _ _ (λ is. absurd cc) (λ same. same) clauses.frame

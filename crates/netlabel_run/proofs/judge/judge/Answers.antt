@@ -20,7 +20,7 @@ returns-in-Err-TooLong g c =
     let printed = rw (c.new.ensures, c.packet_limit.ensures) at c.end.ensures in
     ends_printed (Some (Judge c.args.doi c.args.level.now file)) before after (reading_stage file ∷ [])
     (knows_judge c.args.doi c.args.level.now file before after (only_read _ _ file before.folder after.folder c.in-Err-TooLong.ensures.frame) printed.told)
-    Limit [] packet_limit_line (limit_due c.args.doi c.args.level.now file before (clauses.too_long refl)) c.end.result (λ e. absurd (omega (arith, e))) printed
+    Limit [] packet_limit_line (limit_due c.args.doi c.args.level.now file before (clauses.too_long refl)) c.end.result (clauses.frame.reads.still (λ failed. absurd cc)) printed
 
 pub returns-in-Err-Failed : goal.returns-in-Err-Failed
 returns-in-Err-Failed g c =
@@ -38,8 +38,9 @@ returns-in-Err-OutOfMemory g c =
     let file = c.args.file.now in
     let before : Outside = record { folder = g.D.Depot.state c.args.depot.now; stream = g.S.Sink.state c.args.out.now } in
     let after : Outside = record { folder = g.D.Depot.state c.read_whole.new.depot; stream = g.S.Sink.state c.args.out.now } in
+    let clauses = rw c.in-Err-OutOfMemory.field-0-is at c.in-Err-OutOfMemory.ensures in
     ends_unprinted (Some (Judge c.args.doi c.args.level.now file)) before after (reading_stage file ∷ [])
-    (knows_judge c.args.doi c.args.level.now file before after (only_read _ _ file before.folder after.folder c.in-Err-OutOfMemory.ensures.frame) refl) refl
+    (knows_judge c.args.doi c.args.level.now file before after (only_read _ _ file before.folder after.folder c.in-Err-OutOfMemory.ensures.frame) refl) (clauses.frame.reads.still (λ failed. absurd cc)) refl
 
 pub returns-in-Ok-verdict_report : goal.returns-in-Ok-verdict_report
 returns-in-Ok-verdict_report g c =
@@ -53,7 +54,7 @@ returns-in-Ok-verdict_report g c =
     ends_printed (Some (Judge c.args.doi c.args.level.now file)) before after (reading_stage file ∷ [])
     (knows_judge c.args.doi c.args.level.now file before after (only_read _ _ file before.folder after.folder c.in-Ok.ensures.frame) printed.told)
     Done (verdict_line found.0) [] (verdict_due c.args.doi c.args.level.now file before octets found.0 c.in-Ok.ensures.whole short (rw c.deref.ensures.value at found.1))
-    c.end-in-Ok-verdict_report.result (λ e. c.in-Ok.ensures.frame.reads.ok) printed
+    c.end-in-Ok-verdict_report.result c.in-Ok.ensures.frame.reads.ok printed
 
 pub returns : goal.returns
 returns g c =
@@ -61,4 +62,4 @@ returns g c =
     let before : Outside = record { folder = g.D.Depot.state c.args.depot.now; stream = g.S.Sink.state c.args.out.now } in
     let after : Outside = record { folder = g.D.Depot.state c.read_whole.new.depot; stream = g.S.Sink.state c.args.out.now } in
     ends_unprinted (Some (Judge c.args.doi c.args.level.now file)) before after (reading_stage file ∷ [])
-    (knows_judge c.args.doi c.args.level.now file before after (only_read _ _ file before.folder after.folder c.in-Ok.ensures.frame) refl) refl
+    (knows_judge c.args.doi c.args.level.now file before after (only_read _ _ file before.folder after.folder c.in-Ok.ensures.frame) refl) c.in-Ok.ensures.frame.reads.ok refl

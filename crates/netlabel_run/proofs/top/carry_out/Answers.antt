@@ -12,4 +12,4 @@ returns-in-None g c =
     let after : Outside = record { folder = g.D.Depot.state c.args.depot.now; stream = g.S.Sink.state c.print_usage.new.out } in
     rw (c.in-None.is, c.without_flows-in-None.ensures.status, c.without_flows-in-None.ensures.seen)
     (ends_printed None before after [] (knows_usage before after refl c.print_usage.ensures.told) NoForm [] usage_line (usage_due before)
-    c.print_usage.result (λ e. λ name. refl) c.print_usage.ensures)
+    c.print_usage.result (λ name. refl) c.print_usage.ensures)

@@ -36,29 +36,28 @@ returns-then-is_err g c = λ start way.
     rw (c.of.ensures, c.reserve.ensures.items)
     (ends_between script c.args.workers first now c.loop-done.next.report.waiting.items c.loop-done.left c.loop-done.seen.items (inv.runs start way) (omega (arith, inv.count, inv.within)))
 
-pub run_flow-lists-requires-clause-step_nodes : goal.run_flow-lists-requires-clause-step_nodes
-run_flow-lists-requires-clause-step_nodes g c = λ κs lives. rw (c.place_of-place.ensures.names, c.place_of-place.ensures.steps) c.requires.sound.1.step_nodes
-
 pub end_turn-requires-clause-nodes : goal.end_turn-requires-clause-nodes
 end_turn-requires-clause-nodes g c = rw (c.place_of-place.ensures.names, c.place_of-place.ensures.steps) c.requires.sound.1.step_nodes
 
-pub run_flow-lists-requires-clause-hop_nodes : goal.run_flow-lists-requires-clause-hop_nodes
-run_flow-lists-requires-clause-hop_nodes g c =
+pub run_flow-lists-requires-clause-stands : goal.run_flow-lists-requires-clause-stands
+run_flow-lists-requires-clause-stands g c =
     let script = c.args.script.now in
     let k = c.loop-done.done in
     let flow = c.index-flows-done.result in
     let at : slice_get script.flows k ≡ Some flow = at_lent script.flows c.as_slice-flows.result.now k flow c.as_slice-flows.ensures c.loop-done-test.true c.index-flows-done.is in
-    λ κs lives. rw c.place_of-place.ensures.names (at_place (λ (f : FlowLine). All (λ (hop : Hop). node_of hop < length script.nodes) f.hops) script.flows k flow c.requires.sound.1.hop_nodes at)
-
-pub run_flow-lists-requires-clause-upto : goal.run_flow-lists-requires-clause-upto
-run_flow-lists-requires-clause-upto g c =
-    let script = c.args.script.now in
-    let k = c.loop-done.done in
-    let flow = c.index-flows-done.result in
-    let at : slice_get script.flows k ≡ Some flow = at_lent script.flows c.as_slice-flows.result.now k flow c.as_slice-flows.ensures c.loop-done-test.true c.index-flows-done.is in
-    let order = c.requires.sound.1.order k in
+    let place = c.place_of-place.ensures in
+    let sound = c.requires.sound.1 in
+    let order = sound.order k in
     let above = above_is script k flow at in
-    λ κs lives. rw (c.place_of-place.ensures.steps, c.place_of-place.ensures.upto) (omega (arith, order.0, above), order.1)
+    λ κs lives. record {
+      workers = rw place.workers c.requires.workers;
+      nodes = rw place.names (omega (arith, sound.nodes));
+      steps = rw place.steps (omega (arith, sound.steps));
+      step_nodes = rw (place.names, place.steps) sound.step_nodes;
+      hop_nodes = rw place.names (at_place (λ (f : FlowLine). All (λ (hop : Hop). node_of hop < length script.nodes) f.hops) script.flows k flow sound.hop_nodes at);
+      beside = rw (place.steps, place.upto) (omega (arith, order.0, above), order.1);
+      apart = λ same. input_is_kept c.requires.sound.0 script.flows sound.apart k k flow flow at at same;
+    }
 
 pub run_flow-lists-requires-clause-network : goal.run_flow-lists-requires-clause-network
 run_flow-lists-requires-clause-network g c =
@@ -67,14 +66,6 @@ run_flow-lists-requires-clause-network g c =
     let flow = c.index-flows-done.result in
     let at : slice_get script.flows k ≡ Some flow = at_lent script.flows c.as_slice-flows.result.now k flow c.as_slice-flows.ensures c.loop-done-test.true c.index-flows-done.is in
     λ κs lives. rw (c.place_of-place.ensures.names, c.place_of-place.ensures.steps) (rw (above_is script k flow at) at c.loop-done.invariant.tables)
-
-pub run_flow-lists-requires-clause-apart : goal.run_flow-lists-requires-clause-apart
-run_flow-lists-requires-clause-apart g c =
-    let script = c.args.script.now in
-    let k = c.loop-done.done in
-    let flow = c.index-flows-done.result in
-    let at : slice_get script.flows k ≡ Some flow = at_lent script.flows c.as_slice-flows.result.now k flow c.as_slice-flows.ensures c.loop-done-test.true c.index-flows-done.is in
-    λ κs lives same. input_is_kept c.requires.sound.0 script.flows c.requires.sound.1.apart k k flow flow at at same
 
 pub returns-in-Err : goal.returns-in-Err
 returns-in-Err g c = λ start way.

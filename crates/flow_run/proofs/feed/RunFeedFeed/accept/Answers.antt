@@ -1,7 +1,5 @@
-use Rattle.std.proofs.Common.{rules, None, refl, inl, inr, ap, Some, ◌∙◌, sym, ◌+◌, ◌++◌, ◌∷◌, drop, map, arith}
-use Rattle.pcap_frames.specs.Record.{Frame}
+use Rattle.std.proofs.Common.{rules, None, refl, inl, inr, ap, Some, arith}
 use Rattle.flow_run.specs.Run.{is_denied}
-use Rattle.flow_run.specs.inside.Source.{frames_left}
 use Rattle.flow_run.proofs.Steps.{taken_unkept, taken_more, ready_handed, head_first}
 use Rattle.flow_run.proofs.feed.RunFeedFeed.accept.Goals as goal
 

@@ -1,0 +1,13 @@
+-- The board of a flow.
+use Rattle.std.specs.Prelude.{◌≡◌, List, length, All}
+use Rattle.flow_lines.specs.declared.flow.FlowLine.{FlowLine}
+use Rattle.shared_tables.specs.Board.{PublisherState, ViewerState}
+use Rattle.flow_run.specs.declared.end.FlowPlace.{FlowPlace}
+use Rattle.flow_run.specs.Place.{plan_beside}
+
+-- A board is open for a flow, at the version in front of it: the steps that are still to be made are those beside the flow, and each worker has a viewer.
+pub record IsOpenFor (place : FlowPlace) (flow : FlowLine) (publisher : PublisherState) (viewers : List ViewerState) : Type 0 where
+  pub plan : publisher.plan ≡ plan_beside place
+  pub version : publisher.version ≡ flow.before
+  pub count : length viewers ≡ place.workers
+  pub seats : All (λ viewer. viewer ≡ record { board = publisher.board; plan = plan_beside place; seen = flow.before }) viewers
