@@ -1,5 +1,5 @@
 -- Where a flow stands in its script, and what the call that carries it out needs of that.
-use Rattle.std.specs.Prelude.{◌≢◌, ◌<◌, ◌≤◌, ◌^◌, List, length, take, All, Some}
+use Rattle.std.specs.Prelude.{◌≢◌, ◌<◌, ◌≤◌, ◌^◌, List, length, All, Some}
 use Rattle.flow_lines.specs.declared.flow.FlowLine.{FlowLine}
 use Rattle.flow_lines.specs.Hop.{node_of}
 use Rattle.node_tables.specs.Tables.{TableState}
@@ -21,10 +21,6 @@ pub record StandsAt (place : FlowPlace) (flow : FlowLine) : Type 0 where
 -- all steps of the script, on its nodes
 abbrev pub plan_at : FlowPlace → PlanState
 plan_at place = record { nodes = length place.names.now; steps = place.steps.now }
-
--- those up to the next flow
-abbrev pub plan_beside : FlowPlace → PlanState
-plan_beside place = record { nodes = length place.names.now; steps = take place.upto place.steps.now }
 
 -- the nodes' tables in front of a flow
 abbrev pub tables_at : FlowPlace → FlowLine → List TableState
