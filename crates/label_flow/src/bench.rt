@@ -7,6 +7,7 @@ ghost use Rattle.label_flow.specs.Pair.{PairState};
 ghost use Rattle.label_flow.specs.Round.{IsLater};
 
 use crate::pair::PairSlot;
+use crossbeam_utils::CachePadded;
 use flow_lines::FlowLine;
 use mls_label::OutOfMemory;
 use packet_walk::{Gate, PacketIn, WalkRoom};
@@ -21,6 +22,8 @@ pub struct Bench {
     room: WalkRoom,
     places: Vec<PairSlot>,
     filled: usize,
+    // Each packet writes here: so no other worker's bench stands on the same line of a cache.
+    _apart: CachePadded<()>,
 }
 
 impl Model for Bench {
@@ -43,6 +46,7 @@ impl Bench {
             room: WalkRoom::new(alloc),
             places: Vec::new(alloc),
             filled: 0,
+            _apart: CachePadded::new(()),
         }
     }
 

@@ -1,5 +1,5 @@
 -- A walk under given versions ends in one way, and knows no more of a plan than its steps up to them.
-use Rattle.std.proofs.Common.{◌≡◌, ℕ, suc, ◌+◌, ◌≤◌, Bool, true, false, List, [], ◌∷◌, length, take, arith, MatchBool, Result, Ok, Err, refl, sym, ap, ◌∙◌, subst, All}
+use Rattle.std.proofs.Common.{◌≡◌, ℕ, suc, ◌+◌, ◌≤◌, Bool, true, false, List, [], ◌∷◌, take, arith, MatchBool, Result, Ok, Err, sym, ◌∙◌, subst, All}
 use Rattle.ip_headers.specs.Packet.{ParsedPacket}
 use Rattle.ip_headers.specs.Written.{packet_octets, hides_payload}
 use Rattle.packet_label.specs.declared.denial.Denial.{Denial}

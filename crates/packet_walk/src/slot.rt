@@ -2,8 +2,7 @@
 
 ghost use Rattle.std.specs.Prelude.{◌≡◌, []};
 ghost use Rattle.packet_label.specs.declared.denial.Denial.TheVariants.{NotIp};
-ghost use Rattle.packet_walk.specs.declared.walked.End.TheVariants.{Denied};
-ghost use Rattle.packet_walk.specs.inside.Slot.{ended};
+ghost use Rattle.packet_walk.specs.declared.walked.End.TheVariants.{Sent, Denied};
 
 use crate::walked::{End, Versions, Walked};
 use address_text::Address;
@@ -11,7 +10,7 @@ use mls_label::Label;
 use packet_label::{Carrier, Denial};
 use std::marker::Model;
 
-/// How a walk ended, but for the label.
+/// What is told of how a walk ended, but for the label of a packet that was delivered.
 #[derive(Clone, Copy, Debug, PartialEq, Eq)]
 pub enum EndMark {
     Delivered { receiver: Address },
@@ -19,22 +18,24 @@ pub enum EndMark {
     Denied { hop: u32, denial: Denial },
 }
 
-/// What became of a packet, in a place that is filled again for the next one: its label stands beside how the walk ended, so that
-/// 8 kB needn't be moved. Contracts see it as a `Walked`.
+/// What became of a packet, in a place that is filled again for the next one. It always has room for a delivery, so that no label is
+/// moved: a packet that was delivered stands there as it is shown, and any other end beside it. Contracts see it as a `Walked`.
 #[derive(Drop)]
 pub struct WalkedSlot {
     pub(crate) mark: EndMark,
-    pub(crate) label: Label,
-    pub(crate) versions: Versions,
+    pub(crate) delivery: Walked,
 }
 
 impl Model for WalkedSlot {
+    ghost use Rattle.std.specs.Prelude.{◌≡◌, true};
     ghost use Rattle.packet_walk.specs.declared.walked.Walked.{Walked};
-    ghost use Rattle.packet_walk.specs.inside.Slot.{ended};
+    ghost use Rattle.packet_walk.specs.inside.Slot.{end_shown, is_delivery};
 
     ghost Value = { Walked };
 
-    ghost view = { λ slot. record { end = ended slot.mark slot.label; versions = slot.versions } };
+    ghost view = { λ slot. record { end = end_shown slot.mark slot.delivery.end; versions = slot.delivery.versions } };
+
+    ghost invariant = { λ slot. is_delivery slot.delivery.end ≡ true };
 }
 
 impl WalkedSlot {
@@ -47,82 +48,38 @@ impl WalkedSlot {
                 hop: 0,
                 denial: Denial::NotIp,
             },
-            label: Label::lowest(),
-            versions: Versions::empty(),
+            delivery: Walked {
+                end: End::Delivered {
+                    label: Label::lowest(),
+                    receiver: Address::V4([0; 4]),
+                },
+                versions: Versions::empty(),
+            },
         }
-    }
-
-    /// Makes what became of a packet equal to what stands here. Where the walk ended in the same way as the one that stood there, no
-    /// label is moved.
-    pub fn assign_to(&self, walked: &mut Walked)
-        ensures { walked.new ≡ self.now }
-    {
-        walked.versions.assign(&self.versions);
-        assign_end(self.mark, &self.label, &mut walked.end);
     }
 
     /// What became of the packet, which moves the label.
     pub fn into_walked(self) -> Walked
         ensures { result ≡ self }
     {
-        let WalkedSlot {
-            mark,
-            label,
-            versions,
-        } = self;
-        let end = match mark {
-            EndMark::Delivered { receiver } => End::Delivered { label, receiver },
-            EndMark::Sent { carrier } => End::Sent { carrier },
-            EndMark::Denied { hop, denial } => End::Denied { hop, denial },
-        };
-        Walked { end, versions }
-    }
-}
-
-fn assign_end(mark: EndMark, label: &Label, end: &mut End)
-    ensures { end.new ≡ ended mark label.now }
-{
-    match mark {
-        EndMark::Delivered { receiver } => {
-            if let End::Delivered {
-                label: old,
-                receiver: address,
-            } = end
-            {
-                old.assign(label);
-                *address = receiver;
-            } else {
-                let label = label.copy();
-                *end = End::Delivered { label, receiver };
-            }
-        }
-        EndMark::Sent { carrier } => {
-            if let End::Sent { carrier: old } = end {
-                *old = carrier;
-            } else {
-                *end = End::Sent { carrier };
-            }
-        }
-        EndMark::Denied { hop, denial } => {
-            if let End::Denied {
-                hop: number,
-                denial: old,
-            } = end
-            {
-                *number = hop;
-                *old = denial;
-            } else {
-                *end = End::Denied { hop, denial };
-            }
+        let WalkedSlot { mark, delivery } = self;
+        match mark {
+            EndMark::Delivered { .. } => delivery,
+            EndMark::Sent { carrier } => Walked {
+                end: End::Sent { carrier },
+                versions: delivery.versions,
+            },
+            EndMark::Denied { hop, denial } => Walked {
+                end: End::Denied { hop, denial },
+                versions: delivery.versions,
+            },
         }
     }
 }
 
-/// Three places in which what became of packets is shown one after another, one for each way in which a walk ends: so no label is
-/// moved.
+/// Two places in which what became of packets is shown one after another where they weren't delivered, one for each of the other ends.
 #[derive(Drop)]
 pub struct ShownWalks {
-    delivered: Walked,
     sent: Walked,
     denied: Walked,
 }
@@ -131,29 +88,53 @@ impl ShownWalks {
     /// Places with any walk.
     pub fn new() -> ShownWalks {
         ShownWalks {
-            delivered: WalkedSlot::new().into_walked(),
             sent: WalkedSlot::new().into_walked(),
             denied: WalkedSlot::new().into_walked(),
         }
     }
 
     /// What became of the packet.
-    pub fn show(&mut self, slot: &WalkedSlot) -> &Walked
+    pub fn show<'a>(&'a mut self, slot: &'a WalkedSlot) -> &'a Walked
         ensures { result.now ≡ slot.now }
     {
         match slot.mark {
-            EndMark::Delivered { .. } => {
-                slot.assign_to(&mut self.delivered);
-                &self.delivered
-            }
-            EndMark::Sent { .. } => {
-                slot.assign_to(&mut self.sent);
+            EndMark::Delivered { .. } => &slot.delivery,
+            EndMark::Sent { carrier } => {
+                self.sent.versions.assign(&slot.delivery.versions);
+                be_sent(carrier, &mut self.sent.end);
                 &self.sent
             }
-            EndMark::Denied { .. } => {
-                slot.assign_to(&mut self.denied);
+            EndMark::Denied { hop, denial } => {
+                self.denied.versions.assign(&slot.delivery.versions);
+                be_denied(hop, denial, &mut self.denied.end);
                 &self.denied
             }
         }
+    }
+}
+
+// The room of an end is a label's: it is written as a whole only where it held another end.
+fn be_sent(carrier: Carrier, end: &mut End)
+    ensures { end.new ≡ Sent carrier }
+{
+    if let End::Sent { carrier: old } = end {
+        *old = carrier;
+    } else {
+        *end = End::Sent { carrier };
+    }
+}
+
+fn be_denied(hop: u32, denial: Denial, end: &mut End)
+    ensures { end.new ≡ Denied hop denial }
+{
+    if let End::Denied {
+        hop: number,
+        denial: old,
+    } = end
+    {
+        *number = hop;
+        *old = denial;
+    } else {
+        *end = End::Denied { hop, denial };
     }
 }

@@ -3,7 +3,6 @@
 ghost use Rattle.std.specs.Prelude.{◌≡◌, ◌<◌, [], ◌∷◌, ◌++◌, length};
 
 use address_text::Address;
-use arrayvec::ArrayVec;
 use mls_label::Label;
 use packet_label::{Carrier, Denial};
 use std::marker::Model;
@@ -22,15 +21,18 @@ pub enum End {
 /// The versions of the hops that judged a packet, at most 16. Contracts see them as a list.
 #[derive(Debug, Drop)]
 pub struct Versions {
-    list: ArrayVec<u32, 16>,
+    places: [u32; 16],
+    count: usize,
 }
 
 impl Model for Versions {
-    ghost use Rattle.std.specs.Prelude.{List, ℕ};
+    ghost use Rattle.std.specs.Prelude.{List, ℕ, ◌≤◌, take};
 
     ghost Value = { List ℕ };
 
-    ghost view = { λ v. v.list.items };
+    ghost view = { λ v. take v.count v.places };
+
+    ghost invariant = { λ v. v.count ≤ 16 };
 }
 
 /// What became of a packet: how its walk ended, and under which versions its hops judged it, in their order.
@@ -46,7 +48,8 @@ impl Versions {
         ensures { result ≡ [] }
     {
         Versions {
-            list: ArrayVec::new(),
+            places: [0; 16],
+            count: 0,
         }
     }
 
@@ -54,30 +57,28 @@ impl Versions {
     pub fn as_slice(&self) -> &[u32]
         ensures { result.now ≡ self.now }
     {
-        self.list.as_slice()
+        &self.places[..self.count]
     }
 
     /// Becomes the other versions.
     pub fn assign(&mut self, from: &Versions)
         ensures { self.new ≡ from.now }
     {
-        self.list.clear();
-        match self.list.try_extend_from_slice(from.list.as_slice()) {
-            Ok(()) => {}
-            Err(_) => unreachable!(),
-        }
+        self.places = from.places;
+        self.count = from.count;
     }
 
     pub(crate) fn clear(&mut self)
         ensures { self.new ≡ [] }
     {
-        self.list.clear();
+        self.count = 0;
     }
 
     pub(crate) fn push(&mut self, version: u32)
         requires { length self.old < 16 }
         ensures { self.new ≡ self.old ++ version ∷ [] }
     {
-        self.list.push(version);
+        self.places[self.count] = version;
+        self.count += 1;
     }
 }

@@ -2,6 +2,7 @@
 
 ghost use Rattle.std.specs.Prelude.{◌≡◌, ◌+◌, ◌<◌, ◌≤◌, [], length, All, IfOk, OnOk, OnErr};
 ghost use Rattle.flow_lines.specs.Hop.{node_of};
+ghost use Rattle.packet_label.specs.declared.denial.Carrier.TheVariants.{Unlabelled};
 ghost use Rattle.packet_walk.specs.inside.Slot.{ended};
 ghost use Rattle.packet_walk.specs.Walk.{IsWalked};
 ghost use Rattle.packet_walk.specs.inside.Way.{HasWalked};
@@ -12,7 +13,7 @@ use crate::look::judge_at;
 use crate::packet::PacketIn;
 use crate::room::WalkRoom;
 use crate::slot::{EndMark, WalkedSlot};
-use crate::walked::{Versions, Walked};
+use crate::walked::{End, Versions, Walked};
 use flow_lines::{FlowLine, Hop};
 use mls_label::{Label, OutOfMemory};
 use packet_label::{Carrier, Denial};
@@ -75,7 +76,7 @@ pub fn walk_into<G: Gate>(
     ensures err { OnErr result (out.new.items ≡ []) }
 {
     out.clear();
-    walked.versions.clear();
+    walked.delivery.versions.clear();
     if !packet.is_ip {
         walked.mark = EndMark::Denied {
             hop: 0,
@@ -87,8 +88,44 @@ pub fn walk_into<G: Gate>(
         out.clear();
         return Err(OutOfMemory);
     }
-    let hops = flow.hops.hops();
-    match walk_hops(
+    let ended = walk_in_place(
+        viewer,
+        flow.hops.hops(),
+        worker,
+        number,
+        room,
+        walked,
+        out,
+        gate,
+    );
+    if ended.is_err() {
+        out.clear();
+    }
+    ended
+}
+
+// A walk from its first hop on, in a place that has no version yet.
+fn walk_in_place<G: Gate>(
+    viewer: &mut Viewer,
+    hops: &[Hop],
+    worker: u32,
+    number: u64,
+    room: &mut WalkRoom,
+    walked: &mut WalkedSlot,
+    out: &mut Vec<u8>,
+    gate: &G,
+) -> Result<(), OutOfMemory>
+    requires nodes { All (λ hop. node_of hop < viewer.old.plan.nodes) hops.now }
+    requires few { length hops.now ≤ 16 }
+    requires fresh { walked.old.versions ≡ [] }
+    ensures ok { OnOk result (HasWalked viewer.old.plan 1 hops.now Unlabelled out.old.items viewer.old.seen viewer.new.seen [] walked.new.versions walked.new.end out.new.items) }
+    ensures kept { (viewer.new.board ≡ viewer.old.board) × (viewer.new.plan ≡ viewer.old.plan) }
+    ensures seen { viewer.old.seen ≤ viewer.new.seen }
+{
+    let End::Delivered { label, receiver } = &mut walked.delivery.end else {
+        unreachable!();
+    };
+    walk_hops(
         viewer,
         hops,
         1,
@@ -96,23 +133,19 @@ pub fn walk_into<G: Gate>(
         worker,
         number,
         room,
-        &mut walked.label,
-        &mut walked.versions,
+        &mut walked.mark,
+        label,
+        &mut walked.delivery.versions,
         out,
         gate,
-    ) {
-        Ok(mark) => {
-            walked.mark = mark;
-            Ok(())
-        }
-        Err(refused) => {
-            out.clear();
-            Err(refused)
-        }
+    )?;
+    if let EndMark::Delivered { receiver: to } = walked.mark {
+        *receiver = to;
     }
+    Ok(())
 }
 
-// The hops from hop k on. `out` has the packet as it comes to them, and then as it leaves.
+// The hops from hop k on. `out` has the packet as it comes to them, and then as it leaves. What is told of the end is written in its place at once.
 fn walk_hops<G: Gate>(
     viewer: &mut Viewer,
     hops: &[Hop],
@@ -121,20 +154,22 @@ fn walk_hops<G: Gate>(
     worker: u32,
     number: u64,
     room: &mut WalkRoom,
+    mark: &mut EndMark,
     label: &mut Label,
     versions: &mut Versions,
     out: &mut Vec<u8>,
     gate: &G,
-) -> Result<EndMark, OutOfMemory>
+) -> Result<(), OutOfMemory>
     requires nodes { All (λ hop. node_of hop < viewer.old.plan.nodes) hops.now }
     requires few { length versions.old + length hops.now ≤ 16 }
     requires number { k + length hops.now ≤ 17 }
-    ensures ok { IfOk result (λ mark. HasWalked viewer.old.plan k hops.now carrier out.old.items viewer.old.seen viewer.new.seen versions.old versions.new (ended mark label.new) out.new.items) }
+    ensures ok { OnOk result (HasWalked viewer.old.plan k hops.now carrier out.old.items viewer.old.seen viewer.new.seen versions.old versions.new (ended mark.new label.new) out.new.items) }
     ensures kept { (viewer.new.board ≡ viewer.old.board) × (viewer.new.plan ≡ viewer.old.plan) }
     ensures seen { viewer.old.seen ≤ viewer.new.seen }
 {
     let [hop, behind @ ..] = hops else {
-        return Ok(EndMark::Sent { carrier });
+        *mark = EndMark::Sent { carrier };
+        return Ok(());
     };
     gate.before_look(worker, number, k);
     let given = judge_at(viewer, hop, room, label, out)?;
@@ -148,13 +183,20 @@ fn walk_hops<G: Gate>(
             worker,
             number,
             room,
+            mark,
             label,
             versions,
             out,
             gate,
         ),
-        Given::Arrives { receiver } => Ok(EndMark::Delivered { receiver }),
-        Given::Denied { denial } => Ok(EndMark::Denied { hop: k, denial }),
+        Given::Arrives { receiver } => {
+            *mark = EndMark::Delivered { receiver };
+            Ok(())
+        }
+        Given::Denied { denial } => {
+            *mark = EndMark::Denied { hop: k, denial };
+            Ok(())
+        }
         Given::OutOfMemory => Err(OutOfMemory),
     }
 }

@@ -9,6 +9,7 @@ use crate::note::Note;
 use crate::rule::{Rule, Sees, View};
 use crate::state::State;
 use core::mem;
+use crossbeam_utils::CachePadded;
 use left_right::reader::Reader;
 use mls_label::OutOfMemory;
 use node_tables::Network;
@@ -19,6 +20,8 @@ use std::marker::Model;
 pub struct Viewer {
     reader: Reader<State, View, Rule>,
     seen: u32,
+    // Each look writes here: so no other viewer of a list stands on the same line of a cache.
+    _apart: CachePadded<()>,
 }
 
 impl Model for Viewer {
@@ -39,7 +42,11 @@ impl Viewer {
         requires { (view reader.place).knows ≡ true }
         ensures { result ≡ record { board = board_name; plan = (view reader.place).plan; seen = seen } }
     {
-        Viewer { reader, seen }
+        Viewer {
+            reader,
+            seen,
+            _apart: CachePadded::new(()),
+        }
     }
 
     /// Calls `f` once on one published version, which isn't below any that was seen or learned, and gives what `f` gave. It waits for
