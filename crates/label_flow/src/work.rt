@@ -68,19 +68,6 @@ fn alone<G: Gate>(
     work(flow, gate, turn, batch, &mut viewers[0], &mut benches[0])
 }
 
-// How many of several workers go on here, while the others begin in a thread of their own. A few are begun one after another, since a thread
-// that begins another one has to wake up first.
-fn in_front(workers: usize) -> usize
-    requires { 1 < workers }
-    ensures { (0 < result) × (result < workers) }
-{
-    if workers <= 8 {
-        workers - 1
-    } else {
-        workers / 2
-    }
-}
-
 /// The workers from `turn.worker` on, one for each viewer and its bench, beside each other.
 #[cycle(halves)]
 pub fn spread<G: Gate + Sync, R: Threads + Sync>(
@@ -104,7 +91,7 @@ pub fn spread<G: Gate + Sync, R: Threads + Sync>(
     if viewers.len() == 1 {
         return alone(flow, gate, turn, batch, viewers, benches);
     }
-    let middle = in_front(viewers.len());
+    let middle = viewers.len() / 2;
     let (front, back) = viewers.split_at_mut(middle);
     let (front_benches, back_benches) = benches.split_at_mut(middle);
     let later = Turn {
