@@ -33,11 +33,12 @@ def copied(folder, commit=None):
     return folder
 
 
-def built(folder, source, uses):
-    """Adds the program with this text, which uses these crates, proves and builds it, and answers where it lies."""
+def built(folder, source, uses, proofs=None):
+    """Adds the program with this text and these proof files, which uses these crates, proves and builds it, and answers where it lies."""
     crate = folder / "crates" / CRATE
-    (crate / "src").mkdir(parents=True)
-    (crate / "src/main.rt").write_text(source)
+    for name, text in {"src/main.rt": source, **{f"proofs/{name}": text for name, text in (proofs or {}).items()}}.items():
+        (crate / name).parent.mkdir(parents=True, exist_ok=True)
+        (crate / name).write_text(text)
     with (folder / "crates.txt").open("a") as crates:
         crates.write(f"{CRATE}: {uses}\n")
     run = subprocess.run(["rt", "run", "--", "--nothing"], cwd=crate, capture_output=True, text=True, stdin=subprocess.DEVNULL)
