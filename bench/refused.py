@@ -134,7 +134,8 @@ impl Feed for Numbered {
 
 impl Numbered {
     fn is_right(&self, walked: &Walked, packet: &[u8]) -> bool {
-        let is_behind = matches!(walked.versions.as_slice(), [version] if *version >= FIRST);
+        let versions = walked.versions.as_slice();
+        let is_behind = !versions.is_empty() && versions.iter().all(|version| *version >= FIRST);
         let is_whole = packet.last() == Some(&((self.taken % 256) as u8)) && packet.len() == 40;
         match &walked.end {
             End::Denied { hop, .. } => is_behind && packet.is_empty() && is_broken(self.taken) && *hop == 1,
@@ -254,7 +255,7 @@ fn name(found: Option<Found>) -> &'static str {
 }
 
 fn main(rt: HostRuntime) -> io::Result<()> {
-    let first = rounded(&rt, rt.alloc(), "in out receive:r,eth0", true);
+    let first = rounded(&rt, rt.alloc(), "in out forward:r,eth0,eth1,any receive:r,eth1", true);
     let second = rounded(&rt, rt.alloc(), "in out forward:r,eth0,eth1,any", false);
     println!(rt; "{}, {}", name(first), name(second))
 }
