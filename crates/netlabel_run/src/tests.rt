@@ -66,6 +66,20 @@ fn run<R: Abort + Threads + Wait + Sync>(
     )
 }
 
+/// Whether the call ends with this status and has printed this text, where the write of this number fails (0: none).
+fn answers<R: Abort + Threads + Wait + Sync>(
+    rt: &R,
+    alloc: Global,
+    line: &str,
+    depot: &mut MemoryDepot,
+    write: u32,
+    status: u8,
+    text: &[u8],
+) -> bool {
+    let (got, printed) = run(rt, alloc, line, depot, write);
+    got == status && printed.as_slice() == text
+}
+
 /// Words of each form over a folder with one packet in `p.bin`, the status, and what is printed.
 const FORMS: [(&str, u8, &str); 11] = [
     ("judge 16 s2:c0.c5 p.bin", 0, "delivered s2:c1,c3\n"),
@@ -109,14 +123,12 @@ fn answers_words(rt: HostRuntime) {
     let alloc = rt.alloc();
     let mut depot = folder(&rt, alloc, 0, 4096, "p.bin", &PACKET);
     for (line, status, text) in FORMS {
-        let (got, printed) = run(&rt, alloc, line, &mut depot, 0);
-        assert_eq!(rt; got, status, "at {line}");
-        assert_eq!(rt; printed.as_slice(), text.as_bytes(), "at {line}");
+        let is_so = answers(&rt, alloc, line, &mut depot, 0, status, text.as_bytes());
+        assert!(rt; is_so, "at {line}");
     }
     for line in NO_FORMS {
-        let (got, printed) = run(&rt, alloc, line, &mut depot, 0);
-        assert_eq!(rt; got, 1, "at {line}");
-        assert_eq!(rt; printed.as_slice(), USAGE.as_bytes(), "at {line}");
+        let is_so = answers(&rt, alloc, line, &mut depot, 0, 1, USAGE.as_bytes());
+        assert!(rt; is_so, "at {line}");
     }
 }
 
@@ -125,30 +137,39 @@ fn zeros(rt: &impl Abort, alloc: Global, count: usize) -> Vec<u8> {
     vec![in alloc; 0u8; count].expect(rt, "there is memory")
 }
 
+/// Whether `judge` answers a file of so many zeros with this status and text, where the write of this number fails (0: none).
+fn judges_zeros<R: Abort + Threads + Wait + Sync>(
+    rt: &R,
+    alloc: Global,
+    count: usize,
+    write: u32,
+    status: u8,
+    text: &[u8],
+) -> bool {
+    let octets = zeros(rt, alloc, count);
+    let mut depot = folder(rt, alloc, 0, 4096, "p.bin", &octets);
+    answers(
+        rt,
+        alloc,
+        "judge 16 s2 p.bin",
+        &mut depot,
+        write,
+        status,
+        text,
+    )
+}
+
 #[test]
 fn judges_files_of_each_length(rt: HostRuntime) {
     let alloc = rt.alloc();
-    let line = "judge 16 s2 p.bin";
-    for (count, status, text) in [
-        (0, 0, "denied 1 BadHeader octet 0\n"),
-        (65575, 0, "denied 1 BadHeader octet 0\n"),
-        (65576, 7, "limit packet 65575\n"),
-    ] {
-        let octets = zeros(&rt, alloc, count);
-        let mut depot = folder(&rt, alloc, 0, 4096, "p.bin", &octets);
-        let (got, printed) = run(&rt, alloc, line, &mut depot, 0);
-        assert_eq!(rt; got, status);
-        assert_eq!(rt; printed.as_slice(), text.as_bytes());
-    }
+    let header = b"denied 1 BadHeader octet 0\n";
+    assert!(rt; judges_zeros(&rt, alloc, 0, 0, 0, header));
+    assert!(rt; judges_zeros(&rt, alloc, 65575, 0, 0, header));
+    assert!(rt; judges_zeros(&rt, alloc, 65576, 0, 7, b"limit packet 65575\n"));
     // An event that came first keeps its status when printing it fails.
-    let octets = zeros(&rt, alloc, 65576);
-    let mut depot = folder(&rt, alloc, 0, 4096, "p.bin", &octets);
-    let (got, printed) = run(&rt, alloc, line, &mut depot, 1);
-    assert_eq!(rt; got, 7);
-    assert_eq!(rt; printed.len(), 0);
-    let (got, printed) = run(&rt, alloc, "judge", &mut depot, 1);
-    assert_eq!(rt; got, 1);
-    assert_eq!(rt; printed.len(), 0);
+    assert!(rt; judges_zeros(&rt, alloc, 65576, 1, 7, b""));
+    let mut depot = folder(&rt, alloc, 0, 4096, "p.bin", &PACKET);
+    assert!(rt; answers(&rt, alloc, "judge", &mut depot, 1, 1, b""));
 }
 
 /// Which read and which write fails (0: none), the status, and what is printed. Reads and writes are counted apart. The packet is read by
@@ -166,8 +187,8 @@ fn tells_failed_calls(rt: HostRuntime) {
     let alloc = rt.alloc();
     for (read, write, status, text) in FAILURES {
         let mut depot = folder(&rt, alloc, read, 2, "p.bin", &PACKET);
-        let (got, printed) = run(&rt, alloc, "judge 16 s2:c0.c5 p.bin", &mut depot, write);
-        assert_eq!(rt; got, status, "at read {read}, write {write}");
-        assert_eq!(rt; printed.as_slice(), text.as_bytes());
+        let line = "judge 16 s2:c0.c5 p.bin";
+        let is_so = answers(&rt, alloc, line, &mut depot, write, status, text.as_bytes());
+        assert!(rt; is_so, "at read {read}, write {write}");
     }
 }

@@ -2,7 +2,7 @@
 //! fail. The octets are made by hand from the libpcap file format.
 
 use super::packets::{LABELLED_4, LABELLED_6, PLAIN_4, TWICE_4};
-use super::{folder, run};
+use super::{answers, folder};
 use std::alloc::{AllocError, Global};
 use std::process::Abort;
 use std::sync::Wait;
@@ -101,36 +101,43 @@ fn capture(
     Ok((file, report))
 }
 
-/// The status and the report of `show` on this file.
-fn show<R: Abort + Threads + Wait + Sync>(
+/// Whether `show` on this file ends with this status and prints this report.
+fn shows<R: Abort + Threads + Wait + Sync>(
     rt: &R,
     alloc: Global,
     file: &[u8],
     piece: usize,
-) -> (u8, Vec<u8>) {
+    status: u8,
+    report: &[u8],
+) -> bool {
     let mut depot = folder(rt, alloc, 0, piece, "c.pcap", file);
-    run(rt, alloc, "show c.pcap", &mut depot, 0)
+    answers(rt, alloc, "show c.pcap", &mut depot, 0, status, report)
+}
+
+/// Whether frames of this link type are shown, in a capture with this order of octets and this unit of time.
+fn shows_frames<R: Abort + Threads + Wait + Sync>(
+    rt: &R,
+    alloc: Global,
+    little: bool,
+    nanos: bool,
+    link: u32,
+) -> bool {
+    let cases = if link == 1 {
+        ETHERNET.as_slice()
+    } else {
+        RAW.as_slice()
+    };
+    let (file, report) = capture(alloc, little, nanos, link, cases).expect(rt, "there is memory");
+    shows(rt, alloc, &file, 4096, 0, report.as_str().as_bytes())
 }
 
 #[test]
 fn shows_frames_of_each_link_type(rt: HostRuntime) {
     let alloc = rt.alloc();
-    for (little, nanos) in [(true, false), (true, true), (false, false), (false, true)] {
-        for link in [1, 101, 228, 229] {
-            let cases = if link == 1 {
-                ETHERNET.as_slice()
-            } else {
-                RAW.as_slice()
-            };
-            let (file, report) = capture(alloc, little, nanos, link, cases).expect(
-                &rt,
-                "there is memory",
-            );
-            let (status, printed) = show(&rt, alloc, &file, 4096);
-            assert_eq!(rt; status, 0, "of link type {link}");
-            assert_eq!(rt;
-                printed.as_slice(),
-                report.as_str().as_bytes(),
+    for link in [1, 101, 228, 229] {
+        for (little, nanos) in [(true, false), (true, true), (false, false), (false, true)] {
+            assert!(rt;
+                shows_frames(&rt, alloc, little, nanos, link),
                 "of link type {link}"
             );
         }
@@ -146,6 +153,26 @@ const THREE: [Case; 3] = [
 
 const LINES: &str = "packet 1 unlbl\npacket 2 unlbl\npacket 3 unlbl\n";
 
+/// The report of so many octets of that capture, and the status.
+fn cut_report(alloc: Global, octets: usize) -> Result<(u8, String), AllocError> {
+    let shown = octets.saturating_sub(24) / 44;
+    let lines = LINES.get(..15 * shown.min(3)).unwrap_or("");
+    if octets == 24 || octets == 68 || octets == 112 || octets == 156 {
+        Ok((0, format!(in alloc; "{lines}end packets {shown}\n")?))
+    } else {
+        Ok((
+            5,
+            format!(in alloc; "{lines}capture 1 octet {octets} Short\n")?,
+        ))
+    }
+}
+
+/// Whether these first octets of that capture are shown.
+fn shows_cut<R: Abort + Threads + Wait + Sync>(rt: &R, alloc: Global, file: &[u8]) -> bool {
+    let (status, report) = cut_report(alloc, file.len()).expect(rt, "there is memory");
+    shows(rt, alloc, file, 4096, status, report.as_str().as_bytes())
+}
+
 // The whole capture has 156 octets: 24, and 44 for each packet.
 #[test]
 fn shows_a_cut_capture_up_to_its_end(rt: HostRuntime) {
@@ -153,23 +180,7 @@ fn shows_a_cut_capture_up_to_its_end(rt: HostRuntime) {
     let (file, _) = capture(alloc, true, false, 101, &THREE).expect(&rt, "there is memory");
     assert_eq!(rt; file.len(), 156);
     for n in 0..157usize {
-        let shown = n.saturating_sub(24) / 44;
-        let (status, printed) = show(&rt, alloc, &file[..n], 4096);
-        let whole = n == 24 || n == 68 || n == 112 || n == 156;
-        let end = if whole {
-            format!(in alloc; "end packets {shown}\n").expect(&rt, "there is memory")
-        } else {
-            format!(in alloc; "capture 1 octet {n} Short\n").expect(&rt, "there is memory")
-        };
-        assert_eq!(rt; status, if whole { 0 } else { 5 }, "of {n} octets");
-        let lines = &LINES.as_bytes()[..15 * shown.min(3)];
-        assert!(rt; printed.starts_with(lines), "of {n} octets");
-        assert!(rt; printed.ends_with(end.as_str().as_bytes()), "of {n} octets");
-        assert_eq!(rt;
-            printed.len(),
-            lines.len().saturating_add(end.len()),
-            "of {n} octets"
-        );
+        assert!(rt; shows_cut(&rt, alloc, &file[..n]), "of {n} octets");
     }
 }
 
@@ -183,18 +194,27 @@ const CHANGES: [(usize, u8, &str); 6] = [
     (80, 29, "packet 1 unlbl\ncapture 1 octet 76 SnapCut\n"),
 ];
 
+/// Whether `show` tells this of that capture with an octet changed.
+fn shows_changed<R: Abort + Threads + Wait + Sync>(
+    rt: &R,
+    alloc: Global,
+    octet: usize,
+    value: u8,
+    report: &str,
+) -> bool {
+    let (mut file, _) = capture(alloc, true, false, 101, &THREE).expect(rt, "there is memory");
+    if let Some(changed) = file.get_mut(octet) {
+        *changed = value;
+    }
+    shows(rt, alloc, &file, 9, 5, report.as_bytes())
+}
+
 #[test]
 fn tells_the_first_fault_of_a_capture(rt: HostRuntime) {
     let alloc = rt.alloc();
     for (octet, value, report) in CHANGES {
-        let (mut file, _) = capture(alloc, true, false, 101, &THREE).expect(&rt, "there is memory");
-        assert!(rt; octet < file.len());
-        file[octet] = value;
-        let (got, printed) = show(&rt, alloc, &file, 9);
-        assert_eq!(rt; got, 5, "with {octet} as {value}");
-        assert_eq!(rt;
-            printed.as_slice(),
-            report.as_bytes(),
+        assert!(rt;
+            shows_changed(&rt, alloc, octet, value, report),
             "with {octet} as {value}"
         );
     }
@@ -218,30 +238,37 @@ const FAILURES: [(usize, u32, u32, u8, usize); 13] = [
     (150, 0, 10, 5, 56),
 ];
 
+/// Whether so many octets of that capture's report are printed, with this status, where these calls fail.
+fn shows_up_to<R: Abort + Threads + Wait + Sync>(
+    rt: &R,
+    alloc: Global,
+    case: (usize, u32, u32, u8, usize),
+) -> bool {
+    let (length, read, write, status, count) = case;
+    let (file, _) = capture(alloc, true, false, 101, &THREE).expect(rt, "there is memory");
+    let part = file.get(..length).unwrap_or(&[]);
+    let (_, report) = cut_report(alloc, length).expect(rt, "there is memory");
+    let printed = report.as_str().get(..count).unwrap_or("none");
+    let mut depot = folder(rt, alloc, read, 7, "c.pcap", part);
+    answers(
+        rt,
+        alloc,
+        "show c.pcap",
+        &mut depot,
+        write,
+        status,
+        printed.as_bytes(),
+    )
+}
+
 #[test]
 fn tells_calls_that_fail_in_mid_capture(rt: HostRuntime) {
     let alloc = rt.alloc();
-    let (file, report) = capture(alloc, true, false, 101, &THREE).expect(&rt, "there is memory");
-    assert_eq!(rt; file.len(), 156);
-    for (length, read, write, status, count) in FAILURES {
-        assert!(rt; length <= file.len());
-        let mut depot = folder(&rt, alloc, read, 7, "c.pcap", &file[..length]);
-        let (got, printed) = run(&rt, alloc, "show c.pcap", &mut depot, write);
-        assert_eq!(rt;
-            got,
-            status,
+    for case in FAILURES {
+        let (length, read, write, _, _) = case;
+        assert!(rt;
+            shows_up_to(&rt, alloc, case),
             "of {length} octets, at read {read}, write {write}"
         );
-        assert_eq!(rt;
-            printed.len(),
-            count,
-            "of {length} octets, at read {read}, write {write}"
-        );
-        let whole = if length == 156 {
-            report.as_str().as_bytes()
-        } else {
-            b"packet 1 unlbl\npacket 2 unlbl\ncapture 1 octet 150 Short\n".as_slice()
-        };
-        assert!(rt; whole.starts_with(&printed));
     }
 }

@@ -1,6 +1,6 @@
 //! Scripts checked: worked scripts with their replies, each kind of fault, limits at both sides, and calls that fail.
 
-use super::{folder, run};
+use super::{answers, folder, run};
 use decimal_text::write_decimal;
 use std::alloc::{AllocError, Global};
 use std::process::Abort;
@@ -176,32 +176,63 @@ fn grown(
     Ok(text)
 }
 
-/// The status and the report of `check` on this script, where the write of this number fails (0: none).
-fn check<R: Abort + Threads + Wait + Sync>(
+/// Whether `check` on this script ends with this status and prints this report, where the write of this number fails (0: none).
+fn checks<R: Abort + Threads + Wait + Sync>(
     rt: &R,
     alloc: Global,
     text: &[u8],
     write: u32,
-) -> (u8, Vec<u8>) {
+    status: u8,
+    report: &str,
+) -> bool {
     let mut depot = folder(rt, alloc, 0, 4096, "s", text);
-    run(rt, alloc, "check s", &mut depot, write)
+    answers(
+        rt,
+        alloc,
+        "check s",
+        &mut depot,
+        write,
+        status,
+        report.as_bytes(),
+    )
 }
 
 #[test]
 fn checks_scripts(rt: HostRuntime) {
     let alloc = rt.alloc();
     for (script, status, report) in SCRIPTS {
-        let (got, printed) = check(&rt, alloc, script.as_bytes(), 0);
-        assert_eq!(rt; got, status, "of {script}");
-        assert_eq!(rt; printed.as_slice(), report.as_bytes(), "of {script}");
+        assert!(rt;
+            checks(&rt, alloc, script.as_bytes(), 0, status, report),
+            "of {script}"
+        );
     }
     // Where a write fails, the event that came first keeps its status.
-    let (got, printed) = check(&rt, alloc, REPLIES.as_bytes(), 1);
-    assert_eq!(rt; got, 4);
-    assert_eq!(rt; printed.len(), 0);
-    let (got, printed) = check(&rt, alloc, b"map list", 1);
-    assert_eq!(rt; got, 2);
-    assert_eq!(rt; printed.len(), 0);
+    assert!(rt; checks(&rt, alloc, REPLIES.as_bytes(), 1, 4, ""));
+    assert!(rt; checks(&rt, alloc, b"map list", 1, 2, ""));
+}
+
+/// The status of `check` on this script, where its report ends so.
+fn ends<R: Abort + Threads + Wait + Sync>(
+    rt: &R,
+    alloc: Global,
+    text: &[u8],
+    end: &str,
+) -> Option<u8> {
+    let mut depot = folder(rt, alloc, 0, 4096, "s", text);
+    let (status, printed) = run(rt, alloc, "check s", &mut depot, 0);
+    printed.ends_with(end.as_bytes()).then_some(status)
+}
+
+/// Whether `check` on a script of so many blanks ends with this status and prints this report.
+fn checks_blanks<R: Abort + Threads + Wait + Sync>(
+    rt: &R,
+    alloc: Global,
+    count: usize,
+    status: u8,
+    report: &str,
+) -> bool {
+    let text = vec![in alloc; b' '; count].expect(rt, "there is memory");
+    checks(rt, alloc, &text, 0, status, report)
 }
 
 #[test]
@@ -209,23 +240,11 @@ fn keeps_to_the_limits_of_scripts(rt: HostRuntime) {
     let alloc = rt.alloc();
     for (head, front, count, back, status, end) in LIMITS {
         let text = grown(alloc, head, front, count, back).expect(&rt, "there is memory");
-        let (got, printed) = check(&rt, alloc, &text, 0);
-        assert_eq!(rt; got, status, "of {count} times {front}");
-        assert!(rt;
-            printed.ends_with(end.as_bytes()),
-            "of {count} times {front}"
-        );
+        let found = ends(&rt, alloc, &text, end);
+        assert_eq!(rt; found, Some(status), "of {count} times {front}");
     }
     // 1,048,576 octets, and one more.
-    let mut text = grown(alloc, "", " ", 0, "").expect(&rt, "there is memory");
-    for _ in 0..65_536u32 {
-        text.extend_from_slice(b"                ")
-            .expect(&rt, "there is memory");
-    }
-    let (got, _) = check(&rt, alloc, &text, 0);
-    assert_eq!(rt; got, 0);
-    text.push(b' ').expect(&rt, "there is memory");
-    let (got, printed) = check(&rt, alloc, &text, 0);
-    assert_eq!(rt; got, 7);
-    assert_eq!(rt; printed.as_slice(), b"limit octets 1048576\n".as_slice());
+    let none = "ok 0 nodes 0 commands 0 flows\n";
+    assert!(rt; checks_blanks(&rt, alloc, 1_048_576, 0, none));
+    assert!(rt; checks_blanks(&rt, alloc, 1_048_577, 7, "limit octets 1048576\n"));
 }
