@@ -1,6 +1,6 @@
 """What the programs of round.py and refused.py have in common: a board that begins behind the first steps of a plan, and a flow.
 
-USES are the lines that the functions of BOARDS need, PROOFS the files of their proofs.
+USES are the lines that the functions of BOARDS need beside the program's own (PacketIn of label_flow), PROOFS the files of their proofs.
 """
 
 CRATES = "mls_label address_text line_forms command_forms script_lines flow_lines node_tables shared_tables packet_walk label_flow"
@@ -132,6 +132,13 @@ fn network_at<R: Wait>(rt: &R, alloc: Global, plan: &Arc<Plan>, version: u32) ->
         return None;
     }
     Some(network)
+}
+
+/// Whether each packet is as short as a feed may lend it.
+fn are_short(batch: &[PacketIn]) -> bool
+    ensures { result ≡ true → All (λ packet. length packet.bytes ≤ 262144) batch.now }
+{
+    batch.iter().all(|packet| packet.bytes.as_slice().len() <= 262_144)
 }
 
 /// Makes steps up to a version, if memory suffices.

@@ -85,12 +85,6 @@ fn fill(alloc: Global, batch: &mut Vec<PacketIn>, from: u64, count: u64) -> Opti
     Some(())
 }
 
-fn are_short(batch: &[PacketIn]) -> bool
-    ensures { result ≡ true → All (λ packet. length packet.bytes ≤ 262144) batch.now }
-{
-    batch.iter().all(|packet| packet.bytes.as_slice().len() <= 262_144)
-}
-
 impl Feed for Numbered {
     type Stop = u8;
 

@@ -93,12 +93,6 @@ fn lend(alloc: Global, batch: &mut Vec<PacketIn>, count: usize) -> Option<()>
     Some(())
 }
 
-fn are_short(batch: &[PacketIn]) -> bool
-    ensures { result ≡ true → All (λ packet. length packet.bytes ≤ 262144) batch.now }
-{
-    batch.iter().all(|packet| packet.bytes.as_slice().len() <= 262_144)
-}
-
 impl Feed for Memory {
     type Stop = u8;
 
