@@ -168,12 +168,12 @@ fn walked(alloc: Global, viewer: &mut Viewer, flow: &FlowLine, packets: u64) -> 
     fill(alloc, &mut stock, STOCK)?;
     let stock = stock.as_slice();
     let mut count = Count { delivered: 0, sum: 0 };
-    let mut room = WalkRoom::new(alloc);
+    let mut room = WalkRoom::new(alloc).ok()?;
     let mut slot = WalkedSlot::new();
     let mut out = Vec::new(alloc);
     for number in 0..packets {
         let packet = stock.get((number % 1024) as usize)?;
-        walk_into(viewer, flow, 0, number, packet, &mut room, &mut slot, &mut out, &OpenGate).ok()?;
+        room = walk_into(viewer, flow, 0, number, packet, room, &mut slot, &mut out, &OpenGate).ok()?;
         count.sum = count.sum.wrapping_add(out.len() as u64);
     }
     if let End::Delivered { .. } = slot.into_walked().end {

@@ -52,6 +52,10 @@ pick_other {X} k w n x xs is =
     let b : nat_eq (n % w) k ≡ false = grind (arith, nat_tests) in
     ap (λ t. cond t (x ∷ pick k w (n + 1) xs) (pick k w (n + 1) xs)) b
 
+-- the turn at the next number
+pub turn_on : (n at w next : ℕ) → next ≡ (n + at + 1) % w → next ≡ (n + (at + 1)) % w
+turn_on n at w next is = is ∙ ap (λ m. m % w) (omega arith)
+
 module _ (p : PlanState) (hops : List Hop) (k w n seen : ℕ) (batch : List PacketIn) (at : ℕ) (d : PacketIn) (done : List PairState) (m now : ℕ) where
   pub work_more : IsWork p hops seen (pick k w n (take at batch)) done m → at < length batch → (n + at) % w ≡ k → (r : PairState) → IsWalked p hops m now (get_or batch at d) r.walked r.octets
       → IsWork p hops seen (pick k w n (take (at + 1) batch)) (done ++ r ∷ []) now

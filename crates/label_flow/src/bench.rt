@@ -19,7 +19,7 @@ use std::marker::Model;
 /// Contracts see it as the list of what it made.
 #[derive(Drop)]
 pub struct Bench {
-    room: WalkRoom,
+    room: Option<WalkRoom>,
     places: Vec<PairSlot>,
     filled: usize,
     // Each packet writes here: so no other worker's bench stands on the same line of a cache.
@@ -43,7 +43,7 @@ impl Bench {
         ensures { result ≡ [] }
     {
         Bench {
-            room: WalkRoom::new(alloc),
+            room: None,
             places: Vec::new(alloc),
             filled: 0,
             _apart: CachePadded::new(()),
@@ -65,6 +65,23 @@ impl Bench {
         &self.places[i]
     }
 
+    /// What the walks of a batch need: it takes memory where the bench has none yet.
+    pub fn lend(&mut self) -> Result<WalkRoom, OutOfMemory>
+        ensures { self.new ≡ self.old }
+    {
+        match self.room.take() {
+            Some(room) => Ok(room),
+            None => WalkRoom::new(*self.places.allocator()),
+        }
+    }
+
+    /// Takes back what was lent.
+    pub fn keep(&mut self, room: WalkRoom)
+        ensures { self.new ≡ self.old }
+    {
+        self.room = Some(room);
+    }
+
     /// Walks a packet, and keeps what became of it behind the others.
     pub fn walk<G: Gate>(
         &mut self,
@@ -73,26 +90,20 @@ impl Bench {
         worker: u32,
         number: u64,
         packet: &PacketIn,
+        room: WalkRoom,
         gate: &G,
-    ) -> Result<(), OutOfMemory>
+    ) -> Result<WalkRoom, OutOfMemory>
         requires nodes { All (λ hop. node_of hop < viewer.old.plan.nodes) flow.now.hops }
         ensures later { IsLater viewer.old viewer.new }
         ensures ok { OnOk result ((pair : PairState) × (self.new ≡ self.old ++ pair ∷ []) × IsWalked viewer.old.plan flow.now.hops viewer.old.seen viewer.new.seen packet.now pair.walked pair.octets) }
     {
         let filled = self.filled;
-        walk_into_place(
-            &mut self.places,
-            filled,
-            viewer,
-            flow,
-            worker,
-            number,
-            packet,
-            &mut self.room,
-            gate,
+        let places = &mut self.places;
+        let room = walk_into_place(
+            places, filled, viewer, flow, worker, number, packet, room, gate,
         )?;
         self.filled = filled + 1;
-        Ok(())
+        Ok(room)
     }
 }
 
@@ -105,9 +116,9 @@ fn walk_into_place<G: Gate>(
     worker: u32,
     number: u64,
     packet: &PacketIn,
-    room: &mut WalkRoom,
+    room: WalkRoom,
     gate: &G,
-) -> Result<(), OutOfMemory>
+) -> Result<WalkRoom, OutOfMemory>
     requires filled { filled ≤ length places.old.items }
     requires nodes { All (λ hop. node_of hop < viewer.old.plan.nodes) flow.now.hops }
     ensures later { IsLater viewer.old viewer.new }

@@ -44,9 +44,9 @@ impl PairSlot {
         worker: u32,
         number: u64,
         packet: &PacketIn,
-        room: &mut WalkRoom,
+        room: WalkRoom,
         gate: &G,
-    ) -> Result<(), OutOfMemory>
+    ) -> Result<WalkRoom, OutOfMemory>
         requires nodes { All (λ hop. node_of hop < viewer.old.plan.nodes) flow.now.hops }
         ensures later { IsLater viewer.old viewer.new }
         ensures ok { OnOk result (IsWalked viewer.old.plan flow.now.hops viewer.old.seen viewer.new.seen packet.now self.new.walked self.new.octets) }

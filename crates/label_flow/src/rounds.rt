@@ -11,7 +11,7 @@ ghost use Rattle.label_flow.specs.inside.Work.{AreFirst, HasRoom, AllFit, HasNod
 
 use crate::bench::Bench;
 use crate::feed::Feed;
-use crate::work::{Turn, spread};
+use crate::work::{Turn, next_turn, spread};
 use flow_lines::FlowLine;
 use mls_label::OutOfMemory;
 use node_tables::Reply;
@@ -81,8 +81,9 @@ fn hand_over<Q: Feed>(
     // The next pair of each worker.
     let mut places = [0usize; 16];
     let mut at = 0;
+    let mut turn = (base % done.len() as u64) as u32;
     while at < batch.len() {
-        let worker = ((base + at as u64) % done.len() as u64) as usize;
+        let worker = turn as usize;
         let place = places[worker];
         let judged = done[worker].get(place);
         let walked = shown.show(judged.walked());
@@ -90,6 +91,7 @@ fn hand_over<Q: Feed>(
             return Err(RoundStop::Feed(stop));
         }
         places[worker] = place + 1;
+        turn = next_turn(turn, done.len() as u32);
         at += 1;
     }
     Ok(())

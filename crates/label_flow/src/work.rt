@@ -1,6 +1,6 @@
 //! The workers of one batch, beside each other.
 
-ghost use Rattle.std.specs.Prelude.{◌≡◌, ◌+◌, ◌<◌, ◌≤◌, ◌^◌, [], ◌∷◌, length, All, OnOk, IsOk};
+ghost use Rattle.std.specs.Prelude.{◌≡◌, ℕ, ◌+◌, ◌%◌, ◌<◌, ◌≤◌, ◌^◌, [], ◌∷◌, length, All, OnOk, IsOk};
 ghost use denote.Param.Send.{IsSync};
 ghost use Rattle.flow_lines.specs.Hop.{node_of};
 ghost use Rattle.label_flow.specs.Round.{pick, IsWork, IsLater, AreLater};
@@ -21,6 +21,15 @@ pub struct Turn {
     pub base: u64,
 }
 
+/// The worker whose turn comes after this one's.
+pub fn next_turn(worker: u32, workers: u32) -> u32
+    requires { worker < workers }
+    ensures { (number : ℕ) → worker ≡ number % workers → result ≡ (number + 1) % workers }
+{
+    // No division for each packet: it would cost more than handing one over.
+    if worker + 1 == workers { 0 } else { worker + 1 }
+}
+
 // One worker's packets of a batch, in their order.
 fn work<G: Gate>(
     flow: &FlowLine,
@@ -37,14 +46,18 @@ fn work<G: Gate>(
     ensures ok { OnOk result (IsWork viewer.old.plan flow.now.hops viewer.old.seen (pick turn.worker turn.workers turn.base batch.now) bench.new viewer.new.seen) }
 {
     bench.clear();
+    let mut room = bench.lend()?;
     let mut at = 0;
+    let mut worker = (turn.base % u64::from(turn.workers)) as u32;
     while at < batch.len() {
-        let number = turn.base + at as u64;
-        if number % u64::from(turn.workers) == u64::from(turn.worker) {
-            bench.walk(viewer, flow, turn.worker, number + 1, &batch[at], gate)?;
+        if worker == turn.worker {
+            let number = turn.base + at as u64 + 1;
+            room = bench.walk(viewer, flow, worker, number, &batch[at], room, gate)?;
         }
+        worker = next_turn(worker, turn.workers);
         at += 1;
     }
+    bench.keep(room);
     Ok(())
 }
 

@@ -1,11 +1,15 @@
 -- A walk that goes on by one hop, and what was written is read back.
-use Rattle.std.proofs.Common.{◌≡◌, ◌⊎◌, inl, inr, ℕ, ◌+◌, ◌<◌, ◌≤◌, Bool, true, false, List, [], ◌∷◌, ◌++◌, length, drop, get_or, arith, Some, slice_get, unwrap_or, MatchBool, Result, Ok, Err, refl, sym, ap, ◌∙◌, subst, le_refl, le_trans, append-nil}
+use Rattle.std.proofs.Common.{◌≡◌, ◌⊎◌, inl, inr, ℕ, suc, ◌+◌, ◌<◌, ◌≤◌, Bool, true, false, List, [], ◌∷◌, ◌++◌, length, drop, get_or, arith, Some, slice_get, unwrap_or, MatchBool, Result, Ok, Err, refl, sym, ap, ◌∙◌, subst, le_refl, le_trans, append-nil}
+use Rattle.std.proofs.Math.Numerals.{suc-eq-add-one}
+use Rattle.std.proofs.Math.Seq.{drop-cons}
+use Rattle.std.proofs.lemmas.List.{length-drop}
 use Rattle.std.proofs.lemmas.List.Elements.{All-cons, All-nil}
 use Rattle.mls_label.specs.declared.label.Label.{Label}
 use Rattle.address_text.specs.declared.address.Address.{Address}
 use Rattle.ip_headers.specs.Packet.{ParsedPacket}
 use Rattle.ip_headers.specs.Written.{packet_octets, hides_payload}
 use Rattle.packet_label.specs.declared.denial.Carrier.{Carrier}
+use Rattle.packet_label.specs.declared.denial.Carrier.TheVariants.{Unlabelled}
 use Rattle.packet_label.specs.declared.denial.Denial.{Denial}
 use Rattle.packet_label.specs.declared.denial.Denial.TheVariants.{NotIp}
 use Rattle.packet_label.specs.declared.fault.CarryFault.{CarryFault}
@@ -22,7 +26,7 @@ use Rattle.packet_walk.specs.declared.walked.End.{End}
 use Rattle.packet_walk.specs.declared.walked.End.TheVariants as the_end
 use Rattle.packet_walk.specs.Walk.{from_outside, from_hop, tables_of, hop_verdict, IsWalk, Ends, IsWalked, Rises}
 use Rattle.packet_walk.specs.inside.Hop.{ReadsBack, HasJudged}
-use Rattle.packet_walk.specs.inside.Way.{Comes, HasWalked}
+use Rattle.packet_walk.specs.inside.Way.{octets_behind, Comes, HasWalked}
 
 pub one_read : (octets : List ℕ) (a b : Result (ParsedPacket Wire) CarryFault) → IsReadAs octets a → IsReadAs octets b → a ≡ b
 one_read octets (Ok p) (Ok q) x y = ap Ok ((octets_are_a_packet_or_have_one_fault octets).one_packet p q x y)
@@ -44,7 +48,7 @@ pub some_read : (octets : List ℕ) → (read : Result (ParsedPacket Wire) Carry
 some_read octets = (octets_are_a_packet_or_have_one_fault octets).some
 
 -- behind the last hop
-pub walked_none : (plan : PlanState) (k : ℕ) (hops : List Hop) (carrier : Carrier) (octets : List ℕ) (seen : ℕ) (before : List ℕ) → length hops < 1
+walked_none : (plan : PlanState) (k : ℕ) (hops : List Hop) (carrier : Carrier) (octets : List ℕ) (seen : ℕ) (before : List ℕ) → length hops < 1
     → HasWalked plan k hops carrier octets seen seen before before (the_end.Sent carrier) octets
 walked_none plan k [] carrier octets seen before few = record {
   more = [];
@@ -66,7 +70,7 @@ snoc_append (x ∷ xs) v ys = ap (λ zs. x ∷ zs) (snoc_append xs v ys)
 
 module _ (plan : PlanState) (k : ℕ) (hop : Hop) (hops : List Hop) (carrier : Carrier) (octets : List ℕ) (seen mid : ℕ) (before : List ℕ) (label : Label) (out : List ℕ) where
   -- a hop wrote a packet, and those behind it judged it
-  pub walked_on : (next : Carrier) (now : ℕ) (after : List ℕ) (end : End) (left : List ℕ) → HasJudged plan seen mid hop octets (Goes next) label octets out
+  walked_on : (next : Carrier) (now : ℕ) (after : List ℕ) (end : End) (left : List ℕ) → HasJudged plan seen mid hop octets (Goes next) label out
       → HasWalked plan (k + 1) hops next out mid now (before ++ mid ∷ []) after end left → HasWalked plan k (hop ∷ hops) carrier octets seen now before after end left
   walked_on next now after end left judged rest =
       let given = judged.gave.answered in record {
@@ -83,54 +87,82 @@ module _ (plan : PlanState) (k : ℕ) (hop : Hop) (hops : List Hop) (carrier : C
             );
       }
 
-  pub walked_here : (receiver : Address) → HasJudged plan seen mid hop octets (Arrives receiver) label octets out
-      → HasWalked plan k (hop ∷ hops) carrier octets seen mid before (before ++ mid ∷ []) (the_end.Delivered label receiver) out
-  walked_here receiver judged =
-      let given = judged.gave.answered in record {
-        more = mid ∷ [];
-        versions = refl;
-        rises = (judged.later, le_refl mid);
-        within = All-cons (λ (v : ℕ). v ≤ length plan.steps) mid [] judged.within (All-nil (λ (v : ℕ). v ≤ length plan.steps));
-        short = inr given.1;
-        walk = λ coming comes.
-            let verdict = ap (λ os. hop_verdict (network_after plan mid) hop os judged.gave.read) (sym comes.octets_are) ∙ given.0 in (
-              judged.gave.read,
-              comes.reads judged.gave.read judged.gave.reads,
-              rw verdict (refl, refl, given.1 ∙ comes.octets_are),
-            );
-      }
+  walked_here : (receiver : Address) (left : List ℕ) → HasJudged plan seen mid hop octets (Arrives receiver) label out → left ≡ octets
+      → HasWalked plan k (hop ∷ hops) carrier octets seen mid before (before ++ mid ∷ []) (the_end.Delivered label receiver) left
+  walked_here receiver left judged same = record {
+    more = mid ∷ [];
+    versions = refl;
+    rises = (judged.later, le_refl mid);
+    within = All-cons (λ (v : ℕ). v ≤ length plan.steps) mid [] judged.within (All-nil (λ (v : ℕ). v ≤ length plan.steps));
+    short = inr same;
+    walk = λ coming comes.
+        let verdict = ap (λ os. hop_verdict (network_after plan mid) hop os judged.gave.read) (sym comes.octets_are) ∙ judged.gave.answered in
+        (judged.gave.read, comes.reads judged.gave.read judged.gave.reads, rw verdict (refl, refl, same ∙ comes.octets_are));
+  }
 
-  pub walked_denied : (why : Denial) → HasJudged plan seen mid hop octets (Denied why) label octets out
-      → HasWalked plan k (hop ∷ hops) carrier octets seen mid before (before ++ mid ∷ []) (the_end.Denied k why) out
-  walked_denied why judged =
-      let given = judged.gave.answered in record {
-        more = mid ∷ [];
-        versions = refl;
-        rises = (judged.later, le_refl mid);
-        within = All-cons (λ (v : ℕ). v ≤ length plan.steps) mid [] judged.within (All-nil (λ (v : ℕ). v ≤ length plan.steps));
-        short = inl (omega (arith, ap length given.1));
-        walk = λ coming comes.
-            let verdict = ap (λ os. hop_verdict (network_after plan mid) hop os judged.gave.read) (sym comes.octets_are) ∙ given.0 in (
-              judged.gave.read,
-              comes.reads judged.gave.read judged.gave.reads,
-              rw verdict (refl, refl, given.1),
-            );
-      }
+  walked_denied : (why : Denial) → HasJudged plan seen mid hop octets (Denied why) label out
+      → HasWalked plan k (hop ∷ hops) carrier octets seen mid before (before ++ mid ∷ []) (the_end.Denied k why) []
+  walked_denied why judged = record {
+    more = mid ∷ [];
+    versions = refl;
+    rises = (judged.later, le_refl mid);
+    within = All-cons (λ (v : ℕ). v ≤ length plan.steps) mid [] judged.within (All-nil (λ (v : ℕ). v ≤ length plan.steps));
+    short = inl (omega arith);
+    walk = λ coming comes.
+        let verdict = ap (λ os. hop_verdict (network_after plan mid) hop os judged.gave.read) (sym comes.octets_are) ∙ judged.gave.answered in
+        (judged.gave.read, comes.reads judged.gave.read judged.gave.reads, rw verdict (refl, refl, refl));
+  }
 
-first_is : (hops : List Hop) (hop : Hop) → 1 ≤ length hops → hop ≡ get_or hops 0 hop → hops ≡ hop ∷ drop 1 hops
-first_is [] hop some is = absurd (omega arith)
-first_is (first ∷ hops) hop some is = ap (λ h. h ∷ hops) (sym is)
+-- the packet as it comes behind one hop more is what that hop wrote
+pub behind_more : (hops : ℕ) (packet out : List ℕ) → octets_behind (hops + 1) packet out ≡ out
+behind_more hops packet out = ap (λ n. octets_behind n packet out) (sym (suc-eq-add-one hops))
 
--- the same, by what the code has of the first hop and of those behind it
-pub walked_more : (plan q : PlanState) (k : ℕ) (all behind : List Hop) (hop : Hop) (carrier next : Carrier) (octets : List ℕ) (seen mid now : ℕ) (before pushed after : List ℕ) (label : Label) (out left : List ℕ)
-    (end : End) → q ≡ plan → 1 ≤ length all → hop ≡ get_or all 0 hop → behind ≡ drop 1 all → pushed ≡ before ++ mid ∷ [] → HasJudged plan seen mid hop octets (Goes next) label octets out
-    → HasWalked q (k + 1) behind next out mid now pushed after end left → HasWalked plan k all carrier octets seen now before after end left
-walked_more plan q k all behind hop carrier next octets seen mid now before pushed after label out left end same some first rest grown judged walked =
-    let here = subst (λ (x : PlanState). HasWalked x (k + 1) behind next out mid now pushed after end left) same walked in
-    let here = subst (λ (hs : List Hop). HasWalked plan (k + 1) hs next out mid now pushed after end left) rest here in
-    let here = subst (λ (vs : List ℕ). HasWalked plan (k + 1) (drop 1 all) next out mid now vs after end left) grown here in
-    subst (λ (hs : List Hop). HasWalked plan k hs carrier octets seen now before after end left) (sym (first_is all hop some first))
-    (walked_on plan k hop (drop 1 all) carrier octets seen mid before label out next now after end left judged here)
+-- Behind the hops in front of place `at` a packet comes so: whatever then becomes of it on the others becomes of it on all.
+pub record GoesOn (plan : PlanState) (hops : List Hop) (packet : List ℕ) (began at : ℕ) (carrier : Carrier) (octets : List ℕ) (seen : ℕ) (before : List ℕ) : Type 0 where
+  pub rest : (now : ℕ) (after : List ℕ) (end : End) (left : List ℕ) → HasWalked plan (at + 1) (drop at hops) carrier octets seen now before after end left
+      → HasWalked plan 1 hops Unlabelled packet began now [] after end left
+
+pub goes_first : (plan : PlanState) (hops : List Hop) (packet : List ℕ) (began : ℕ) → GoesOn plan hops packet began 0 Unlabelled packet began []
+goes_first plan hops packet began = record { rest = λ now after end left walked. walked }
+
+hops_at : (hops : List Hop) (at : ℕ) (hop : Hop) → at < length hops → hop ≡ get_or hops at hop → drop at hops ≡ hop ∷ drop (at + 1) hops
+hops_at hops at hop within is = drop-cons hops at hop within ∙ ap (λ h. h ∷ drop (suc at) hops) (sym is) ∙ ap (λ n. hop ∷ drop n hops) (suc-eq-add-one at)
+
+module _ (plan : PlanState) (hops : List Hop) (packet : List ℕ) (began at : ℕ) (carrier : Carrier) (octets : List ℕ) (seen : ℕ) (before : List ℕ)
+    (goes : GoesOn plan hops packet began at carrier octets seen before) where
+  -- what the hop at this place and those behind it do
+  goes_at : (hop : Hop) (now : ℕ) (after : List ℕ) (end : End) (left : List ℕ) → at < length hops → hop ≡ get_or hops at hop
+      → HasWalked plan (at + 1) (hop ∷ drop (at + 1) hops) carrier octets seen now before after end left → HasWalked plan 1 hops Unlabelled packet began now [] after end left
+  goes_at hop now after end left within is walked =
+      goes.rest now after end left (subst (λ (hs : List Hop). HasWalked plan (at + 1) hs carrier octets seen now before after end left) (sym (hops_at hops at hop within is)) walked)
+
+  pub goes_more : (hop : Hop) (next : Carrier) (mid : ℕ) (label : Label) (out : List ℕ) → at < length hops → hop ≡ get_or hops at hop
+      → HasJudged plan seen mid hop octets (Goes next) label out → GoesOn plan hops packet began (at + 1) next out mid (before ++ mid ∷ [])
+  goes_more hop next mid label out within is judged = record {
+    rest = λ now after end left walked.
+        goes_at hop now after end left within is (walked_on plan (at + 1) hop (drop (at + 1) hops) carrier octets seen mid before label out next now after end left judged walked);
+  }
+
+  pub goes_here : (hop : Hop) (receiver : Address) (mid : ℕ) (label : Label) (out left : List ℕ) → at < length hops → hop ≡ get_or hops at hop
+      → HasJudged plan seen mid hop octets (Arrives receiver) label out → left ≡ octets
+      → HasWalked plan 1 hops Unlabelled packet began mid [] (before ++ mid ∷ []) (the_end.Delivered label receiver) left
+  goes_here hop receiver mid label out left within is judged same =
+      goes_at hop mid (before ++ mid ∷ []) (the_end.Delivered label receiver) left within is
+      (walked_here plan (at + 1) hop (drop (at + 1) hops) carrier octets seen mid before label out receiver left judged same)
+
+  pub goes_denied : (hop : Hop) (why : Denial) (mid : ℕ) (label : Label) (out : List ℕ) → at < length hops → hop ≡ get_or hops at hop
+      → HasJudged plan seen mid hop octets (Denied why) label out
+      → HasWalked plan 1 hops Unlabelled packet began mid [] (before ++ mid ∷ []) (the_end.Denied (at + 1) why) []
+  goes_denied hop why mid label out within is judged =
+      goes_at hop mid (before ++ mid ∷ []) (the_end.Denied (at + 1) why) [] within is
+      (walked_denied plan (at + 1) hop (drop (at + 1) hops) carrier octets seen mid before label out why judged)
+
+  -- behind the last hop
+  pub goes_out : (left : List ℕ) → length hops ≤ at → left ≡ octets → HasWalked plan 1 hops Unlabelled packet began seen [] before (the_end.Sent carrier) left
+  goes_out left last same =
+      goes.rest seen before (the_end.Sent carrier) left
+      (subst (λ (os : List ℕ). HasWalked plan (at + 1) (drop at hops) carrier octets seen seen before before (the_end.Sent carrier) os) (sym same)
+      (walked_none plan (at + 1) (drop at hops) carrier octets seen before (omega (arith, last, length-drop at hops))))
 
 rises_later : (low high : ℕ) (vs : List ℕ) → Rises low high vs → low ≤ high
 rises_later low high [] h = h

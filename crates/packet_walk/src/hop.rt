@@ -1,6 +1,6 @@
 //! One hop under given tables.
 
-ghost use Rattle.std.specs.Prelude.{◌≡◌, ◌<◌, [], length};
+ghost use Rattle.std.specs.Prelude.{◌≡◌, ◌<◌, ℕ, List, length};
 ghost use Rattle.flow_lines.specs.Hop.{node_of};
 ghost use Rattle.label_receive.specs.Judged.{judged_by};
 ghost use Rattle.label_receive.specs.Receive.{receive_of};
@@ -31,8 +31,7 @@ pub enum Given {
     OutOfMemory,
 }
 
-/// One hop at its node. A packet that goes on is in `out`, which else is empty; the label of one that arrives is the local one of the
-/// room.
+/// One hop at its node. A packet that goes on is in `out`; the label of one that arrives is the local one of the room.
 pub fn hop_into(
     network: &Network,
     hop: &Hop,
@@ -41,7 +40,7 @@ pub fn hop_into(
     out: &mut Vec<u8>,
 ) -> Given
     requires { node_of hop.now < length network.now }
-    ensures { AnsweredOf packet.now (hop_verdict network.now hop.now packet.now) result room.new.local [] out.new.items }
+    ensures { AnsweredOf packet.now (hop_verdict network.now hop.now packet.now) result room.new.local out.new.items }
 {
     match hop {
         Hop::Send {
@@ -68,7 +67,7 @@ pub fn hop_into(
             out,
         ),
         Hop::Receive { node, interface } => {
-            receive_at(tables_of(network, *node), interface, packet, room, out)
+            receive_at(tables_of(network, *node), interface, packet, room)
         }
     }
 }
@@ -89,7 +88,7 @@ fn send_at(
     room: &mut Room,
     out: &mut Vec<u8>,
 ) -> Given
-    ensures { Answered (passes sending (send_octets tables.now domain.now interface.now label.now packet.now)) result room.new.local [] out.new.items }
+    ensures { Answered (passes sending (send_octets tables.now domain.now interface.now label.now packet.now)) result room.new.local out.new.items }
 {
     match send_into(
         tables,
@@ -114,7 +113,7 @@ fn forward_at(
     room: &mut Room,
     out: &mut Vec<u8>,
 ) -> Given
-    ensures { AnsweredOf packet.now (λ read. passes forwarding (judged_by (forward_of tables.now from.now to.now domain.now) read)) result room.new.local [] out.new.items }
+    ensures { AnsweredOf packet.now (λ read. passes forwarding (judged_by (forward_of tables.now from.now to.now domain.now) read)) result room.new.local out.new.items }
 {
     match forward_into(tables, from, to, domain, packet, room, out) {
         Ok(carrier) => Given::Goes { carrier },
@@ -122,16 +121,9 @@ fn forward_at(
     }
 }
 
-fn receive_at(
-    tables: &Tables,
-    interface: &Name,
-    packet: &[u8],
-    room: &mut Room,
-    out: &mut Vec<u8>,
-) -> Given
-    ensures { AnsweredOf packet.now (λ read. passes arrives (judged_by (receive_of tables.now interface.now) read)) result room.new.local [] out.new.items }
+fn receive_at(tables: &Tables, interface: &Name, packet: &[u8], room: &mut Room) -> Given
+    ensures { (out : List ℕ) → AnsweredOf packet.now (λ read. passes arrives (judged_by (receive_of tables.now interface.now) read)) result room.new.local out }
 {
-    out.clear();
     match receive_into(tables, interface, packet, room) {
         Ok(receiver) => Given::Arrives { receiver },
         Err(denial) => Given::Denied { denial },

@@ -16,7 +16,7 @@ mod walking;
 pub use gate::{Gate, OpenGate};
 pub use packet::{Octets, PacketIn};
 pub use room::WalkRoom;
-pub use slot::{EndMark, ShownWalks, WalkedSlot};
+pub use slot::{ShownWalks, WalkedSlot};
 pub use walked::{End, Versions, Walked};
 pub use walking::{walk, walk_into};
 

@@ -1,45 +1,34 @@
 //! What a worker keeps for its walks.
 
+use crate::hop::Given;
 use label_receive::Room;
 use mls_label::OutOfMemory;
 use std::alloc::Global;
 
-/// Labels and octets that a worker owns once and lends for each packet: it takes memory for them at its first packet.
+/// Labels and octets that a worker owns once, and hands on from one walk to the next: what is moved is a pointer.
 #[derive(Drop)]
 pub struct WalkRoom {
-    alloc: Global,
-    lent: Option<Box<Lent>>,
+    pub(crate) lent: Box<Lent>,
 }
 
-/// What a look takes along: the labels of a packet, and a place for the octets that a hop writes.
+/// What a look takes along: the labels of a packet, a place for the octets that a hop writes, and one for what it gives.
 #[derive(Drop)]
 pub struct Lent {
     pub labels: Room,
     pub octets: Vec<u8>,
+    pub given: Given,
 }
 
 impl WalkRoom {
-    /// Takes no memory.
-    pub fn new(alloc: Global) -> WalkRoom {
-        WalkRoom { alloc, lent: None }
-    }
-
-    // What a look takes along.
-    pub(crate) fn lend(&mut self) -> Result<Box<Lent>, OutOfMemory> {
-        match self.lent.take() {
-            Some(lent) => Ok(lent),
-            None => {
-                let lent = Lent {
-                    labels: Room::lowest(),
-                    octets: Vec::new(self.alloc),
-                };
-                Ok(Box::new(self.alloc, lent)?)
-            }
-        }
-    }
-
-    // What it brings back.
-    pub(crate) fn keep(&mut self, lent: Box<Lent>) {
-        self.lent = Some(lent);
+    /// Room for walks.
+    pub fn new(alloc: Global) -> Result<WalkRoom, OutOfMemory> {
+        let lent = Lent {
+            labels: Room::lowest(),
+            octets: Vec::new(alloc),
+            given: Given::OutOfMemory,
+        };
+        Ok(WalkRoom {
+            lent: Box::new(alloc, lent)?,
+        })
     }
 }

@@ -1,8 +1,8 @@
 //! A place that is filled for one packet after another.
 
-ghost use Rattle.std.specs.Prelude.{◌≡◌, []};
+ghost use Rattle.std.specs.Prelude.{◌≡◌, ◌<◌, [], ◌∷◌, ◌++◌, length};
 ghost use Rattle.packet_label.specs.declared.denial.Denial.TheVariants.{NotIp};
-ghost use Rattle.packet_walk.specs.declared.walked.End.TheVariants.{Sent, Denied};
+ghost use Rattle.packet_walk.specs.declared.walked.End.TheVariants.{Delivered, Sent, Denied};
 
 use crate::walked::{End, Versions, Walked};
 use address_text::Address;
@@ -10,10 +10,10 @@ use mls_label::Label;
 use packet_label::{Carrier, Denial};
 use std::marker::Model;
 
-/// What is told of how a walk ended, but for the label of a packet that was delivered.
+/// How a walk ended; what is told of a packet that was delivered stands in the room for that.
 #[derive(Clone, Copy, Debug, PartialEq, Eq)]
 pub enum EndMark {
-    Delivered { receiver: Address },
+    Delivered,
     Sent { carrier: Carrier },
     Denied { hop: u32, denial: Denial },
 }
@@ -22,8 +22,8 @@ pub enum EndMark {
 /// moved: a packet that was delivered stands there as it is shown, and any other end beside it. Contracts see it as a `Walked`.
 #[derive(Drop)]
 pub struct WalkedSlot {
-    pub(crate) mark: EndMark,
-    pub(crate) delivery: Walked,
+    mark: EndMark,
+    delivery: Walked,
 }
 
 impl Model for WalkedSlot {
@@ -58,13 +58,55 @@ impl WalkedSlot {
         }
     }
 
+    // No hop judged a packet yet.
+    pub(crate) fn begin(&mut self)
+        ensures { self.new.versions ≡ [] }
+    {
+        self.delivery.versions.clear();
+    }
+
+    // The next hop judged it under this version.
+    pub(crate) fn judged_under(&mut self, version: u32)
+        requires { length self.old.versions < 16 }
+        ensures { self.new.versions ≡ self.old.versions ++ version ∷ [] }
+    {
+        self.delivery.versions.push(version);
+    }
+
+    pub(crate) fn deliver(&mut self, label: &Label, receiver: Address)
+        ensures { self.new ≡ record self.old { end = Delivered label.now receiver } }
+    {
+        let End::Delivered {
+            label: room,
+            receiver: to,
+        } = &mut self.delivery.end
+        else {
+            unreachable!();
+        };
+        room.assign(label);
+        *to = receiver;
+        self.mark = EndMark::Delivered;
+    }
+
+    pub(crate) fn send(&mut self, carrier: Carrier)
+        ensures { self.new ≡ record self.old { end = Sent carrier } }
+    {
+        self.mark = EndMark::Sent { carrier };
+    }
+
+    pub(crate) fn deny(&mut self, hop: u32, denial: Denial)
+        ensures { self.new ≡ record self.old { end = Denied hop denial } }
+    {
+        self.mark = EndMark::Denied { hop, denial };
+    }
+
     /// What became of the packet, which moves the label.
     pub fn into_walked(self) -> Walked
         ensures { result ≡ self }
     {
         let WalkedSlot { mark, delivery } = self;
         match mark {
-            EndMark::Delivered { .. } => delivery,
+            EndMark::Delivered => delivery,
             EndMark::Sent { carrier } => Walked {
                 end: End::Sent { carrier },
                 versions: delivery.versions,
@@ -98,7 +140,7 @@ impl ShownWalks {
         ensures { result.now ≡ slot.now }
     {
         match slot.mark {
-            EndMark::Delivered { .. } => &slot.delivery,
+            EndMark::Delivered => &slot.delivery,
             EndMark::Sent { carrier } => {
                 self.sent.versions.assign(&slot.delivery.versions);
                 be_sent(carrier, &mut self.sent.end);

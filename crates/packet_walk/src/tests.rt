@@ -273,7 +273,7 @@ fn walks<R: Wait + Abort>(
     let names = names_of(rt, alloc);
     let nodes = names.len();
     assert!(rt; nodes <= 32);
-    let mut room = WalkRoom::new(alloc);
+    let mut room = WalkRoom::new(alloc).expect(rt, "memory");
     let mut slot = WalkedSlot::new();
     let mut shown = ShownWalks::new();
     for (hops, packet, told, left) in cases {
@@ -296,13 +296,13 @@ fn walks<R: Wait + Abort>(
         .expect(rt, "memory");
         assert!(rt; tell(rt, alloc, &walked).as_slice() == told.as_bytes());
         assert!(rt; out.as_slice() == *left);
-        walk_into(
+        room = walk_into(
             &mut viewer,
             &flow,
             0,
             2,
             &packet,
-            &mut room,
+            room,
             &mut slot,
             &mut out,
             &OpenGate,

@@ -1,24 +1,24 @@
 //! Walks.
 
-ghost use Rattle.std.specs.Prelude.{◌≡◌, ◌+◌, ◌<◌, ◌≤◌, [], length, All, IfOk, OnOk, OnErr};
+ghost use Rattle.std.specs.Prelude.{◌≡◌, ◌<◌, ◌≤◌, [], length, All, IfOk, OnOk, OnErr};
 ghost use Rattle.flow_lines.specs.Hop.{node_of};
 ghost use Rattle.packet_label.specs.declared.denial.Carrier.TheVariants.{Unlabelled};
-ghost use Rattle.packet_walk.specs.inside.Slot.{ended};
 ghost use Rattle.packet_walk.specs.Walk.{IsWalked};
-ghost use Rattle.packet_walk.specs.inside.Way.{HasWalked};
+ghost use Rattle.packet_walk.specs.inside.Way.{HasWalked, octets_behind};
 
 use crate::gate::Gate;
 use crate::hop::Given;
 use crate::look::judge_at;
 use crate::packet::PacketIn;
 use crate::room::WalkRoom;
-use crate::slot::{EndMark, WalkedSlot};
-use crate::walked::{End, Versions, Walked};
+use crate::slot::WalkedSlot;
+use crate::walked::Walked;
 use flow_lines::{FlowLine, Hop};
-use mls_label::{Label, OutOfMemory};
+use mls_label::OutOfMemory;
 use packet_label::{Carrier, Denial};
 use shared_tables::Viewer;
 use std::alloc::Global;
+use std::mem;
 
 /// Walks a packet over the hops of a flow, each judged under one look: `before_look` of the gate is called directly before it, with
 /// the worker and the packet's number as they are given, and the hop counted from 1.
@@ -41,7 +41,8 @@ pub fn walk<G: Gate>(
     ensures seen { viewer.old.seen ≤ viewer.new.seen }
     ensures err { OnErr result (out.new.items ≡ []) }
 {
-    let mut room = WalkRoom::new(alloc);
+    out.clear();
+    let room = WalkRoom::new(alloc)?;
     let mut walked = WalkedSlot::new();
     walk_into(
         viewer,
@@ -49,7 +50,7 @@ pub fn walk<G: Gate>(
         worker,
         number,
         packet,
-        &mut room,
+        room,
         &mut walked,
         out,
         gate,
@@ -57,18 +58,18 @@ pub fn walk<G: Gate>(
     Ok(walked.into_walked())
 }
 
-/// The same in a place and with labels and octets that are lent. The place has any walk after an error.
+/// The same in a place, with labels and octets that are handed on. The place has any walk after an error.
 pub fn walk_into<G: Gate>(
     viewer: &mut Viewer,
     flow: &FlowLine,
     worker: u32,
     number: u64,
     packet: &PacketIn,
-    room: &mut WalkRoom,
+    room: WalkRoom,
     walked: &mut WalkedSlot,
     out: &mut Vec<u8>,
     gate: &G,
-) -> Result<(), OutOfMemory>
+) -> Result<WalkRoom, OutOfMemory>
     requires nodes { All (λ hop. node_of hop < viewer.old.plan.nodes) flow.now.hops }
     ensures ok { OnOk result (IsWalked viewer.old.plan flow.now.hops viewer.old.seen viewer.new.seen packet.now walked.new out.new.items) }
     ensures kept { (viewer.new.board ≡ viewer.old.board) × (viewer.new.plan ≡ viewer.old.plan) }
@@ -76,27 +77,15 @@ pub fn walk_into<G: Gate>(
     ensures err { OnErr result (out.new.items ≡ []) }
 {
     out.clear();
-    walked.delivery.versions.clear();
+    walked.begin();
     if !packet.is_ip {
-        walked.mark = EndMark::Denied {
-            hop: 0,
-            denial: Denial::NotIp,
-        };
-        return Ok(());
+        walked.deny(0, Denial::NotIp);
+        return Ok(room);
     }
-    if out.extend_from_slice(packet.bytes.as_slice()).is_err() {
-        out.clear();
-        return Err(OutOfMemory);
-    }
-    let ended = walk_in_place(
-        viewer,
-        flow.hops.hops(),
-        worker,
-        number,
-        room,
-        walked,
-        out,
-        gate,
+    let octets = packet.bytes.as_slice();
+    let hops = flow.hops.hops();
+    let ended = walk_hops(
+        viewer, hops, worker, number, octets, room, walked, out, gate,
     );
     if ended.is_err() {
         out.clear();
@@ -104,99 +93,69 @@ pub fn walk_into<G: Gate>(
     ended
 }
 
-// A walk from its first hop on, in a place that has no version yet.
-fn walk_in_place<G: Gate>(
-    viewer: &mut Viewer,
-    hops: &[Hop],
-    worker: u32,
-    number: u64,
-    room: &mut WalkRoom,
-    walked: &mut WalkedSlot,
-    out: &mut Vec<u8>,
-    gate: &G,
-) -> Result<(), OutOfMemory>
-    requires nodes { All (λ hop. node_of hop < viewer.old.plan.nodes) hops.now }
-    requires few { length hops.now ≤ 16 }
-    requires fresh { walked.old.versions ≡ [] }
-    ensures ok { OnOk result (HasWalked viewer.old.plan 1 hops.now Unlabelled out.old.items viewer.old.seen viewer.new.seen [] walked.new.versions walked.new.end out.new.items) }
-    ensures kept { (viewer.new.board ≡ viewer.old.board) × (viewer.new.plan ≡ viewer.old.plan) }
-    ensures seen { viewer.old.seen ≤ viewer.new.seen }
-{
-    let End::Delivered { label, receiver } = &mut walked.delivery.end else {
-        unreachable!();
-    };
-    walk_hops(
-        viewer,
-        hops,
-        1,
-        Carrier::Unlabelled,
-        worker,
-        number,
-        room,
-        &mut walked.mark,
-        label,
-        &mut walked.delivery.versions,
-        out,
-        gate,
-    )?;
-    if let EndMark::Delivered { receiver: to } = walked.mark {
-        *receiver = to;
-    }
-    Ok(())
-}
-
-// The hops from hop k on. `out` has the packet as it comes to them, and then as it leaves. What is told of the end is written in its place at once.
+// The hops one after the other. The first one reads the packet as it comes in, each further one what the hop in front left in `out`.
 fn walk_hops<G: Gate>(
     viewer: &mut Viewer,
     hops: &[Hop],
-    k: u32,
-    carrier: Carrier,
     worker: u32,
     number: u64,
-    room: &mut WalkRoom,
-    mark: &mut EndMark,
-    label: &mut Label,
-    versions: &mut Versions,
+    packet: &[u8],
+    room: WalkRoom,
+    walked: &mut WalkedSlot,
     out: &mut Vec<u8>,
     gate: &G,
-) -> Result<(), OutOfMemory>
+) -> Result<WalkRoom, OutOfMemory>
     requires nodes { All (λ hop. node_of hop < viewer.old.plan.nodes) hops.now }
-    requires few { length versions.old + length hops.now ≤ 16 }
-    requires number { k + length hops.now ≤ 17 }
-    ensures ok { OnOk result (HasWalked viewer.old.plan k hops.now carrier out.old.items viewer.old.seen viewer.new.seen versions.old versions.new (ended mark.new label.new) out.new.items) }
+    requires few { length hops.now ≤ 16 }
+    requires fresh { (walked.old.versions ≡ []) × (out.old.items ≡ []) }
+    ensures ok { OnOk result (HasWalked viewer.old.plan 1 hops.now Unlabelled packet.now viewer.old.seen viewer.new.seen [] walked.new.versions walked.new.end out.new.items) }
     ensures kept { (viewer.new.board ≡ viewer.old.board) × (viewer.new.plan ≡ viewer.old.plan) }
     ensures seen { viewer.old.seen ≤ viewer.new.seen }
 {
-    let [hop, behind @ ..] = hops else {
-        *mark = EndMark::Sent { carrier };
-        return Ok(());
-    };
-    gate.before_look(worker, number, k);
-    let given = judge_at(viewer, hop, room, label, out)?;
-    versions.push(viewer.seen());
-    match given {
-        Given::Goes { carrier } => walk_hops(
-            viewer,
-            behind,
-            k + 1,
-            carrier,
-            worker,
-            number,
-            room,
-            mark,
-            label,
-            versions,
-            out,
-            gate,
-        ),
-        Given::Arrives { receiver } => {
-            *mark = EndMark::Delivered { receiver };
-            Ok(())
+    let mut lent = room.lent;
+    let mut carrier = Carrier::Unlabelled;
+    let mut at = 0;
+    while at < hops.len() {
+        let k = at as u32 + 1;
+        gate.before_look(worker, number, k);
+        lent = judge_at(viewer, &hops[at], coming(at, packet, out), lent)?;
+        walked.judged_under(viewer.seen());
+        match lent.given {
+            Given::Goes { carrier: next } => carrier = next,
+            Given::Arrives { receiver } => {
+                walked.deliver(&lent.labels.local, receiver);
+                leave(at, packet, out)?;
+                return Ok(WalkRoom { lent });
+            }
+            Given::Denied { denial } => {
+                walked.deny(k, denial);
+                out.clear();
+                return Ok(WalkRoom { lent });
+            }
+            Given::OutOfMemory => return Err(OutOfMemory),
         }
-        Given::Denied { denial } => {
-            *mark = EndMark::Denied { hop: k, denial };
-            Ok(())
-        }
-        Given::OutOfMemory => Err(OutOfMemory),
+        mem::swap(out, &mut lent.octets);
+        at += 1;
     }
+    walked.send(carrier);
+    leave(at, packet, out)?;
+    Ok(WalkRoom { lent })
+}
+
+// The packet as it comes behind so many hops.
+fn coming<'a>(hops: usize, packet: &'a [u8], out: &'a Vec<u8>) -> &'a [u8]
+    ensures { result.now ≡ octets_behind hops packet.now out.now.items }
+{
+    if hops == 0 { packet } else { out.as_slice() }
+}
+
+// Leaves in `out` the packet as it comes behind so many hops.
+fn leave(hops: usize, packet: &[u8], out: &mut Vec<u8>) -> Result<(), OutOfMemory>
+    requires { hops ≡ 0 → out.old.items ≡ [] }
+    ensures { OnOk result (out.new.items ≡ octets_behind hops packet.now out.old.items) }
+{
+    if hops == 0 && out.extend_from_slice(packet).is_err() {
+        return Err(OutOfMemory);
+    }
+    Ok(())
 }

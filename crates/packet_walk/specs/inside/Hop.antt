@@ -1,5 +1,5 @@
 -- What the code answers at one hop.
-use Rattle.std.specs.Prelude.{◌≡◌, ℕ, ◌≤◌, List, [], length, Result, Ok, Err}
+use Rattle.std.specs.Prelude.{◌≡◌, ℕ, ◌≤◌, List, length, Result, Ok, Err}
 use Rattle.mls_label.specs.declared.label.Label.{Label}
 use Rattle.ip_headers.specs.Packet.{ParsedPacket}
 use Rattle.ip_headers.specs.Written.{packet_octets}
@@ -19,13 +19,13 @@ use Rattle.packet_walk.specs.Walk.{Passage, goes_on, arrives, hop_verdict}
 abbrev pub ReadsBack : ParsedPacket Wire → Type 0
 ReadsBack packet = (read : Result (ParsedPacket Wire) CarryFault) → IsReadAs (packet_octets (written packet)) read → IsNext packet read
 
--- a verdict, as it is answered with a label and octets; where the packet is delivered these are the ones that came
-abbrev pub Answered : Result Passage Denial → Given → Label → List ℕ → List ℕ → Type 0
-Answered verdict (Goes carrier) label came out =
+-- a verdict, as it is answered with a label and the octets of a packet that goes on
+abbrev pub Answered : Result Passage Denial → Given → Label → List ℕ → Type 0
+Answered verdict (Goes carrier) label out =
     (packet : ParsedPacket Wire) × (verdict ≡ Ok (goes_on carrier packet)) × (out ≡ packet_octets (written packet)) × ReadsBack packet × (length out ≤ 65575)
-Answered verdict (Arrives receiver) label came out = (verdict ≡ Ok (arrives (record { label = label; receiver = receiver }))) × (out ≡ came)
-Answered verdict (Denied why) label came out = (verdict ≡ Err why) × (out ≡ [])
-Answered verdict OutOfMemory label came out = out ≡ []
+Answered verdict (Arrives receiver) label out = verdict ≡ Ok (arrives (record { label = label; receiver = receiver }))
+Answered verdict (Denied why) label out = verdict ≡ Err why
+Answered verdict OutOfMemory label out = Unit {0}
 
 -- the answer of a call that writes no packet
 abbrev pub stopped_as : Stop → Given
@@ -34,13 +34,13 @@ stopped_as stop.OutOfMemory = OutOfMemory
 
 -- the verdict on what is read of the octets, as it is answered
 pub record AnsweredOf (octets : List ℕ) (verdict : Result (ParsedPacket Wire) CarryFault → Result Passage Denial) (given : Given) (label : Label)
-    (came out : List ℕ) : Type 0 where
+    (out : List ℕ) : Type 0 where
   pub read : Result (ParsedPacket Wire) CarryFault
   pub reads : IsReadAs octets read
-  pub answered : Answered (verdict read) given label came out
+  pub answered : Answered (verdict read) given label out
 
 -- one hop was judged under version `now`, by one who had seen version `seen` before
-pub record HasJudged (plan : PlanState) (seen now : ℕ) (hop : Hop) (octets : List ℕ) (given : Given) (label : Label) (came out : List ℕ) : Type 0 where
+pub record HasJudged (plan : PlanState) (seen now : ℕ) (hop : Hop) (octets : List ℕ) (given : Given) (label : Label) (out : List ℕ) : Type 0 where
   pub later : seen ≤ now
   pub within : now ≤ length plan.steps
-  pub gave : AnsweredOf octets (hop_verdict (network_after plan now) hop octets) given label came out
+  pub gave : AnsweredOf octets (hop_verdict (network_after plan now) hop octets) given label out

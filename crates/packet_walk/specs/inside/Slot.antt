@@ -1,20 +1,13 @@
--- How a walk ended, and the place in which it stands.
+-- The place in which stands how a walk ended.
 use Rattle.std.specs.Prelude.{Bool, true, false}
-use Rattle.mls_label.specs.declared.label.Label.{Label}
 use Rattle.packet_walk.specs.declared.walked.End.{End}
 use Rattle.packet_walk.specs.declared.walked.End.TheVariants as the_end
 use Rattle.packet_walk.specs.declared.slot.EndMark.{EndMark}
 use Rattle.packet_walk.specs.declared.slot.EndMark.TheVariants.{Delivered, Sent, Denied}
 
--- with a label
-abbrev pub ended : EndMark → Label → End
-ended (Delivered receiver) label = the_end.Delivered label receiver
-ended (Sent carrier) label = the_end.Sent carrier
-ended (Denied hop denial) label = the_end.Denied hop denial
-
 -- with the room of a delivery beside it
 abbrev pub end_shown : EndMark → End → End
-end_shown (Delivered receiver) room = room
+end_shown Delivered room = room
 end_shown (Sent carrier) room = the_end.Sent carrier
 end_shown (Denied hop denial) room = the_end.Denied hop denial
 

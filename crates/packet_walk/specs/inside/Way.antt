@@ -1,5 +1,5 @@
 -- What the code has of a walk that goes on.
-use Rattle.std.specs.Prelude.{◌≡◌, ◌⊎◌, ℕ, ◌≤◌, List, ◌++◌, length, Result, All}
+use Rattle.std.specs.Prelude.{◌≡◌, ◌⊎◌, ℕ, zero, suc, ◌≤◌, List, ◌++◌, length, Result, All}
 use Rattle.ip_headers.specs.Packet.{ParsedPacket}
 use Rattle.packet_label.specs.declared.denial.Carrier.{Carrier}
 use Rattle.packet_label.specs.declared.fault.CarryFault.{CarryFault}
@@ -9,6 +9,11 @@ use Rattle.flow_lines.specs.declared.hop.Hop.{Hop}
 use Rattle.shared_tables.specs.Plan.{PlanState}
 use Rattle.packet_walk.specs.declared.walked.End.{End}
 use Rattle.packet_walk.specs.Walk.{Coming, octets_in, carrier_in, IsReadFrom, IsWalk, Rises}
+
+-- the octets of a packet behind so many hops, each of which wrote it
+abbrev pub octets_behind : ℕ → List ℕ → List ℕ → List ℕ
+octets_behind zero packet out = packet
+octets_behind (suc hops) packet out = out
 
 -- it comes so, with these octets, which are read as it is
 pub record Comes (coming : Coming) (carrier : Carrier) (octets : List ℕ) : Type 0 where

@@ -1,0 +1,38 @@
+use Rattle.std.proofs.Common.{◌+◌, length, arith, ap, ◌∙◌}
+use Rattle.std.proofs.lemmas.List.{length-append}
+use Rattle.packet_walk.proofs.Walks.{behind_more, goes_more, goes_here, goes_denied, goes_out}
+use Rattle.packet_walk.proofs.walking.walk_hops.Goals as goal
+
+pub returns-in-Arrives-clause-ok : goal.returns-in-Arrives-clause-ok
+returns-in-Arrives-clause-ok g c =
+    let h = c.loop-at.invariant in
+    let judged = rw (h.plan, c.coming.ensures, rw c.deref.ensures at c.in-Arrives.is) at c.in_ok-lent.ensures.ok in
+    rw (c.deliver.ensures, c.deref-in-Arrives.ensures, c.judged_under.ensures, c.seen.ensures)
+    (goes_here _ _ _ _ _ _ _ _ _ h.goes _ _ _ _ _ _ c.loop-at-test.true c.index-hops-at.is judged c.in_ok-leave-in-Arrives.ensures)
+
+pub returns-in-Denied-clause-ok : goal.returns-in-Denied-clause-ok
+returns-in-Denied-clause-ok g c =
+    let h = c.loop-at.invariant in
+    let judged = rw (h.plan, c.coming.ensures, rw c.deref.ensures at c.in-Denied.is) at c.in_ok-lent.ensures.ok in
+    rw (c.deny.ensures, c.judged_under.ensures, c.seen.ensures, c.clear.ensures.items)
+    (goes_denied _ _ _ _ _ _ _ _ _ h.goes _ _ _ _ _ c.loop-at-test.true c.index-hops-at.is judged)
+
+pub loop-at-preserved : goal.loop-at-preserved
+loop-at-preserved g c =
+    let h = c.loop-at.invariant in
+    let judged = rw (h.plan, c.coming.ensures, rw c.deref.ensures at c.in-Goes.is) at c.in_ok-lent.ensures.ok in
+    record {
+      inside = omega (arith, c.loop-at-test.true);
+      versions = ap length c.judged_under.ensures ∙ length-append _ _ ∙ ap (λ n. n + 1) h.versions;
+      board = c.in_ok-lent.ensures.kept.0 ∙ h.board;
+      plan = c.in_ok-lent.ensures.kept.1 ∙ h.plan;
+      seen = omega (arith, h.seen, judged.later);
+      fresh = λ none. absurd (omega (arith, none));
+      goes = rw (behind_more c.loop-at.at c.args.packet.now c.swap.new.x.items, c.judged_under.ensures, c.seen.ensures, c.swap.ensures.x_after, c.deref_mut.ensures.value)
+          (goes_more _ _ _ _ _ _ _ _ _ h.goes _ _ _ _ _ c.loop-at-test.true c.index-hops-at.is judged);
+    }
+
+pub returns-clause-ok : goal.returns-clause-ok
+returns-clause-ok g c =
+    let h = c.loop-at.invariant in
+    rw c.send.ensures (goes_out _ _ _ _ _ _ _ _ _ h.goes _ c.loop-at-test.false c.in_ok-leave.ensures)
