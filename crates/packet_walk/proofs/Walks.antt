@@ -1,8 +1,8 @@
 -- A walk that goes on by one hop, and what was written is read back.
-use Rattle.std.proofs.Common.{◌≡◌, ◌⊎◌, inl, inr, ℕ, suc, ◌+◌, ◌<◌, ◌≤◌, Bool, true, false, List, [], ◌∷◌, ◌++◌, length, drop, get_or, arith, Some, slice_get, unwrap_or, MatchBool, Result, Ok, Err, refl, sym, ap, ◌∙◌, subst, le_refl, le_trans, append-nil}
+use Rattle.std.proofs.Common.{◌≡◌, ◌⊎◌, inl, inr, ℕ, suc, ◌+◌, ◌<◌, ◌≤◌, Bool, true, false, List, [], ◌∷◌, ◌++◌, length, drop, take, get_or, arith, Some, slice_get, unwrap_or, MatchBool, Result, Ok, Err, refl, sym, ap, ◌∙◌, subst, le_refl, le_trans, append-nil}
 use Rattle.std.proofs.Math.Numerals.{suc-eq-add-one}
 use Rattle.std.proofs.Math.Seq.{drop-cons}
-use Rattle.std.proofs.lemmas.List.{length-drop}
+use Rattle.std.proofs.lemmas.List.{length-append, length-drop, length-take-le, take_all}
 use Rattle.std.proofs.lemmas.List.Elements.{All-cons, All-nil}
 use Rattle.mls_label.specs.declared.label.Label.{Label}
 use Rattle.address_text.specs.declared.address.Address.{Address}
@@ -112,6 +112,13 @@ module _ (plan : PlanState) (k : ℕ) (hop : Hop) (hops : List Hop) (carrier : C
         let verdict = ap (λ os. hop_verdict (network_after plan mid) hop os judged.gave.read) (sym comes.octets_are) ∙ judged.gave.answered in
         (judged.gave.read, comes.reads judged.gave.read judged.gave.reads, rw verdict (refl, refl, refl));
   }
+
+-- a version that is put at a place is the last one
+pub put_length : (vs : List ℕ) (at v : ℕ) → at ≤ length vs → length (take at vs ++ v ∷ []) ≡ at + 1
+put_length vs at v within = length-append (take at vs) (v ∷ []) ∙ ap (λ n. n + 1) (length-take-le at vs within)
+
+pub put_all : (vs : List ℕ) (at v : ℕ) → at ≤ length vs → take (at + 1) (take at vs ++ v ∷ []) ≡ take at vs ++ v ∷ []
+put_all vs at v within = take_all (at + 1) (take at vs ++ v ∷ []) (omega (arith, put_length vs at v within))
 
 -- the packet as it comes behind one hop more is what that hop wrote
 pub behind_more : (hops : ℕ) (packet out : List ℕ) → octets_behind (hops + 1) packet out ≡ out

@@ -1,6 +1,6 @@
 //! A place that is filled for one packet after another.
 
-ghost use Rattle.std.specs.Prelude.{◌≡◌, ◌<◌, [], ◌∷◌, ◌++◌, length};
+ghost use Rattle.std.specs.Prelude.{◌≡◌, ◌<◌, ◌≤◌, [], ◌∷◌, ◌++◌, length, take};
 ghost use Rattle.packet_label.specs.declared.denial.Denial.TheVariants.{NotIp};
 ghost use Rattle.packet_walk.specs.declared.walked.End.TheVariants.{Delivered, Sent, Denied};
 
@@ -62,15 +62,23 @@ impl WalkedSlot {
     pub(crate) fn begin(&mut self)
         ensures { self.new.versions ≡ [] }
     {
-        self.delivery.versions.clear();
+        self.delivery.versions.keep(0);
     }
 
-    // The next hop judged it under this version.
-    pub(crate) fn judged_under(&mut self, version: u32)
-        requires { length self.old.versions < 16 }
-        ensures { self.new.versions ≡ self.old.versions ++ version ∷ [] }
+    // The next hop behind so many judged it under this version.
+    pub(crate) fn judged_under(&mut self, hops: usize, version: u32)
+        requires { (hops < 16) × (hops ≤ length self.old.versions) }
+        ensures { self.new.versions ≡ take hops self.old.versions ++ version ∷ [] }
     {
-        self.delivery.versions.push(version);
+        self.delivery.versions.put(hops, version);
+    }
+
+    // Only so many hops judged it.
+    pub(crate) fn judged_by(&mut self, hops: usize)
+        requires { hops ≤ length self.old.versions }
+        ensures { self.new ≡ record self.old { versions = take hops self.old.versions } }
+    {
+        self.delivery.versions.keep(hops);
     }
 
     pub(crate) fn deliver(&mut self, label: &Label, receiver: Address)

@@ -1,6 +1,6 @@
 //! What became of a packet.
 
-ghost use Rattle.std.specs.Prelude.{◌≡◌, ◌<◌, [], ◌∷◌, ◌++◌, length};
+ghost use Rattle.std.specs.Prelude.{◌≡◌, ◌<◌, ◌≤◌, [], ◌∷◌, ◌++◌, length, take};
 
 use address_text::Address;
 use mls_label::Label;
@@ -68,17 +68,20 @@ impl Versions {
         self.count = from.count;
     }
 
-    pub(crate) fn clear(&mut self)
-        ensures { self.new ≡ [] }
+    // The first ones stay.
+    pub(crate) fn keep(&mut self, count: usize)
+        requires { count ≤ length self.old }
+        ensures { self.new ≡ take count self.old }
     {
-        self.count = 0;
+        self.count = count;
     }
 
-    pub(crate) fn push(&mut self, version: u32)
-        requires { length self.old < 16 }
-        ensures { self.new ≡ self.old ++ version ∷ [] }
+    // The ones in front of this place stay.
+    pub(crate) fn put(&mut self, place: usize, version: u32)
+        requires { (place < 16) × (place ≤ length self.old) }
+        ensures { self.new ≡ take place self.old ++ version ∷ [] }
     {
-        self.places[self.count] = version;
-        self.count += 1;
+        self.places[place] = version;
+        self.count = place + 1;
     }
 }

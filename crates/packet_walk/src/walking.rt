@@ -76,10 +76,10 @@ pub fn walk_into<G: Gate>(
     ensures seen { viewer.old.seen ≤ viewer.new.seen }
     ensures err { OnErr result (out.new.items ≡ []) }
 {
-    out.clear();
-    walked.begin();
     if !packet.is_ip {
+        walked.begin();
         walked.deny(0, Denial::NotIp);
+        out.clear();
         return Ok(room);
     }
     let octets = packet.bytes.as_slice();
@@ -94,6 +94,8 @@ pub fn walk_into<G: Gate>(
 }
 
 // The hops one after the other. The first one reads the packet as it comes in, each further one what the hop in front left in `out`.
+// Until the first look `walked` and `out` are left alone, with what the packet before left there: the look's atomic addition would wait
+// for their cache lines.
 fn walk_hops<G: Gate>(
     viewer: &mut Viewer,
     hops: &[Hop],
@@ -107,7 +109,6 @@ fn walk_hops<G: Gate>(
 ) -> Result<WalkRoom, OutOfMemory>
     requires nodes { All (λ hop. node_of hop < viewer.old.plan.nodes) hops.now }
     requires few { length hops.now ≤ 16 }
-    requires fresh { (walked.old.versions ≡ []) × (out.old.items ≡ []) }
     ensures ok { OnOk result (HasWalked viewer.old.plan 1 hops.now Unlabelled packet.now viewer.old.seen viewer.new.seen [] walked.new.versions walked.new.end out.new.items) }
     ensures kept { (viewer.new.board ≡ viewer.old.board) × (viewer.new.plan ≡ viewer.old.plan) }
     ensures seen { viewer.old.seen ≤ viewer.new.seen }
@@ -119,7 +120,7 @@ fn walk_hops<G: Gate>(
         let k = at as u32 + 1;
         gate.before_look(worker, number, k);
         lent = judge_at(viewer, &hops[at], coming(at, packet, out), lent)?;
-        walked.judged_under(viewer.seen());
+        walked.judged_under(at, viewer.seen());
         match lent.given {
             Given::Goes { carrier: next } => carrier = next,
             Given::Arrives { receiver } => {
@@ -137,6 +138,7 @@ fn walk_hops<G: Gate>(
         mem::swap(out, &mut lent.octets);
         at += 1;
     }
+    walked.judged_by(at);
     walked.send(carrier);
     leave(at, packet, out)?;
     Ok(WalkRoom { lent })
@@ -151,11 +153,13 @@ fn coming<'a>(hops: usize, packet: &'a [u8], out: &'a Vec<u8>) -> &'a [u8]
 
 // Leaves in `out` the packet as it comes behind so many hops.
 fn leave(hops: usize, packet: &[u8], out: &mut Vec<u8>) -> Result<(), OutOfMemory>
-    requires { hops ≡ 0 → out.old.items ≡ [] }
     ensures { OnOk result (out.new.items ≡ octets_behind hops packet.now out.old.items) }
 {
-    if hops == 0 && out.extend_from_slice(packet).is_err() {
-        return Err(OutOfMemory);
+    if hops == 0 {
+        out.clear();
+        if out.extend_from_slice(packet).is_err() {
+            return Err(OutOfMemory);
+        }
     }
     Ok(())
 }

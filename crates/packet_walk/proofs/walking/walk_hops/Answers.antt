@@ -1,6 +1,5 @@
-use Rattle.std.proofs.Common.{◌+◌, length, arith, ap, ◌∙◌}
-use Rattle.std.proofs.lemmas.List.{length-append}
-use Rattle.packet_walk.proofs.Walks.{behind_more, goes_more, goes_here, goes_denied, goes_out}
+use Rattle.std.proofs.Common.{length, arith, ap, ◌∙◌}
+use Rattle.packet_walk.proofs.Walks.{behind_more, goes_more, goes_here, goes_denied, goes_out, put_length, put_all}
 use Rattle.packet_walk.proofs.walking.walk_hops.Goals as goal
 
 pub returns-in-Arrives-clause-ok : goal.returns-in-Arrives-clause-ok
@@ -23,16 +22,15 @@ loop-at-preserved g c =
     let judged = rw (h.plan, c.coming.ensures, rw c.deref.ensures at c.in-Goes.is) at c.in_ok-lent.ensures.ok in
     record {
       inside = omega (arith, c.loop-at-test.true);
-      versions = ap length c.judged_under.ensures ∙ length-append _ _ ∙ ap (λ n. n + 1) h.versions;
+      versions = omega (arith, ap length c.judged_under.ensures, put_length c.loop-at.walked.versions c.loop-at.at c.seen.result h.versions);
       board = c.in_ok-lent.ensures.kept.0 ∙ h.board;
       plan = c.in_ok-lent.ensures.kept.1 ∙ h.plan;
       seen = omega (arith, h.seen, judged.later);
-      fresh = λ none. absurd (omega (arith, none));
-      goes = rw (behind_more c.loop-at.at c.args.packet.now c.swap.new.x.items, c.judged_under.ensures, c.seen.ensures, c.swap.ensures.x_after, c.deref_mut.ensures.value)
+      goes = rw (behind_more c.loop-at.at c.args.packet.now c.swap.new.x.items, c.judged_under.ensures, put_all c.loop-at.walked.versions c.loop-at.at c.seen.result h.versions, c.seen.ensures, c.swap.ensures.x_after, c.deref_mut.ensures.value)
           (goes_more _ _ _ _ _ _ _ _ _ h.goes _ _ _ _ _ c.loop-at-test.true c.index-hops-at.is judged);
     }
 
 pub returns-clause-ok : goal.returns-clause-ok
 returns-clause-ok g c =
     let h = c.loop-at.invariant in
-    rw c.send.ensures (goes_out _ _ _ _ _ _ _ _ _ h.goes _ c.loop-at-test.false c.in_ok-leave.ensures)
+    rw (c.send.ensures, c.judged_by.ensures) (goes_out _ _ _ _ _ _ _ _ _ h.goes _ c.loop-at-test.false c.in_ok-leave.ensures)

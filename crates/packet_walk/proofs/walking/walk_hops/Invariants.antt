@@ -1,4 +1,4 @@
-use Rattle.std.proofs.Common.{◌≡◌, ◌-◌, ◌≤◌, [], length}
+use Rattle.std.proofs.Common.{◌≡◌, ◌-◌, ◌≤◌, length, take}
 use Rattle.packet_walk.specs.inside.Way.{octets_behind}
 use Rattle.packet_walk.proofs.Walks.{GoesOn}
 use Rattle.packet_walk.proofs.walking.walk_hops.Given as goal
@@ -6,12 +6,11 @@ use Rattle.packet_walk.proofs.walking.walk_hops.Given as goal
 abbrev pub invariant-loop-at : goal.invariant-loop-at
 invariant-loop-at g l = record {
   inside : l.at ≤ length l.hops;
-  versions : length l.walked.versions ≡ l.at;
+  versions : l.at ≤ length l.walked.versions;
   board : l.viewer.board ≡ l.fn.viewer.board;
   plan : l.viewer.plan ≡ l.fn.viewer.plan;
   seen : l.fn.viewer.seen ≤ l.viewer.seen;
-  fresh : l.at ≡ 0 → l.out.items ≡ [];
-  goes : GoesOn l.fn.viewer.plan l.hops l.packet l.fn.viewer.seen l.at l.carrier (octets_behind l.at l.packet l.out.items) l.viewer.seen l.walked.versions;
+  goes : GoesOn l.fn.viewer.plan l.hops l.packet l.fn.viewer.seen l.at l.carrier (octets_behind l.at l.packet l.out.items) l.viewer.seen (take l.at l.walked.versions);
 }
 
 abbrev pub decreases-loop-at : goal.decreases-loop-at
