@@ -94,7 +94,7 @@ pub fn walk_into<G: Gate>(
 }
 
 // The hops one after the other. The first one reads the packet as it comes in, each further one what the hop in front left in `out`.
-// Until the first look `walked` and `out` are left alone, with what the packet before left there: the look's atomic addition would wait
+// Until the first look `walked` and `out` are left alone, with what the packet before left there: the atomic addition of a look would wait
 // for their cache lines.
 fn walk_hops<G: Gate>(
     viewer: &mut Viewer,
