@@ -10,7 +10,7 @@ use Rattle.net_io.specs.Sink.{SinkState, WritesPrefix, WritesLess}
 use Rattle.call_report.specs.declared.status.Status.{Status}
 use Rattle.call_report.specs.declared.status.Status.TheVariants.{OutOfMemory}
 use Rattle.call_report.specs.Numbers.{write_status}
-use Rattle.call_report.specs.Printing.{Goes, Breaks, HandsOn, IsUnderWay, Printed}
+use Rattle.call_report.specs.Printing.{Goes, Breaks, HandsOn, IsUnderWay, Printed, EndsInLine}
 
 -- ---- beginnings
 
@@ -106,6 +106,11 @@ module _ (text waits : List ℕ) (a b : SinkState) (way : IsUnderWay text waits 
       ∙ append_assoc a.written way.goes.sent (waits ++ last)
       ∙ ap (λ x. a.written ++ x) (rest_is last)
 
+  line_more : (last : List ℕ) (c : SinkState) → (IsTrue b.tells → EndsInLine waits last b.written c.written) → IsTrue a.tells → EndsInLine text last a.written c.written
+  line_more last c ends told =
+      let here = ends (subst IsTrue (sym way.told) told) in
+      record { count = here.count; within = here.within; written = all_more (take here.count last) c (λ t. here.written) told }
+
   -- the report's end behind its beginning
   pub a_report_is_printed : (last : List ℕ) (due status : Status) (c : SinkState) → Printed waits last due status b c → Printed text last due status a c
   a_report_is_printed last due status c printed = record {
@@ -116,7 +121,7 @@ module _ (text waits : List ℕ) (a b : SinkState) (way : IsUnderWay text waits 
         | inl memory ↦ inr (inl (memory.0, memory.1 ∙ way.faults, prefix_more last c memory.2))
         | inr failed ↦ elim failed [
           | inl body ↦ inr (inr (inl (body.0, rose_behind c body.1, breaks_behind waits text c way.goes.all body.2)))
-          | inr line ↦ inr (inr (inr (line.0, rose_behind c line.1, line.2, prefix_more last c line.3)))
+          | inr line ↦ inr (inr (inr (line.0, rose_behind c line.1, line.2, line_more last c line.3)))
         ]
       ]
     ];

@@ -1,5 +1,5 @@
 -- How text is handed to a stream through what waits, and how a report ends.
-use Rattle.std.specs.Prelude.{ℕ, ◌≡◌, ◌⊎◌, ◌<◌, ◌++◌, IsTrue, List, length, Result, OnOk, OnErr}
+use Rattle.std.specs.Prelude.{ℕ, ◌≡◌, ◌⊎◌, ◌<◌, ◌++◌, IsTrue, List, length, take, Result, OnOk, OnErr}
 use Rattle.net_io.specs.declared.fault.IoFault.{IoFault}
 use Rattle.net_io.specs.declared.fault.IoFault.TheVariants.{Failed}
 use Rattle.net_io.specs.Faults.{Counts, Rose}
@@ -17,6 +17,12 @@ pub record Goes (text waiting : List ℕ) (before after : SinkState) : Type 0 wh
 pub record Breaks (text : List ℕ) (before after : SinkState) : Type 0 where
   pub some : 0 < length text
   pub written : IsTrue before.tells → WritesLess text before.written after.written
+
+-- All of a body was written, and of the line behind it some first octets, and not all.
+pub record EndsInLine (body line old new : List ℕ) : Type 0 where
+  pub count : ℕ
+  pub within : count < length line
+  pub written : new ≡ old ++ (body ++ take count line)
 
 -- A text was handed on behind what waits: what was sent with what waits now is all of it; after a failure a beginning was sent.
 pub record HandsOn {T : Type 0} (text waiting waiting' : List ℕ) (result : Result T IoFault) (before after : SinkState) : Type 0 where
@@ -39,4 +45,4 @@ pub record Printed (body last : List ℕ) (due status : Status) (before after : 
       ((status ≡ due) × (after.faults ≡ before.faults) × (IsTrue before.tells → after.written ≡ before.written ++ (body ++ last)))
       ⊎ ((status ≡ OutOfMemory) × (after.faults ≡ before.faults) × (IsTrue before.tells → WritesPrefix (body ++ last) before.written after.written))
       ⊎ ((status ≡ WriteFault) × Rose before.faults after.faults × Breaks body before after)
-      ⊎ ((status ≡ due) × Rose before.faults after.faults × (0 < length last) × (IsTrue before.tells → WritesPrefix (body ++ last) before.written after.written))
+      ⊎ ((status ≡ due) × Rose before.faults after.faults × (0 < length last) × (IsTrue before.tells → EndsInLine body last before.written after.written))

@@ -10,6 +10,8 @@ use Rattle.command_forms.specs.declared.command.Command.{Command}
 use Rattle.line_forms.specs.Form.{Edition, with_translations, form_of, line_rows}
 use Rattle.line_forms.specs.Said.{is_complete, read_said}
 use Rattle.command_forms.specs.Command.{command_of, said_of, texts_of_said, command_text, IsCommand}
+use Rattle.command_forms.specs.Bounded.{IsBounded}
+use Rattle.command_forms.proofs.Bounded.{command_bounded}
 use Rattle.command_forms.proofs.Complete.{complete_makes}
 use Rattle.command_forms.proofs.Commands.{command_of-said_of}
 use Rattle.command_forms.proofs.Dark.{written_plain, written_words}
@@ -31,3 +33,6 @@ written_command_is_plain = written_plain
 pub written_command_has_its_words : (blanks : List ℕ) (command : Command) → All (λ octet. IsTrue (is_blank octet)) blanks → IsCommand command
     → words_of_line (blanks ++ command_text command) ≡ placed (length blanks) (texts_of_said (said_of command))
 written_command_has_its_words = written_words
+
+pub commands_are_bounded : (command : Command) → IsCommand command → IsBounded command
+commands_are_bounded = command_bounded

@@ -4,4 +4,5 @@ pub mod Complete
 pub mod Joined
 pub mod Dark
 pub mod Returned
+pub mod Bounded
 pub mod Law

@@ -1,3 +1,4 @@
 pub mod Value
 pub mod Command
+pub mod Bounded
 pub mod inside

@@ -10,6 +10,7 @@ ghost use Rattle.line_forms.specs.Form.{Edition, with_translations, form_of, lin
 ghost use Rattle.line_forms.specs.Said.{is_complete, read_said};
 ghost use Rattle.command_forms.specs.declared.command.Command.{Command as NodeCommand};
 ghost use Rattle.command_forms.specs.Command.{command_of, said_of, texts_of_said, command_text, IsCommand};
+ghost use Rattle.command_forms.specs.Bounded.{IsBounded};
 
 /// Where no parameter is missing, a row makes a command; a reading line alone makes none.
 pub fn complete_rows_are_commands()
@@ -39,4 +40,9 @@ pub fn written_command_is_plain()
 pub fn written_command_has_its_words()
     ensures { (blanks : List ℕ) (command : NodeCommand) → All (λ octet. IsTrue (is_blank octet)) blanks → IsCommand command
         → words_of_line (blanks ++ command_text command) ≡ placed (length blanks) (texts_of_said (said_of command)) }
+{}
+
+/// The numbers of a command whose parameters have values of their forms are within their bounds.
+pub fn commands_are_bounded()
+    ensures { (command : NodeCommand) → IsCommand command → IsBounded command }
 {}

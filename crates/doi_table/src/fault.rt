@@ -22,7 +22,7 @@ pub enum DoiFault {
     /// The protocol has 64 definitions.
     #[error("the protocol has 64 definitions")]
     Full,
-    /// Memory ran out; nothing else is wrong.
+    /// Memory ran out. Causes that are tested later may hold as well.
     #[error("out of memory")]
     OutOfMemory,
 }

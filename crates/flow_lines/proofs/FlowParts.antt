@@ -1,6 +1,6 @@
 -- What a flow's words say, one after another.
 use Rattle.std.proofs.Common.{◌≡◌, ℕ, Bool, true, false, cond, not, List, [], ◌∷◌, Option, Some, None, Result, Ok, Err, refl, subst, ◌∙◌}
-use Rattle.std.specs.Prelude.{codes}
+use Rattle.std.specs.Prelude.{codes, drop}
 use Rattle.std.specs.Str.{bytes_eq}
 use Rattle.std.proofs.lemmas.Option.{none-some, same_Some}
 use Rattle.script_lines.specs.declared.stop.ScriptKind.TheVariants as Kind
@@ -13,26 +13,25 @@ use Rattle.flow_lines.specs.FileName.{is_file_name}
 use Rattle.flow_lines.specs.Flow.{outputs_of, is_among, is_taken, read_input, read_output, read_route, read_behind_input, read_flow}
 use Rattle.flow_lines.proofs.Stops.{went, same_ok, not_ok}
 
-pub record FlowSaid (own : List ℕ) (nodes : List (List ℕ)) (flows : List FlowLine) (end : ℕ) (flow : FlowLine) : Type 0 where
+pub record FlowSaid (own : List ℕ) (nodes : List (List ℕ)) (flows : List FlowLine) (end : ℕ) (words : List LineWord) (flow : FlowLine) : Type 0 where
   pub first : LineWord
   pub second : LineWord
-  pub rest : List LineWord
   pub input : read_input flows first ≡ Ok flow.input
   pub output : read_output own flows flow.input second ≡ Ok flow.output
-  pub hops : read_route nodes end rest ≡ Ok flow.hops
+  pub hops : read_route nodes end (drop 2 words) ≡ Ok flow.hops
 
 said_behind : (own : List ℕ) (nodes : List (List ℕ)) (flows : List FlowLine) (before end : ℕ) (first : LineWord) (input : List ℕ) (words : List LineWord) (flow : FlowLine)
-    → read_input flows first ≡ Ok input → read_behind_input own nodes flows before end input words ≡ Ok flow → FlowSaid own nodes flows end flow
+    → read_input flows first ≡ Ok input → read_behind_input own nodes flows before end input words ≡ Ok flow → FlowSaid own nodes flows end (first ∷ words) flow
 said_behind own nodes flows before end first input [] flow is e = absurd (not_ok flow _ e)
 said_behind own nodes flows before end first input (word ∷ words) flow is e =
     let made = λ (output : Option (List ℕ)) (hops : List Hop). let f : FlowLine = record { input = input; output = output; hops = hops; before = before } in f in
     let output = went (read_output own flows input word) (λ o. and_next (read_route nodes end words) (λ hs. Ok (made o hs))) flow e in
     let hops = went (read_route nodes end words) (λ hs. Ok (made output.0 hs)) flow output.2 in
-    subst (FlowSaid own nodes flows end) (same_ok (made output.0 hops.0) flow hops.2)
-    (record { first = first; second = word; rest = words; input = is; output = output.1; hops = hops.1 })
+    subst (FlowSaid own nodes flows end (first ∷ word ∷ words)) (same_ok (made output.0 hops.0) flow hops.2)
+    (record { first = first; second = word; input = is; output = output.1; hops = hops.1 })
 
 pub flow_said : (own : List ℕ) (nodes : List (List ℕ)) (flows : List FlowLine) (before end : ℕ) (words : List LineWord) (flow : FlowLine)
-    → read_flow own nodes flows before end words ≡ Ok flow → FlowSaid own nodes flows end flow
+    → read_flow own nodes flows before end words ≡ Ok flow → FlowSaid own nodes flows end words flow
 unfolding read_flow
 flow_said own nodes flows before end [] flow e = absurd (not_ok flow _ e)
 flow_said own nodes flows before end (word ∷ words) flow e =

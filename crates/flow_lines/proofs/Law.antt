@@ -1,11 +1,11 @@
 -- The statements of the laws, as terms.
-use Rattle.std.proofs.Common.{◌≡◌, ℕ, ◌<◌, ◌≤◌, List, [], ◌∷◌, ◌++◌, length, Ok, Err, refl, All}
+use Rattle.std.proofs.Common.{◌≡◌, ℕ, ◌<◌, ◌≤◌, List, [], ◌∷◌, ◌++◌, length, drop, Ok, Err, refl, All}
 use Rattle.script_lines.specs.declared.stop.LineFault.{LineFault}
 use Rattle.script_lines.specs.declared.stop.LineStop.TheVariants as Stop
 use Rattle.script_lines.specs.Word.{LineWord}
 use Rattle.flow_lines.specs.declared.flow.FlowLine.{FlowLine}
 use Rattle.flow_lines.specs.Hop.{IsRoute, node_of}
-use Rattle.flow_lines.specs.Flow.{read_flow}
+use Rattle.flow_lines.specs.Flow.{read_route, read_flow}
 use Rattle.flow_lines.specs.Apart.{AreApart}
 use Rattle.flow_lines.proofs.FlowParts.{flow_said, input_is_no_output, output_is_free}
 use Rattle.flow_lines.proofs.Routes.{read_route_is, read_route_known}
@@ -15,12 +15,12 @@ use Rattle.flow_lines.proofs.Faults.{flow_within}
 pub hops_are_a_route : (own : List ℕ) (nodes : List (List ℕ)) (flows : List FlowLine) (before end : ℕ) (words : List LineWord) (flow : FlowLine)
     → read_flow own nodes flows before end words ≡ Ok flow → IsRoute flow.hops
 hops_are_a_route own nodes flows before end words flow e =
-    let said = flow_said own nodes flows before end words flow e in read_route_is nodes end said.rest flow.hops said.hops
+    let said = flow_said own nodes flows before end words flow e in read_route_is nodes end (drop 2 words) flow.hops said.hops
 
 pub hops_are_of_named_nodes : (own : List ℕ) (nodes : List (List ℕ)) (flows : List FlowLine) (before end : ℕ) (words : List LineWord) (flow : FlowLine)
     → read_flow own nodes flows before end words ≡ Ok flow → All (λ hop. node_of hop < length nodes) flow.hops
 hops_are_of_named_nodes own nodes flows before end words flow e =
-    let said = flow_said own nodes flows before end words flow e in read_route_known nodes end said.rest flow.hops said.hops
+    let said = flow_said own nodes flows before end words flow e in read_route_known nodes end (drop 2 words) flow.hops said.hops
 
 pub names_stay_apart : (own : List ℕ) (nodes : List (List ℕ)) (flows : List FlowLine) (before end : ℕ) (words : List LineWord) (flow : FlowLine)
     → AreApart own flows → read_flow own nodes flows before end words ≡ Ok flow → AreApart own (flows ++ flow ∷ [])
@@ -32,3 +32,7 @@ names_stay_apart own nodes flows before end words flow apart e =
 pub faults_stand_in_the_line : (own : List ℕ) (nodes : List (List ℕ)) (flows : List FlowLine) (before end : ℕ) (words : List LineWord) (found : LineFault)
     → All (λ word. word.at ≤ end) words → read_flow own nodes flows before end words ≡ Err (Stop.Fault found) → found.octet ≤ end
 faults_stand_in_the_line = flow_within
+
+pub hops_stand_behind_the_names : (own : List ℕ) (nodes : List (List ℕ)) (flows : List FlowLine) (before end : ℕ) (words : List LineWord) (flow : FlowLine)
+    → read_flow own nodes flows before end words ≡ Ok flow → read_route nodes end (drop 2 words) ≡ Ok flow.hops
+hops_stand_behind_the_names own nodes flows before end words flow e = (flow_said own nodes flows before end words flow e).hops

@@ -1,12 +1,12 @@
 //! What the definitions say of each other, for all lines.
 
-ghost use Rattle.std.specs.Prelude.{◌≡◌, ◌<◌, ◌≤◌, ℕ, List, [], ◌∷◌, ◌++◌, length, All, Ok, Err};
+ghost use Rattle.std.specs.Prelude.{◌≡◌, ◌<◌, ◌≤◌, ℕ, List, [], ◌∷◌, ◌++◌, length, drop, All, Ok, Err};
 ghost use Rattle.script_lines.specs.declared.stop.LineFault.{LineFault};
 ghost use Rattle.script_lines.specs.declared.stop.LineStop.TheVariants as Stop;
 ghost use Rattle.script_lines.specs.Word.{LineWord};
 ghost use Rattle.flow_lines.specs.declared.flow.FlowLine.{FlowLine};
 ghost use Rattle.flow_lines.specs.Hop.{IsRoute, node_of};
-ghost use Rattle.flow_lines.specs.Flow.{read_flow};
+ghost use Rattle.flow_lines.specs.Flow.{read_route, read_flow};
 ghost use Rattle.flow_lines.specs.Apart.{AreApart};
 
 /// A flow has 1 to 16 hops; only the first may send, and only the last receive.
@@ -31,4 +31,10 @@ pub fn names_stay_apart()
 pub fn faults_stand_in_the_line()
     ensures { (own : List ℕ) (nodes : List (List ℕ)) (flows : List FlowLine) (before end : ℕ) (words : List LineWord) (found : LineFault)
         → All (λ word. word.at ≤ end) words → read_flow own nodes flows before end words ≡ Err (Stop.Fault found) → found.octet ≤ end }
+{}
+
+/// The hops of a flow are what the words behind its two names say.
+pub fn hops_stand_behind_the_names()
+    ensures { (own : List ℕ) (nodes : List (List ℕ)) (flows : List FlowLine) (before end : ℕ) (words : List LineWord) (flow : FlowLine)
+        → read_flow own nodes flows before end words ≡ Ok flow → read_route nodes end (drop 2 words) ≡ Ok flow.hops }
 {}

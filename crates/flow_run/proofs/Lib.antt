@@ -6,3 +6,5 @@ pub mod Steps
 pub mod Beginnings
 pub mod Flown
 pub mod Ending
+pub mod NoFrame
+pub mod Law

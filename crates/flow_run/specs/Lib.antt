@@ -1,5 +1,6 @@
 pub mod Place
 pub mod Input
 pub mod Run
+pub mod Laws
 pub mod Ends
 pub mod inside

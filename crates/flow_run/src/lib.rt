@@ -6,6 +6,7 @@
 mod board;
 mod end;
 mod feed;
+pub mod laws;
 mod lines;
 mod output;
 mod run;

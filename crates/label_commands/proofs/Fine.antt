@@ -1,5 +1,5 @@
 -- What the lines of a script keep.
-use Rattle.std.proofs.Common.{◌≡◌, ◌⊎◌, ℕ, zero, suc, ◌+◌, ◌-◌, ◌<◌, ◌≤◌, List, [], ◌∷◌, ◌++◌, length, get_or, map, Option, Some, None, Result, Ok, Err, refl, sym, ap, subst, ◌∙◌, arith, All, AllPairs, unwrap_or, option_map, inl, inr}
+use Rattle.std.proofs.Common.{◌≡◌, ◌⊎◌, ℕ, zero, suc, ◌+◌, ◌-◌, ◌<◌, ◌≤◌, List, [], ◌∷◌, ◌++◌, length, get_or, Option, Some, None, Result, Ok, Err, refl, sym, ap, subst, ◌∙◌, arith, All, unwrap_or, option_map, inl, inr}
 use Rattle.std.specs.Prelude.{position}
 use Rattle.std.specs.Str.{bytes_eq}
 use Rattle.std.specs.List.{slice_get}
@@ -24,11 +24,9 @@ use Rattle.flow_lines.specs.Hop.{IsRoute, node_of}
 use Rattle.flow_lines.specs.Flow.{read_flow, read_input, read_output, read_route, read_behind_input}
 use Rattle.flow_lines.specs.Apart.{AreApart}
 use Rattle.flow_lines.proofs.Law.{hops_are_a_route, hops_are_of_named_nodes, names_stay_apart}
-use Rattle.label_commands.specs.declared.script.Script.{Script}
-use Rattle.label_commands.specs.declared.stop.ScriptStop.{ScriptStop}
-use Rattle.label_commands.specs.Above.{Above, nothing_above, at_number, at_node, with_step, with_reading, with_flow}
+use Rattle.label_commands.specs.Above.{Above, nothing_above, at_number, with_step, with_reading, with_flow}
 use Rattle.label_commands.specs.Line.{read_line}
-use Rattle.label_commands.specs.Script.{stop_at, read_lines, no_meanings, script_of}
+use Rattle.label_commands.specs.Script.{read_lines, no_meanings, script_of}
 use Rattle.label_commands.specs.Sound.{IsSoundScript}
 use Rattle.label_commands.proofs.Results.{same_ok, not_ok, went}
 use Rattle.label_commands.proofs.Adds.{Adds, nothing, a_node, a_step, a_reading, a_flow, line_adds}
@@ -195,12 +193,12 @@ module _ (own : List ℕ) (number : ℕ) (above : Above) (few : number ≤ 16384
         };
       }
 
-  line_fine : (next : Above) → Adds own above next → IsFine own (number + 1) next
-  line_fine next (nothing e) = subst (IsFine own (number + 1)) (sym e) later
-  line_fine next (a_node name room e) = subst (IsFine own (number + 1)) (sym e) (node_fine name (position (bytes_eq name) above.nodes) refl room)
-  line_fine next (a_step node command at e) = subst (IsFine own (number + 1)) (sym e) (step_fine node command at)
-  line_fine next (a_reading node named at e) = subst (IsFine own (number + 1)) (sym e) (reading_fine node named)
-  line_fine next (a_flow flow end words room is e) = subst (IsFine own (number + 1)) (sym e) (flow_fine flow end words room is)
+  line_fine : (edition : Edition) (next : Above) → Adds edition own above next → IsFine own (number + 1) next
+  line_fine edition next (nothing e) = subst (IsFine own (number + 1)) (sym e) later
+  line_fine edition next (a_node name room e) = subst (IsFine own (number + 1)) (sym e) (node_fine name (position (bytes_eq name) above.nodes) refl room)
+  line_fine edition next (a_step node command at bounded has e) = subst (IsFine own (number + 1)) (sym e) (step_fine node command at)
+  line_fine edition next (a_reading node named at reads e) = subst (IsFine own (number + 1)) (sym e) (reading_fine node named)
+  line_fine edition next (a_flow flow end words room is e) = subst (IsFine own (number + 1)) (sym e) (flow_fine flow end words room is)
 
 lines_fine : (edition : Edition) (own : List ℕ) (lines : List (List ℕ)) (above last : Above) (number : ℕ) → IsFine own number above → read_lines edition own above number lines ≡ Ok last
     → (n : ℕ) × IsFine own n last
@@ -208,7 +206,7 @@ lines_fine edition own [] above last number fine e = (number, subst (IsFine own 
 lines_fine edition own (line ∷ lines) above last number fine e =
     by_line (read_line edition own above number line) refl e
     (λ next is. let adds = line_adds edition own above next number line is in
-    lines_fine edition own lines next last (number + 1) (line_fine own number above adds.0 fine next adds.1)) where
+    lines_fine edition own lines next last (number + 1) (line_fine own number above adds.0 fine edition next adds.1)) where
       by_line : (r : Result Above LineStop) → read_line edition own above number line ≡ r → go_on edition own number lines r ≡ Ok last
           → ((next : Above) → read_line edition own above number line ≡ Ok next → read_lines edition own next (number + 1) lines ≡ Ok last → (n : ℕ) × IsFine own n last)
           → (n : ℕ) × IsFine own n last

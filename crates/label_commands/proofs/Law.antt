@@ -1,26 +1,30 @@
 -- The statements of the laws, as terms.
-use Rattle.std.proofs.Common.{◌≡◌, ℕ, ◌+◌, ◌≤◌, Bool, true, false, cond, List, [], ◌∷◌, ◌++◌, length, All, Result, Ok, Err, Some, subst, ltb}
+use Rattle.std.proofs.Common.{◌≡◌, ℕ, ◌+◌, ◌≤◌, List, [], ◌∷◌, ◌++◌, length, All, Ok, Err, Some, subst}
 use Rattle.std.specs.Prelude.{fold, IsTrue}
 use Rattle.std.specs.List.{flat_map}
 use Rattle.std.specs.Str.Lines.{lines}
-use Rattle.script_lines.specs.declared.stop.LimitName.TheVariants.{Octets, Lines}
+use Rattle.script_lines.specs.declared.stop.LimitName.TheVariants.{Lines}
 use Rattle.script_lines.specs.Octet.{is_blank}
 use Rattle.line_forms.specs.Form.{Edition, with_labels, with_ranges, with_translations}
 use Rattle.command_forms.specs.declared.command.Command.{Command}
+use Rattle.command_forms.specs.declared.command.Step.{Step}
 use Rattle.command_forms.specs.Command.{command_text, IsCommand}
 use Rattle.line_forms.proofs.Law.{lines_with_labels_are_kept, lines_with_ranges_are_kept}
+use Rattle.node_readings.specs.Reading.{IsReading}
 use Rattle.label_commands.specs.declared.script.Script.{Script}
 use Rattle.label_commands.specs.declared.stop.ScriptFault.{ScriptFault}
-use Rattle.label_commands.specs.declared.stop.ScriptStop.{ScriptStop}
 use Rattle.label_commands.specs.declared.stop.ScriptStop.TheVariants as Stop
 use Rattle.label_commands.specs.Above.{Above, nothing_above, with_step}
 use Rattle.label_commands.specs.Line.{limit_of, read_line}
-use Rattle.label_commands.specs.Script.{passed, read_lines, script_of, read_text, IsScript}
+use Rattle.label_commands.specs.Script.{read_lines, no_meanings, read_text, IsScript}
 use Rattle.label_commands.specs.Sound.{IsSoundScript, StandsInText}
+use Rattle.label_commands.specs.Bounded.{IsBoundedScript}
+use Rattle.label_commands.specs.Editions.{has_command}
 use Rattle.label_commands.proofs.Fine.{lines_sound}
 use Rattle.label_commands.proofs.Faults.{fault_stands}
 use Rattle.label_commands.proofs.Editions.{rows_kept, script_kept}
 use Rattle.label_commands.proofs.Texts.{text_went, text_fell}
+use Rattle.label_commands.proofs.Bounded.{no_meanings_read, text_bounded, text_has}
 use Rattle.label_commands.proofs.Written.{command_line, command_step, listing_steps}
 
 pub scripts_are_sound : (edition : Edition) (own text : List ℕ) (script : Script) → IsScript edition own text script → IsSoundScript own script
@@ -49,3 +53,12 @@ scripts_with_labels_are_kept = script_kept with_labels with_ranges (rows_kept wi
 
 pub scripts_with_ranges_are_kept : (own text : List ℕ) (script : Script) → IsScript with_ranges own text script → IsScript with_translations own text script
 scripts_with_ranges_are_kept = script_kept with_ranges with_translations (rows_kept with_ranges with_translations lines_with_ranges_are_kept)
+
+pub numbers_of_scripts_are_bounded : (edition : Edition) (own text : List ℕ) (script : Script) → IsScript edition own text script → IsBoundedScript script
+numbers_of_scripts_are_bounded = text_bounded
+
+pub no_meanings_are_a_reading : IsReading no_meanings
+no_meanings_are_a_reading = no_meanings_read
+
+pub commands_are_of_their_edition : (edition : Edition) (own text : List ℕ) (script : Script) → IsScript edition own text script → All (λ (step : Step). IsTrue (has_command edition step.command)) script.steps
+commands_are_of_their_edition = text_has

@@ -1,10 +1,15 @@
 pub mod Results
+pub mod Values
+pub mod Saids
+pub mod Early
 pub mod Adds
 pub mod Walk
 pub mod Fine
 pub mod Within
 pub mod Faults
 pub mod Texts
+pub mod Hops
+pub mod Bounded
 pub mod Editions
 pub mod Written
 pub mod Law

@@ -1,5 +1,5 @@
 -- Going over the lines of a text.
-use Rattle.std.proofs.Common.{◌≡◌, ℕ, ◌+◌, ◌≤◌, List, [], ◌∷◌, length, Option, Some, None, Result, Ok, Err, refl, sym, ap, ◌∙◌, arith}
+use Rattle.std.proofs.Common.{◌≡◌, ℕ, ◌+◌, ◌≤◌, List, ◌∷◌, length, Option, Some, None, Result, Ok, Err, refl, sym, ap, ◌∙◌, arith}
 use Rattle.std.specs.Prelude.{position}
 use Rattle.std.specs.Str.{bytes_eq}
 use Rattle.std.specs.Str.Lines.{lines}
@@ -42,11 +42,11 @@ count_is : (above next other : Above) → next ≡ other → other.steps ≡ abo
 count_is above next other e same = let count : length next.steps ≡ length above.steps = ap (λ (a : Above). length a.steps) e ∙ ap length same in omega (arith, count)
 
 -- a line has at most one step
-pub steps_grow : (own : List ℕ) (above next : Above) → Adds own above next → length next.steps ≤ length above.steps + 1
-steps_grow own above next (nothing e) = count_is above next above e refl
-steps_grow own above next (a_node name room e) = count_is above next (at_node above name) e (number_steps above name (position (bytes_eq name) above.nodes))
-steps_grow own above next (a_step node command at e) =
+pub steps_grow : (edition : Edition) (own : List ℕ) (above next : Above) → Adds edition own above next → length next.steps ≤ length above.steps + 1
+steps_grow edition own above next (nothing e) = count_is above next above e refl
+steps_grow edition own above next (a_node name room e) = count_is above next (at_node above name) e (number_steps above name (position (bytes_eq name) above.nodes))
+steps_grow edition own above next (a_step node command at bounded has e) =
     let step : Step = record { node = node; command = command } in
     let count : length next.steps ≡ length above.steps + 1 = ap (λ (a : Above). length a.steps) e ∙ length_push above.steps step in omega (arith, count)
-steps_grow own above next (a_reading node named at e) = count_is above next (with_reading above node named) e refl
-steps_grow own above next (a_flow flow end words room is e) = count_is above next (with_flow above flow) e refl
+steps_grow edition own above next (a_reading node named at reads e) = count_is above next (with_reading above node named) e refl
+steps_grow edition own above next (a_flow flow end words room is e) = count_is above next (with_flow above flow) e refl

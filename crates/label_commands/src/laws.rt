@@ -6,15 +6,19 @@ ghost use Rattle.std.specs.Str.Lines.{lines};
 ghost use Rattle.script_lines.specs.declared.stop.LimitName.TheVariants.{Lines};
 ghost use Rattle.script_lines.specs.Octet.{is_blank};
 ghost use Rattle.command_forms.specs.declared.command.Command.{Command as NodeCommand};
+ghost use Rattle.command_forms.specs.declared.command.Step.{Step as StepValue};
 ghost use Rattle.line_forms.specs.Form.{Edition, with_labels, with_ranges, with_translations};
 ghost use Rattle.command_forms.specs.Command.{command_text, IsCommand};
+ghost use Rattle.node_readings.specs.Reading.{IsReading};
 ghost use Rattle.label_commands.specs.declared.script.Script.{Script};
 ghost use Rattle.label_commands.specs.declared.stop.ScriptFault.{ScriptFault};
 ghost use Rattle.label_commands.specs.declared.stop.ScriptStop.TheVariants as Stop;
 ghost use Rattle.label_commands.specs.Above.{Above, with_step};
 ghost use Rattle.label_commands.specs.Line.{limit_of, read_line};
-ghost use Rattle.label_commands.specs.Script.{read_lines, read_text, IsScript};
+ghost use Rattle.label_commands.specs.Script.{read_lines, no_meanings, read_text, IsScript};
 ghost use Rattle.label_commands.specs.Sound.{IsSoundScript, StandsInText};
+ghost use Rattle.label_commands.specs.Bounded.{IsBoundedScript};
+ghost use Rattle.label_commands.specs.Editions.{has_command};
 
 /// A script keeps within its limits, has a reading of each node, and its steps and hops are of its nodes. Hops are in order, names of
 /// captures apart, and the steps above flows don't get fewer.
@@ -67,4 +71,22 @@ pub fn scripts_with_labels_are_kept()
 pub fn scripts_with_ranges_are_kept()
     ensures { (own text : List ℕ) (script : Script)
         → IsScript with_ranges own text script → IsScript with_translations own text script }
+{}
+
+/// The numbers of a script's commands and the labels of its flows are within their bounds, and each node's reading is one.
+pub fn numbers_of_scripts_are_bounded()
+    ensures { (edition : Edition) (own text : List ℕ) (script : Script) → IsScript edition own text script
+        → IsBoundedScript script }
+{}
+
+/// Numbers that nothing names have a reading too: each means itself.
+pub fn no_meanings_are_a_reading()
+    ensures { IsReading no_meanings }
+{}
+
+/// A script's commands are those of its edition: before the last edition none defines a translated CALIPSO DOI, and none takes away one
+/// address of a domain.
+pub fn commands_are_of_their_edition()
+    ensures { (edition : Edition) (own text : List ℕ) (script : Script) → IsScript edition own text script
+        → All (λ (step : StepValue). IsTrue (has_command edition step.command)) script.steps }
 {}

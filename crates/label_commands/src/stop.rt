@@ -24,7 +24,7 @@ pub enum ScriptStop {
     Fault(ScriptFault),
     /// The text passes a limit, which is this number.
     Limit { what: LimitName, number: u32 },
-    /// Memory ran out; nothing else is wrong.
+    /// Memory ran out. Faults and limits that come later in the text may hold as well.
     OutOfMemory,
 }
 

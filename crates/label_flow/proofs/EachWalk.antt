@@ -126,10 +126,10 @@ lawful_over plan hops w before after m packets seen less h = record {
 first_same : {X : Type 0} {a b : X} {xs ys : List X} → a ∷ xs ≡ b ∷ ys → a ≡ b
 first_same {X} {a} {b} {xs} {ys} is = cc
 
-rest_same : {X : Type 0} {a b : X} {xs ys : List X} → a ∷ xs ≡ b ∷ ys → xs ≡ ys
+pub rest_same : {X : Type 0} {a b : X} {xs ys : List X} → a ∷ xs ≡ b ∷ ys → xs ≡ ys
 rest_same {X} {a} {b} {xs} {ys} is = cc
 
-cons_same : {X : Type 0} {a b : X} {xs ys : List X} → a ≡ b → xs ≡ ys → a ∷ xs ≡ b ∷ ys
+pub cons_same : {X : Type 0} {a b : X} {xs ys : List X} → a ≡ b → xs ≡ ys → a ∷ xs ≡ b ∷ ys
 cons_same {X} {a} {b} {xs} {ys} p q = cc
 
 abbrev made : End → List ℕ → List ℕ → PairState

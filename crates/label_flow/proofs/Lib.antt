@@ -1,7 +1,10 @@
 pub mod Works
 pub mod Handing
 pub mod Batches
+pub mod Dealt
 pub mod Schedules
 pub mod Lawful
 pub mod EachWalk
+pub mod Once
+pub mod Forced
 pub mod Law

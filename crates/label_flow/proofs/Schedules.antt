@@ -1,13 +1,16 @@
 -- Versions that a schedule gives, and the schedule of given versions.
-use Rattle.std.proofs.Common.{◌≡◌, ◌≢◌, ⊎_elim, ℕ, zero, suc, ◌+◌, ◌-◌, ◌<◌, ◌≤◌, true, false, List, [], ◌∷◌, ◌++◌, replicate, nat_eq, nat_le, cond, refl, sym, ◌∙◌, ap, subst, le_refl, le_trans, arith, append-nil, add-zero}
+use Rattle.std.proofs.Common.{◌≡◌, ◌≢◌, ⊎_elim, ℕ, zero, suc, ◌+◌, ◌-◌, ◌<◌, ◌≤◌, ◌%◌, true, false, List, [], ◌∷◌, ◌++◌, replicate, nat_eq, nat_le, cond, refl, sym, ◌∙◌, ap, subst, le_refl, le_trans, arith, append-nil, add-zero}
 use Rattle.std.proofs.Math.Nat.{eq-or-lt_of_le}
 use Rattle.std.proofs.lemmas.Bool.{cases_lt}
 use Rattle.std.proofs.lemmas.Bool.Decides.{nat_tests}
+use Rattle.std.proofs.lemmas.Nat.{mod_below}
 use Rattle.flow_lines.specs.declared.hop.Hop.{Hop}
 use Rattle.shared_tables.specs.Plan.{PlanState}
 use Rattle.packet_walk.specs.declared.packet.PacketIn.{PacketIn}
 use Rattle.packet_walk.specs.Walk.{Rises}
-use Rattle.label_flow.specs.Schedule.{FlowEvent, step, look, looks_of, steps_in, AreLawful, IsPlay, times, looks_at, by_version, rows_by}
+use Rattle.label_flow.specs.Round.{pick}
+use Rattle.label_flow.specs.Schedule.{FlowEvent, step, look, looks_of, steps_in, AreSeen, in_a_row, AreLawful, IsPlay, times, looks_at, by_version, rows_by}
+use Rattle.label_flow.proofs.Dealt.{rows_are, each_seen, judged_by, as_many, seen_of, all_seen}
 
 lower : (low' low high : ℕ) (vs : List ℕ) → low' ≤ low → Rises low high vs → Rises low' high vs
 lower low' low high [] down h = le_trans down h
@@ -26,11 +29,16 @@ looks_rise k v (look worker ∷ events) =
 
 pub is_lawful : (plan : PlanState) (hops : List Hop) (w before after : ℕ) (packets : List PacketIn) (events : List FlowEvent) (seen : List (List ℕ)) → IsPlay plan hops w before after packets events seen
     → AreLawful plan hops w before after packets seen
-is_lawful plan hops w before after packets events seen h = record {
-  count = h.count;
-  walks = h.walks;
-  rises = λ k less. subst (λ (vs : List ℕ). Rises before after vs) (h.looks k less) (subst (λ (n : ℕ). Rises before n (looks_of k before events)) h.steps (looks_rise k before events));
-}
+is_lawful plan hops w before after packets events seen h =
+    let found : ℕ → List ℕ = λ k. looks_of k before events in
+    let all : AreSeen plan hops packets seen = each_seen plan hops w 0 packets found seen h.judged in
+    record {
+      count = as_many plan hops packets seen all;
+      walks = λ k less. seen_of plan hops k w 0 packets seen all;
+      rises = λ k less.
+          subst (λ (vs : List ℕ). Rises before after vs) (rows_are plan hops w 0 packets found seen h.judged k)
+          (subst (λ (n : ℕ). Rises before n (looks_of k before events)) h.steps (looks_rise k before events));
+    }
 
 looks_append : (k v : ℕ) (xs ys : List FlowEvent) → looks_of k v (xs ++ ys) ≡ looks_of k v xs ++ looks_of k (v + steps_in xs) ys
 looks_append k v [] ys = ap (λ n. looks_of k n ys) (sym (add-zero v))
@@ -187,12 +195,23 @@ module _ (rows : ℕ → List ℕ) (w : ℕ) where
   steps_are v zero = no_steps_at rows w v
   steps_are v (suc steps) = omega (arith, steps_append (looks_at rows w v) (step ∷ by_version rows w (v + 1) steps), no_steps_at rows w v, steps_are (v + 1) steps)
 
-pub is_played : (plan : PlanState) (hops : List Hop) (w before steps : ℕ) (packets : List PacketIn) (seen : List (List ℕ)) → AreLawful plan hops w before (before + steps) packets seen
+-- a worker that there isn't has no packet
+none_of : {X : Type 0} (k w n : ℕ) (xs : List X) → 0 < w → w ≤ k → pick k w n xs ≡ []
+none_of k w n [] some few = refl
+none_of k w n (x ∷ xs) some few =
+    let b : nat_eq (n % w) k ≡ false = grind (arith, nat_tests, mod_below n w some) in
+    let more = pick k w (n + 1) xs in
+    ap (λ t. cond t (x ∷ more) more) b ∙ none_of k w (n + 1) xs some few
+
+pub is_played : (plan : PlanState) (hops : List Hop) (w before steps : ℕ) (packets : List PacketIn) (seen : List (List ℕ)) → 0 < w → AreLawful plan hops w before (before + steps) packets seen
     → IsPlay plan hops w before (before + steps) packets (by_version (rows_by w seen) w before steps) seen
-is_played plan hops w before steps packets seen h = record {
-  count = h.count;
-  walks = h.walks;
-  steps = ap (λ n. before + n) (steps_are (rows_by w seen) w before steps);
-  looks = λ k less. played (rows_by w seen) w k before steps before less (h.rises k less) ∙ from_all before before (before + steps) (rows_by w seen k) (le_refl before) (h.rises k less);
-  others = λ k few. idle (rows_by w seen) w k before steps few;
-}
+is_played plan hops w before steps packets seen some h =
+    let events = by_version (rows_by w seen) w before steps in
+    let here : (k : ℕ) → k < w → looks_of k before events ≡ in_a_row (pick k w 0 seen) = λ k less.
+    played (rows_by w seen) w k before steps before less (h.rises k less) ∙ from_all before before (before + steps) (rows_by w seen k) (le_refl before) (h.rises k less) in
+    let none : (k : ℕ) → w ≤ k → looks_of k before events ≡ in_a_row (pick k w 0 seen) = λ k few. idle (rows_by w seen) w k before steps few ∙ sym (ap (λ (vs : List (List ℕ)). in_a_row vs) (none_of k w 0 seen some few)) in
+    record {
+      steps = ap (λ n. before + n) (steps_are (rows_by w seen) w before steps);
+      judged = judged_by plan hops w 0 packets (λ k. looks_of k before events) seen (all_seen plan hops w 0 packets seen some h.count h.walks)
+          (λ k. ⊎_elim (here k) (none k) (cases_lt k w));
+    }

@@ -1,5 +1,5 @@
 -- Some order of the publisher's steps and the workers' looks, and the versions that it gives.
-use Rattle.std.specs.Prelude.{◌≡◌, ℕ, suc, zero, ◌+◌, ◌<◌, ◌≤◌, List, [], ◌∷◌, ◌++◌, length, map, nat_eq, cond, replicate}
+use Rattle.std.specs.Prelude.{◌≡◌, ℕ, suc, zero, ◌+◌, ◌<◌, ◌%◌, List, [], ◌∷◌, ◌++◌, length, map, nat_eq, cond, replicate}
 use Rattle.flow_lines.specs.declared.hop.Hop.{Hop}
 use Rattle.shared_tables.specs.Plan.{PlanState}
 use Rattle.packet_walk.specs.declared.packet.PacketIn.{PacketIn}
@@ -44,14 +44,23 @@ pub record AreLawful (plan : PlanState) (hops : List Hop) (w before after : ℕ)
   pub walks : (k : ℕ) → k < w → AreSeen plan hops (pick k w 0 packets) (pick k w 0 seen)
   pub rises : (k : ℕ) → k < w → Rises before after (in_a_row (pick k w 0 seen))
 
--- A schedule gives these versions: it has as many steps as lead from `before` to `after`, and each worker has exactly the looks that its
--- packets need.
+-- one worker has these looks left, and the others what they had
+abbrev pub left_to : ℕ → List ℕ → (ℕ → List ℕ) → ℕ → List ℕ
+left_to worker rest looks k = cond (nat_eq worker k) rest (looks k)
+
+-- Each of these packets, from number n on, is judged by the worker of its number under the next of the versions that this worker finds, as
+-- many as its walk judges hops. No look is left over.
+abbrev pub AreJudged : PlanState → List Hop → ℕ → ℕ → List PacketIn → (ℕ → List ℕ) → List (List ℕ) → Type 0
+AreJudged plan hops w n [] looks [] = (k : ℕ) → looks k ≡ []
+AreJudged plan hops w n (packet ∷ packets) looks (versions ∷ seen) =
+    (rest : List ℕ) × (looks (n % w) ≡ versions ++ rest) × IsSeen plan hops packet versions
+    × AreJudged plan hops w (n + 1) packets (left_to (n % w) rest looks) seen
+AreJudged plan hops w n packets looks seen = ⊥
+
+-- A complete schedule gives these versions: its steps lead from `before` to `after`, and its looks are exactly those that the packets need.
 pub record IsPlay (plan : PlanState) (hops : List Hop) (w before after : ℕ) (packets : List PacketIn) (events : List FlowEvent) (seen : List (List ℕ)) : Type 0 where
-  pub count : length seen ≡ length packets
-  pub walks : (k : ℕ) → k < w → AreSeen plan hops (pick k w 0 packets) (pick k w 0 seen)
   pub steps : before + steps_in events ≡ after
-  pub looks : (k : ℕ) → k < w → looks_of k before events ≡ in_a_row (pick k w 0 seen)
-  pub others : (k : ℕ) → w ≤ k → looks_of k before events ≡ []
+  pub judged : AreJudged plan hops w 0 packets (λ k. looks_of k before events) seen
 
 -- how often a version stands in a list
 abbrev pub times : ℕ → List ℕ → ℕ

@@ -10,17 +10,25 @@ ghost use Rattle.label_flow.specs.Round.{IsRound};
 ghost use Rattle.label_flow.specs.Walked.{AreWalked};
 ghost use Rattle.label_flow.specs.Schedule.{FlowEvent, AreLawful, IsPlay, by_version, rows_by, versions_in};
 
-/// What a complete schedule gives is lawful: versions don't fall along a worker's packets.
+/// What a complete schedule gives is lawful: each packet of the flow has a list, with as many versions as its walk judges hops, and versions
+/// don't fall along a worker's packets.
 pub fn plays_are_lawful()
     ensures { (plan : PlanState) (hops : List Hop) (w before after : ℕ) (packets : List PacketIn) (events : List FlowEvent)
         (seen : List (List ℕ)) → IsPlay plan hops w before after packets events seen → AreLawful plan hops w before after packets seen }
 {}
 
-/// Lawful versions are what the complete schedule gives that orders its looks by version.
+/// Where there is a worker, lawful versions are what the complete schedule gives that orders its looks by version.
 pub fn lawful_versions_are_played()
     ensures { (plan : PlanState) (hops : List Hop) (w before steps : ℕ) (packets : List PacketIn) (seen : List (List ℕ))
-        → AreLawful plan hops w before (before + steps) packets seen
+        → 0 < w → AreLawful plan hops w before (before + steps) packets seen
         → IsPlay plan hops w before (before + steps) packets (by_version (rows_by w seen) w before steps) seen }
+{}
+
+/// Where no step comes beside a flow, its packets have one lawful list of versions, for any number of workers.
+pub fn versions_without_steps_are_forced()
+    ensures { (plan : PlanState) (hops : List Hop) (w w' version : ℕ) (packets : List PacketIn) (seen seen' : List (List ℕ))
+        → 0 < w → 0 < w' → AreLawful plan hops w version version packets seen
+        → AreLawful plan hops w' version version packets seen' → seen ≡ seen' }
 {}
 
 /// The versions of a round are lawful, from the one that all viewers had seen before it to the plan's last.
@@ -53,4 +61,11 @@ pub fn walked_packets_are_determined()
     ensures { (plan : PlanState) (hops : List Hop) (packets : List PacketIn) (pairs pairs' : List PairState)
         → AreWalked plan hops packets pairs → AreWalked plan hops packets pairs'
         → versions_in pairs ≡ versions_in pairs' → pairs ≡ pairs' }
+{}
+
+/// A schedule gives one list of versions.
+pub fn schedules_give_one_play()
+    ensures { (plan : PlanState) (hops : List Hop) (w before after : ℕ) (packets : List PacketIn) (events : List FlowEvent)
+        (seen seen' : List (List ℕ)) → IsPlay plan hops w before after packets events seen
+        → IsPlay plan hops w before after packets events seen' → seen ≡ seen' }
 {}

@@ -1,5 +1,5 @@
 -- Why a packet goes on, and what goes on.
-use Rattle.std.proofs.Common.{◌≡◌, ℕ, ◌+◌, ◌-◌, ◌<◌, ◌≤◌, Bool, true, false, List, Option, Some, None, Result, Ok, Err, refl, sym, ap, ◌∙◌, arith}
+use Rattle.std.proofs.Common.{◌≡◌, ◌⊎◌, inl, inr, ℕ, ◌+◌, ◌-◌, ◌<◌, ◌≤◌, Bool, true, false, List, Option, Some, None, Result, Ok, Err, refl, sym, ap, ◌∙◌, arith}
 use Rattle.std.specs.Prelude.{nat_le, nat_lt, if◌then◌else◌}
 use Rattle.std.proofs.lemmas.Bool.{ltb-false, leb-false, lt-leb}
 use Rattle.mls_label.specs.declared.label.Label.{Label}
@@ -162,6 +162,12 @@ module _ (t : TableState) (protocol : Protocol) (label : Label) (p new : ParsedP
 
   pub says_label : onward t protocol label p ≡ Ok new → outgoing t.definitions protocol label ≡ Ok new.label
   says_label e = each_way e (λ s x. let k = stays_so x in k.out ∙ ap (λ (q : ParsedPacket Wire). Ok q.label) k.is) (λ s k. k.out ∙ ap (λ (q : ParsedPacket Wire). Ok q.label) k.is)
+
+  pub keeps_protocol : onward t protocol label p ≡ Ok new → (new.protocol ≡ p.protocol) × ((new.version ≡ p.version) ⊎ (cross_cause p ≡ None))
+  keeps_protocol e =
+      each_way e
+      (λ s x. let is = sym (stays_so x).is in (ap (λ (q : ParsedPacket Wire). q.protocol) is, inl (ap (λ (q : ParsedPacket Wire). q.version) is)))
+      (λ s k. (ap (λ (q : ParsedPacket Wire). q.protocol) (sym k.is), inr k.can))
 
   pub one_hop : onward t protocol label p ≡ Ok new → p.hops - 1 ≡ new.hops
   one_hop e = each_way e (λ s x. ap (λ (q : ParsedPacket Wire). q.hops) (stays_so x).is) (λ s k. ap (λ (q : ParsedPacket Wire). q.hops) k.is)

@@ -1,5 +1,5 @@
--- A packet that is forwarded may be written.
-use Rattle.std.proofs.Common.{◌≡◌, ℕ, ◌-◌, ◌<◌, ◌≤◌, Bool, true, false, List, Option, Some, None, Result, Ok, Err, refl, sym, ap, subst, arith, length}
+-- A packet that is forwarded may be written, and keeps the sum of its words.
+use Rattle.std.proofs.Common.{◌≡◌, ℕ, ◌-◌, ◌<◌, ◌≤◌, Bool, true, false, List, Option, Some, None, Result, Ok, Err, refl, sym, ap, ◌∙◌, subst, arith, length}
 use Rattle.std.specs.Prelude.{IfOk, OnOk, MatchBool, IfSome}
 use Rattle.std.specs.Option.{option_map}
 use Rattle.std.specs.Str.{bytes_eq}
@@ -28,7 +28,8 @@ use Rattle.packet_label.specs.Written.{CanSay, IsLabel, wire_text}
 use Rattle.packet_label.proofs.Law.{read_packets_may_be_written, written_options_suit_their_version}
 use Rattle.version_cross.specs.Cross.{other_version}
 use Rattle.version_cross.specs.Laws.{IsAddressOf, CanCross}
-use Rattle.version_cross.proofs.Law.{crossed_packets_can_cross_back, crossed_packets_have_room}
+use Rattle.version_cross.specs.Checksum.{checksum_sum}
+use Rattle.version_cross.proofs.Law.{crossing_keeps_the_sum, crossed_packets_can_cross_back, crossed_packets_have_room}
 use Rattle.node_tables.specs.Tables.{AddressPairs, TableState, swapped}
 use Rattle.label_receive.specs.Incoming.{address_in}
 use Rattle.label_send.specs.Answer.{Answers}
@@ -40,7 +41,7 @@ use Rattle.label_gateway.specs.Crossing.{partner_of}
 use Rattle.label_gateway.specs.Forward.{Forwarded, onward, forward_of}
 use Rattle.label_gateway.specs.Laws.{ArePairs}
 use Rattle.label_gateway.specs.inside.Going.{CanCrossOut, CanGoOn, CanGoOnFrom}
-use Rattle.label_gateway.proofs.Going.{goes_on, CrossesSo, each_way}
+use Rattle.label_gateway.proofs.Going.{goes_on, stays_so, CrossesSo, each_way}
 
 -- ---- what was read
 
@@ -102,6 +103,33 @@ text_suits version None can = tt
 text_suits version (Some wire) can = (written_options_suit_their_version version wire can).0
 
 module _ (t : TableState) (octets : List ℕ) (p : ParsedPacket Wire) (are : IsOctets octets) (is : IsPacket octets p) where
+  -- the headers of a packet that crosses, between addresses of the other version
+  can_cross : (protocol : Protocol) (label : Label) (new : ParsedPacket Wire) → IfSome (partner_of t.pairs p.version p.source) (IsAddressOf (other_version p.version))
+      → IfSome (partner_of t.pairs p.version p.destination) (IsAddressOf (other_version p.version)) → (k : CrossesSo t protocol label p new) → CanCross (rewritten p None 0) k.source k.destination
+  can_cross protocol label new from to k =
+      let w = was_read octets p are is in
+      let address = IsAddressOf (other_version p.version) in
+      record {
+        parsed = (read_packets_may_be_written.packets octets p None 0 are is (omega arith) tt).headers;
+        octets = w.octets;
+        short = w.short;
+        cause = k.can;
+        source = subst (λ (o : Option (List ℕ)). IfSome o address) k.from from;
+        destination = subst (λ (o : Option (List ℕ)). IfSome o address) k.to to;
+      }
+
+  -- what goes on has the sum of what came in
+  sum_kept : (protocol : Protocol) (label : Label) (new : ParsedPacket Wire) → ArePairs t.pairs → onward t protocol label p ≡ Ok new → checksum_sum new ≡ checksum_sum p
+  sum_kept protocol label new pairs e =
+      each_way t protocol label p new e
+      (λ s x. ap (λ (q : ParsedPacket Wire). checksum_sum q) (sym (stays_so t protocol label p new x).is))
+      (λ s k. ap (λ (q : ParsedPacket Wire). checksum_sum q) (sym k.is)
+      ∙ crossing_keeps_the_sum (rewritten p None 0) k.source k.destination None (p.hops - 1)
+      (can_cross protocol label new (partner_is t.pairs p.version p.source pairs) (partner_is t.pairs p.version p.destination pairs) k))
+
+  pub forwarded_sum : (from to domain : List ℕ) (f : Forwarded) → ArePairs t.pairs → forward_of t from to domain p ≡ Ok f → checksum_sum f.packet ≡ checksum_sum p
+  forwarded_sum from to domain f pairs e = let g = goes_on t from to domain p f e in sum_kept g.protocol g.incoming.high f.packet pairs g.goes
+
   crosses_in_room : (protocol : Protocol) (label : Label) (new : ParsedPacket Wire)
       → CanCrossOut (other_version p.version) (outgoing t.definitions protocol label) (partner_of t.pairs p.version p.source) (partner_of t.pairs p.version p.destination)
       → CrossesSo t protocol label p new → IsInRoom new
@@ -109,15 +137,7 @@ module _ (t : TableState) (octets : List ℕ) (p : ParsedPacket Wire) (are : IsO
       let w = was_read octets p are is in
       let bare : Headers = rewritten p None 0 in
       let low : p.hops - 1 < 256 = let below : p.hops < 256 = w.low in omega arith in
-      let address = IsAddressOf (other_version p.version) in
-      let can : CanCross bare k.source k.destination = record {
-        parsed = (read_packets_may_be_written.packets octets p None 0 are is (omega arith) tt).headers;
-        octets = w.octets;
-        short = w.short;
-        cause = k.can;
-        source = subst (λ (o : Option (List ℕ)). IfSome o address) k.from goes.from;
-        destination = subst (λ (o : Option (List ℕ)). IfSome o address) k.to goes.to;
-      } in
+      let can : CanCross bare k.source k.destination = can_cross protocol label new goes.from goes.to k in
       let said : IfSome k.said (CanSay (other_version p.version)) = subst (CanGoOut (other_version p.version)) k.out goes.said in
       subst IsInRoom k.is (record {
         writable = record { headers = (crossed_packets_can_cross_back bare k.source k.destination None (p.hops - 1) can low tt).parsed; label = said };

@@ -1,5 +1,5 @@
 -- The laws of src/laws.rt under their names, for the crates above.
-use Rattle.std.proofs.Common.{◌≡◌, ℕ, List, Result, Ok, Err, refl, sym, ap, ◌∙◌}
+use Rattle.std.proofs.Common.{◌≡◌, ℕ, List, IsTrue, Result, Ok, Err, refl, sym, ap, ◌∙◌}
 use Rattle.ip_headers.specs.Packet.{ParsedPacket}
 use Rattle.packet_label.specs.declared.denial.Denial.{Denial}
 use Rattle.packet_label.specs.declared.denial.Denial.TheVariants.{BelowRange}
@@ -9,11 +9,12 @@ use Rattle.packet_label.specs.Written.{IsReadAs}
 use Rattle.packet_label.proofs.Law.{octets_are_a_packet_or_have_one_fault}
 use Rattle.node_tables.specs.Tables.{TableState}
 use Rattle.label_receive.specs.declared.receiving.Delivered.{Delivered}
+use Rattle.label_receive.specs.Incoming.{label_of}
 use Rattle.label_receive.specs.Receive.{receive_of}
 use Rattle.label_receive.specs.Judged.{judged_by, IsJudged}
-use Rattle.label_receive.specs.Laws.{HaveLowestEnds, IsDelivered}
+use Rattle.label_receive.specs.Laws.{HaveLowestEnds, IsDelivered, is_of_labels}
 use Rattle.label_receive.proofs.Due.{is_due, is_delivered}
-use Rattle.label_receive.proofs.Lowest.{none_below}
+use Rattle.label_receive.proofs.Lowest.{label_so, none_below}
 
 one_read : (octets : List ℕ) (a b : Result (ParsedPacket Wire) CarryFault) → IsReadAs octets a → IsReadAs octets b → a ≡ b
 one_read octets (Ok p) (Ok q) x y = ap Ok ((octets_are_a_packet_or_have_one_fault octets).one_packet p q x y)
@@ -37,3 +38,6 @@ delivered_packets_are_due = is_due
 
 pub due_packets_are_delivered : (t : TableState) (interface : List ℕ) (p : ParsedPacket Wire) (delivered : Delivered) → IsDelivered t interface p delivered → receive_of t interface p ≡ Ok delivered
 due_packets_are_delivered = is_delivered
+
+pub missing_labels_have_six_reasons : (t : TableState) (interface : List ℕ) (p : ParsedPacket Wire) (why : Denial) → label_of t interface p ≡ Err why → IsTrue (is_of_labels why)
+missing_labels_have_six_reasons = label_so

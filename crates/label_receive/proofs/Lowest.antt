@@ -1,5 +1,5 @@
--- Nothing is below the lowest label.
-use Rattle.std.proofs.Common.{arith, ◌≡◌, ℕ, Bool, true, false, List, [], Option, Some, None, Result, Ok, Err, sym, ap, ◌∙◌}
+-- What denies a packet its labels, and that nothing is below the lowest label.
+use Rattle.std.proofs.Common.{arith, ◌≡◌, ℕ, Bool, true, false, List, [], Option, Some, None, Result, Ok, Err, refl, sym, ap, ◌∙◌}
 use Rattle.std.specs.Prelude.{◌+◌, IfSome, not, if◌then◌else◌}
 use Rattle.std.proofs.lemmas.Map.Entries.{All-lookup}
 use Rattle.std.proofs.lemmas.Bool.{false≢true, true≢false}
@@ -17,7 +17,7 @@ use Rattle.doi_table.specs.Translation.{local_label}
 use Rattle.packet_label.specs.declared.denial.Carrier.{Carrier}
 use Rattle.packet_label.specs.declared.denial.Carrier.TheVariants as carried
 use Rattle.packet_label.specs.declared.denial.Denial.{Denial}
-use Rattle.packet_label.specs.declared.denial.Denial.TheVariants.{Unlabelled, NoStatic, UnknownDoi, TagNotAllowed, OutsideRange, BelowRange}
+use Rattle.packet_label.specs.declared.denial.Denial.TheVariants.{Unlabelled, NoStatic, UnknownDoi, TagNotAllowed, LevelUnmapped, CategoryUnmapped, OutsideRange, BelowRange}
 use Rattle.packet_label.specs.declared.packet.Wire.{Wire}
 use Rattle.packet_label.specs.declared.packet.Wire.TheVariants.{Cipso, Calipso}
 use Rattle.address_text.specs.declared.address.Address.{Address}
@@ -29,59 +29,65 @@ use Rattle.node_tables.specs.Tables.{TableState, find_receiver_of}
 use Rattle.label_receive.specs.Incoming.{Incoming, address_in, static_labels, translated, lists_tag, option_labels, label_of}
 use Rattle.label_receive.specs.Range.{is_outside}
 use Rattle.label_receive.specs.Receive.{map_refuses, refusal_of, delivered_unless, delivered_to, received, receive_of}
-use Rattle.label_receive.specs.Laws.{HaveLowestEnds}
+use Rattle.label_receive.specs.Laws.{HaveLowestEnds, is_of_labels}
 use Rattle.label_receive.proofs.Due.{below, by_receiver}
 
--- ---- no labels are denied so
+-- ---- what denies a packet its labels
 
-abbrev IsOther : Result Incoming Denial → Type 0
-IsOther r = r ≡ Err BelowRange → ⊥
+abbrev DeniesSo : Result Incoming Denial → Type 0
+DeniesSo r = (why : Denial) → r ≡ Err why → is_of_labels why ≡ true
 
-set_other : (o : Option (Label × Label)) → IsOther (elim o as (λ _. Result Incoming Denial) [ None ↦ Err NoStatic | Some labels ↦ Ok (record { carrier = carried.Unlabelled; low = labels.0; high = labels.1 }) ])
-set_other None h = absurd (cc)
-set_other (Some labels) h = absurd (cc)
+denied : (a b : Denial) → is_of_labels a ≡ true → ◌≡◌ {A = Result Incoming Denial} (Err a) (Err b) → is_of_labels b ≡ true
+denied a b is h = let same : a ≡ b = cc in ap is_of_labels (sym same) ∙ is
 
-static_other : (b : Bool) (o : Option (Label × Label)) → IsOther (if not b then Err Unlabelled else elim o as (λ _. Result Incoming Denial) [ None ↦ Err NoStatic | Some labels ↦ Ok (record { carrier = carried.Unlabelled; low = labels.0; high = labels.1 }) ])
-static_other true o h = set_other o h
-static_other false o h = absurd (cc)
+not_denied : (incoming : Incoming) (why : Denial) → ◌≡◌ {A = Result Incoming Denial} (Ok incoming) (Err why) → is_of_labels why ≡ true
+not_denied incoming why h = absurd (cc)
 
-translated_other : (carrier : Carrier) (r : Result Label Unmapped) → IsOther (translated carrier r)
-translated_other carrier (Ok label) h = absurd (cc)
-translated_other carrier (Err Level) h = absurd (cc)
-translated_other carrier (Err (Category c)) h = absurd (cc)
+set_so : (o : Option (Label × Label)) → DeniesSo (elim o as (λ _. Result Incoming Denial) [ None ↦ Err NoStatic | Some labels ↦ Ok (record { carrier = carried.Unlabelled; low = labels.0; high = labels.1 }) ])
+set_so None why h = denied NoStatic why refl h
+set_so (Some labels) why h = not_denied _ why h
 
-tagged_other : (at : ℕ) (b : Bool) (carrier : Carrier) (r : Result Label Unmapped) → IsOther (if not b then Err (TagNotAllowed at) else translated carrier r)
-tagged_other at true carrier r h = translated_other carrier r h
-tagged_other at false carrier r h = absurd (cc)
+static_so : (b : Bool) (o : Option (Label × Label)) → DeniesSo (if not b then Err Unlabelled else elim o as (λ _. Result Incoming Denial) [ None ↦ Err NoStatic | Some labels ↦ Ok (record { carrier = carried.Unlabelled; low = labels.0; high = labels.1 }) ])
+static_so true o why h = set_so o why h
+static_so false o why h = denied Unlabelled why refl h
 
-cipso_other : (at doi : ℕ) (tag : Tag) (label : Label) (o : Option DoiPlan) → IsOther (elim o as (λ _. Result Incoming Denial) [
+translated_so : (carrier : Carrier) (r : Result Label Unmapped) → DeniesSo (translated carrier r)
+translated_so carrier (Ok label) why h = not_denied _ why h
+translated_so carrier (Err Level) why h = denied LevelUnmapped why refl h
+translated_so carrier (Err (Category c)) why h = denied (CategoryUnmapped c) why refl h
+
+tagged_so : (at : ℕ) (b : Bool) (carrier : Carrier) (r : Result Label Unmapped) → DeniesSo (if not b then Err (TagNotAllowed at) else translated carrier r)
+tagged_so at true carrier r why h = translated_so carrier r why h
+tagged_so at false carrier r why h = denied (TagNotAllowed at) why refl h
+
+cipso_so : (at doi : ℕ) (tag : Tag) (label : Label) (o : Option DoiPlan) → DeniesSo (elim o as (λ _. Result Incoming Denial) [
   | None ↦ Err (UnknownDoi (at + 2))
   | Some plan ↦ if not (lists_tag plan.tags tag) then Err (TagNotAllowed (at + 6)) else translated (carried.Cipso doi) (local_label plan label)
 ])
-cipso_other at doi tag label None h = absurd (cc)
-cipso_other at doi tag label (Some plan) h = tagged_other (at + 6) (lists_tag plan.tags tag) (carried.Cipso doi) (local_label plan label) h
+cipso_so at doi tag label None why h = denied (UnknownDoi (at + 2)) why refl h
+cipso_so at doi tag label (Some plan) why h = tagged_so (at + 6) (lists_tag plan.tags tag) (carried.Cipso doi) (local_label plan label) why h
 
-calipso_other : (at doi : ℕ) (label : Label) (o : Option DoiPlan) → IsOther (elim o as (λ _. Result Incoming Denial) [
+calipso_so : (at doi : ℕ) (label : Label) (o : Option DoiPlan) → DeniesSo (elim o as (λ _. Result Incoming Denial) [
   | None ↦ Err (UnknownDoi (at + 2))
   | Some plan ↦ translated (carried.Calipso doi) (local_label plan label)
 ])
-calipso_other at doi label None h = absurd (cc)
-calipso_other at doi label (Some plan) h = translated_other (carried.Calipso doi) (local_label plan label) h
+calipso_so at doi label None why h = denied (UnknownDoi (at + 2)) why refl h
+calipso_so at doi label (Some plan) why h = translated_so (carried.Calipso doi) (local_label plan label) why h
 
-option_other : (definitions : Entries) (wire : Wire) → IsOther (option_labels definitions wire)
-option_other definitions (Cipso at doi tag label) h = cipso_other at doi tag label (definition_of definitions Of.Cipso doi) h
-option_other definitions (Calipso at doi label) h = calipso_other at doi label (definition_of definitions Of.Calipso doi) h
+option_so : (definitions : Entries) (wire : Wire) → DeniesSo (option_labels definitions wire)
+option_so definitions (Cipso at doi tag label) why h = cipso_so at doi tag label (definition_of definitions Of.Cipso doi) why h
+option_so definitions (Calipso at doi label) why h = calipso_so at doi label (definition_of definitions Of.Calipso doi) why h
 
-labels_other : (t : TableState) (interface : List ℕ) (p : ParsedPacket Wire) (o : Option Wire) → IsOther (elim o as (λ _. Result Incoming Denial) [
+labels_so : (t : TableState) (interface : List ℕ) (p : ParsedPacket Wire) (o : Option Wire) → DeniesSo (elim o as (λ _. Result Incoming Denial) [
   | None ↦ static_labels t interface (address_in p.version p.source)
   | Some wire ↦ option_labels t.definitions wire
 ])
-labels_other t interface p None h = static_other t.accepts (find_static_of t.statics interface (address_in p.version p.source)) h
-labels_other t interface p (Some wire) h = option_other t.definitions wire h
+labels_so t interface p None why h = static_so t.accepts (find_static_of t.statics interface (address_in p.version p.source)) why h
+labels_so t interface p (Some wire) why h = option_so t.definitions wire why h
 
-label_other : (t : TableState) (interface : List ℕ) (p : ParsedPacket Wire) → IsOther (label_of t interface p)
+pub label_so : (t : TableState) (interface : List ℕ) (p : ParsedPacket Wire) (why : Denial) → label_of t interface p ≡ Err why → is_of_labels why ≡ true
 unfolding label_of
-label_other t interface p h = labels_other t interface p p.label h
+label_so t interface p why h = labels_so t interface p p.label why h
 
 -- ---- no receiver denies so
 
@@ -107,12 +113,12 @@ inside_other t false source destination incoming lowest h =
     by_receiver_other t.domains source destination incoming (find_receiver_of t.receivers destination)
     (All-lookup (λ (r : Receiver). r.low ≡ record { level = 0; cats = [] }) (same_address destination) t.receivers lowest) h
 
-received_other : (t : TableState) (interface : List ℕ) (source destination : Address) (r : Result Incoming Denial) → HaveLowestEnds t.receivers → IsOther r
+received_other : (t : TableState) (interface : List ℕ) (source destination : Address) (r : Result Incoming Denial) → HaveLowestEnds t.receivers → DeniesSo r
     → received t interface source destination r ≡ Err BelowRange → ⊥
-received_other t interface source destination (Err why) lowest other h = let same : why ≡ BelowRange = cc in other (ap Err same)
-received_other t interface source destination (Ok incoming) lowest other h = inside_other t (is_outside t.ranges interface incoming.low incoming.high) source destination incoming lowest h
+received_other t interface source destination (Err why) lowest so h = let same : why ≡ BelowRange = cc in false≢true (so BelowRange (ap Err same))
+received_other t interface source destination (Ok incoming) lowest so h = inside_other t (is_outside t.ranges interface incoming.low incoming.high) source destination incoming lowest h
 
 pub none_below : (t : TableState) (interface : List ℕ) (p : ParsedPacket Wire) → HaveLowestEnds t.receivers → receive_of t interface p ≡ Err BelowRange → ⊥
 unfolding receive_of
 none_below t interface p lowest h =
-    received_other t interface (address_in p.version p.source) (address_in p.version p.destination) (label_of t interface p) lowest (label_other t interface p) h
+    received_other t interface (address_in p.version p.source) (address_in p.version p.destination) (label_of t interface p) lowest (label_so t interface p) h

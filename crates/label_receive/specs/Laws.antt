@@ -1,8 +1,10 @@
 -- What the laws on receivers say.
-use Rattle.std.specs.Prelude.{◌≡◌, ℕ, false, List, [], Some, Ok}
+use Rattle.std.specs.Prelude.{◌≡◌, ℕ, true, false, Bool, List, [], Some, Ok}
 use Rattle.std.specs.List.{All}
 use Rattle.mls_label.specs.Label.{Dominates}
 use Rattle.ip_headers.specs.Packet.{ParsedPacket}
+use Rattle.packet_label.specs.declared.denial.Denial.{Denial}
+use Rattle.packet_label.specs.declared.denial.Denial.TheVariants.{Unlabelled, NoStatic, UnknownDoi, TagNotAllowed, LevelUnmapped, CategoryUnmapped}
 use Rattle.packet_label.specs.declared.packet.Wire.{Wire}
 use Rattle.address_text.specs.declared.address.Address.{Address}
 use Rattle.node_tables.specs.declared.receiver.Receiver.{Receiver}
@@ -28,3 +30,13 @@ pub record IsDelivered (t : TableState) (interface : List ℕ) (p : ParsedPacket
   pub dominated : Dominates receiver.level incoming.high
   pub above : Dominates incoming.low receiver.low
   pub is : delivered ≡ record { label = incoming.high; receiver = address_in p.version p.destination }
+
+-- the denials of packets that have no label at a node
+abbrev pub is_of_labels : Denial → Bool
+is_of_labels Unlabelled = true
+is_of_labels NoStatic = true
+is_of_labels (UnknownDoi octet) = true
+is_of_labels (TagNotAllowed octet) = true
+is_of_labels LevelUnmapped = true
+is_of_labels (CategoryUnmapped category) = true
+is_of_labels why = false

@@ -1,15 +1,16 @@
 //! What the definitions are worth, whatever the code does.
 
-ghost use Rattle.std.specs.Prelude.{◌≡◌, ℕ, List, Result, Ok, Err};
+ghost use Rattle.std.specs.Prelude.{◌≡◌, ℕ, List, Result, Ok, Err, IsTrue};
 ghost use Rattle.ip_headers.specs.Packet.{ParsedPacket};
 ghost use Rattle.packet_label.specs.declared.packet.Wire.{Wire};
 ghost use Rattle.packet_label.specs.declared.denial.Denial.{Denial};
 ghost use Rattle.packet_label.specs.declared.denial.Denial.TheVariants.{BelowRange};
 ghost use Rattle.node_tables.specs.Tables.{TableState};
 ghost use Rattle.label_receive.specs.declared.receiving.Delivered.{Delivered};
+ghost use Rattle.label_receive.specs.Incoming.{label_of};
 ghost use Rattle.label_receive.specs.Receive.{receive_of};
 ghost use Rattle.label_receive.specs.Judged.{IsJudged};
-ghost use Rattle.label_receive.specs.Laws.{HaveLowestEnds, IsDelivered};
+ghost use Rattle.label_receive.specs.Laws.{HaveLowestEnds, IsDelivered, is_of_labels};
 
 /// A rule gives one verdict on octets.
 pub fn verdicts_are_determined<X>()
@@ -40,4 +41,11 @@ pub fn delivered_packets_are_due()
 pub fn due_packets_are_delivered()
     ensures { (t : TableState) (interface : List ℕ) (p : ParsedPacket Wire) (delivered : Delivered)
         → IsDelivered t interface p delivered → receive_of t interface p ≡ Ok delivered }
+{}
+
+/// Where a packet has no labels at an interface, the reason is one of six: Unlabelled, NoStatic, UnknownDoi, TagNotAllowed, LevelUnmapped
+/// or CategoryUnmapped.
+pub fn missing_labels_have_six_reasons()
+    ensures { (t : TableState) (interface : List ℕ) (p : ParsedPacket Wire) (why : Denial)
+        → label_of t interface p ≡ Err why → IsTrue (is_of_labels why) }
 {}

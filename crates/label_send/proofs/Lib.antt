@@ -2,4 +2,6 @@ pub mod Law
 pub mod Options
 pub mod Sent
 pub mod Stays
+pub mod NoOption
+pub mod Outward
 pub mod Writable

@@ -6,7 +6,7 @@ ghost use Rattle.mls_label.specs.Label.{Dominates};
 use crate::CatSet;
 use std::alloc::{AllocError, AllocFailed};
 
-/// Memory ran out; nothing else is wrong.
+/// Memory ran out. Other faults, for which the call would test later, may hold as well.
 #[derive(Clone, Copy, Debug, PartialEq, Eq)]
 pub struct OutOfMemory;
 

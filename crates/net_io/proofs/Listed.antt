@@ -1,11 +1,11 @@
 -- What one failed call more does to the numbers of faults.
-use Rattle.std.proofs.Common.{◌≡◌, ℕ, ◌+◌, true, false, ◌&&◌, cond, List, [], ◌∷◌, ◌++◌, refl, sym, ◌∙◌, ap, subst, arith, inl, bytes_eq, string_bytes, Err}
+use Rattle.std.proofs.Common.{◌≡◌, ◌≤◌, ℕ, ◌+◌, true, false, ◌&&◌, cond, List, [], ◌∷◌, ◌++◌, refl, sym, ◌∙◌, ap, subst, arith, inl, bytes_eq, string_bytes, Err}
 use Rattle.std.proofs.lemmas.List.Sums.{sum_by-append}
 use Rattle.std.proofs.lemmas.Slice.Eq.{bytes_eq-Decides}
 use Rattle.net_io.specs.Failed.{is_failed, is_same_call, failed_in}
 use Rattle.net_io.specs.inside.Listed.{Lists}
 use Rattle.net_io.specs.Depot.{OnlyReads, OnlyCreates, OnlyAppends}
-use Rattle.net_io.specs.Faults.{CountsByName, SameCounts}
+use Rattle.net_io.specs.Faults.{CountsByName, Rose, SameCounts}
 use Rattle.net_io.specs.Memory.{files_state}
 use Rattle.net_io.specs.declared.folder.NamedFile.{NamedFile}
 use Rattle.net_io.specs.declared.failed.FailedCall.{FailedCall}
@@ -94,3 +94,9 @@ fault_appends fault name files old new listed none = record {
   creates = others_same fault Append Create name old new refl listed none;
   appends = counts_fault fault Append name old new listed none;
 }
+
+-- one number that is that of every name, after a fault of its kind
+pub counts_for_all : {T : Type 0} (fault : IoFault) (name : List ℕ) (old new : ℕ) → old ≤ new → (fault ≡ Failed → Rose old new)
+    → (fault ≡ OutOfMemory → new ≡ old) → CountsByName {T = T} Failed (Err fault) name (λ _. old) (λ _. new)
+counts_for_all Failed name old new less rose same = record { no_less = λ _. less; ok = tt; still = λ not_failed. absurd (not_failed refl); cause = λ _. rose refl }
+counts_for_all OutOfMemory name old new less rose same = record { no_less = λ _. less; ok = tt; still = λ _ _. same refl; cause = λ e. cc }

@@ -2,6 +2,7 @@ pub mod Depot
 pub mod Failed
 pub mod Faults
 pub mod Folder
+pub mod Guarded
 pub mod Memory
 pub mod Real
 pub mod Sink

@@ -2,6 +2,7 @@
 use Rattle.std.specs.Prelude.{false, [], None}
 use Rattle.net_io.specs.Depot.{DepotState}
 use Rattle.net_io.specs.Sink.{SinkState}
+use Rattle.net_io.specs.declared.guard.Guard.{Guard}
 use Rattle.net_io.specs.declared.real_depot.RealDepot.{RealDepot}
 use Rattle.net_io.specs.declared.real_sink.RealSink.{RealSink}
 
@@ -13,6 +14,10 @@ real_state depot = record {
   creates = λ name. depot.create_faults;
   appends = λ name. depot.append_faults;
 }
+
+-- the files that a call of the folder doesn't make anew
+abbrev pub real_guard : {R File Dir : Type 0} → RealDepot R File Dir → Guard
+real_guard depot = depot.guard
 
 abbrev pub real_sink_state : {R : Type 0} → RealSink R → SinkState
 real_sink_state sink = record { tells = false; written = []; faults = sink.faults }

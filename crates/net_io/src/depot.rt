@@ -2,7 +2,7 @@
 ghost use Rattle.std.specs.Prelude.{◌≡◌, ◌++◌, IsTrue, IsSome, [], take, OnOk, OnErr, IfOk};
 ghost use Rattle.net_io.specs.Depot.{DepotState, octets_of, ReadsAt, IsPart, SameHeld, NowHolds, OnlyReads, OnlyCreates, OnlyAppends};
 
-use crate::IoFault;
+use crate::{IoFault, OutOfMemory};
 
 /// A folder of named files. Its content may be told, as in memory, or not, as on a disk; the clauses on
 /// content hold where it is told, and all others always.
@@ -17,7 +17,14 @@ pub trait Depot {
         ensures err { OnErr result (buf.new ≡ buf.old) }
         ensures frame { OnlyReads IoFault.Failed result name.now (state self.old) (state self.new) };
 
-    /// Makes the name hold no octets, whether or not it was there. After an Err nothing held has changed.
+    /// Protects the file that this name is a name of, there now or later: where a folder's files have several names, a later `create`
+    /// by any of them is refused: by another spelling, a symlink or a hard link. Nothing held changes, and no fault is counted.
+    /// `RealDepot` says how it tells files apart, and what it doesn't see.
+    fn protect(&mut self, name: &str) -> Result<(), OutOfMemory>
+        ensures { state self.new ≡ state self.old };
+
+    /// Makes the name hold no octets, whether or not it was there. After an Err nothing held has changed. In memory each name is a file
+    /// of its own; where files have several names, one of a file that was protected, or that a `create` has made, is refused.
     fn create(&mut self, name: &str) -> Result<(), IoFault>
         ensures ok { OnOk result (IsTrue (state self.old).tells → NowHolds name.now [] (state self.old).held (state self.new).held) }
         ensures err { OnErr result (IsTrue (state self.old).tells → SameHeld (state self.old).held (state self.new).held) }

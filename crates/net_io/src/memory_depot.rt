@@ -1,5 +1,5 @@
 //! A folder in memory, some of whose calls fail by plan.
-ghost use Rattle.std.specs.Prelude.{◌≡◌, ◌<◌, ◌≤◌, ◌++◌, IsTrue, IsSome, [], None, take, OnOk, OnErr, IfOk, option_copied};
+ghost use Rattle.std.specs.Prelude.{◌≡◌, ◌<◌, ◌≤◌, ◌++◌, IsTrue, IsSome, [], None, take, OnOk, OnErr, IsOk, IfOk, option_copied};
 ghost use Rattle.net_io.specs.Depot.{octets_of, NowHolds, SameHeld, ReadsAt, IsPart, OnlyReads, OnlyCreates, OnlyAppends};
 ghost use Rattle.net_io.specs.Memory.{memory_state, memory_failed, memory_plan, IsFresh, SameFaults, FollowsPlan};
 
@@ -17,7 +17,7 @@ pub struct MemoryDepot {
 }
 
 impl MemoryDepot {
-    /// An empty folder. The calls of `Depot` whose numbers stand in `fail` fail, where all are counted
+    /// An empty folder. The calls of `Depot` whose numbers stand in `fail` fail, where all but `protect` are counted
     /// together from 1; a call moves at most `piece` octets.
     pub fn new(alloc: Global, fail: &[u32], piece: usize) -> Result<MemoryDepot, OutOfMemory>
         requires { 0 < piece }
@@ -71,6 +71,15 @@ impl Depot for MemoryDepot {
             return Err(fault_of(&mut self.kept.failed, DepotCall::Read, name));
         }
         self.kept.read_piece(name, at, self.plan.piece, buf)
+    }
+
+    // Each name is a file of its own: there is nothing to note, and the plan doesn't count it.
+    fn protect(&mut self, _name: &str) -> Result<(), OutOfMemory>
+        ensures kept { memory_state self.new ≡ memory_state self.old }
+        ensures plan { memory_plan self.new ≡ memory_plan self.old }
+        ensures safe { IsOk result }
+    {
+        Ok(())
     }
 
     fn create(&mut self, name: &str) -> Result<(), IoFault>

@@ -1,7 +1,14 @@
 //! The files of the folder that the program runs in. No clause tells what a disk holds: this is the trusted edge.
-ghost use Rattle.std.specs.Prelude.{◌<◌, ◌≤◌, length, IfOk};
+ghost use Rattle.std.specs.Prelude.{◌≡◌, ◌≤◌, length, codes, IfOk, OnOk};
+ghost use Rattle.net_io.specs.Depot.{IsPart};
+ghost use Rattle.net_io.specs.Faults.{Rose};
 ghost use Rattle.net_io.specs.Memory.{IsFresh};
+ghost use Rattle.net_io.specs.Guarded.{Guards};
+ghost use Rattle.net_io.specs.inside.Kept.{GuardsAlone};
+ghost use Rattle.net_io.specs.declared.fault.IoFault.TheVariants.{Failed, OutOfMemory as IoOutOfMemory};
 
+use crate::guard::Guard;
+use crate::making::{guard_name, make_file};
 use crate::open_file::OpenFile;
 use crate::piece::new_piece;
 use crate::{Depot, IoFault, OutOfMemory};
@@ -14,11 +21,20 @@ use std::rt::Files;
 /// No file reaches this octet: the system counts octets by signed numbers of 64 bits.
 const NO_PLACE: u64 = 1 << 63;
 
+/// The name of the file that standard output is.
+const STANDARD_OUTPUT: &str = "/dev/stdout";
+
 /// The files of the program's folder. Their content isn't told. Each kind of call has one number of faults,
 /// which is that number for every name; it stays at its type's end. The file that was read last stays open.
+///
+/// `create` is refused for each name of a file that was protected, that a `create` has made, or that is standard output; for what
+/// is no regular file, as a folder, a device, a terminal or a pipe, which isn't opened; and for a symlink that leads nowhere. Files
+/// are told apart by their device and their number there, so another spelling, a symlink and a hard link are seen. What another
+/// process exchanges between two calls isn't, nor is a file in a file system whose numbers of files don't last.
 #[derive(Drop)]
 pub struct RealDepot<R: Files> {
     files: R,
+    guard: Guard,
     piece: Vec<u8>,
     open: Option<OpenFile<R::File>>,
     read_faults: u64,
@@ -29,12 +45,14 @@ pub struct RealDepot<R: Files> {
 impl<R: Files + Drop> RealDepot<R> {
     ghost use Rattle.net_io.specs.Real.{real_state};
 
-    /// The files that this runtime reaches, with no faults so far.
+    /// The files that this runtime reaches, with no faults so far. The file that standard output is, is protected.
     pub fn new(files: R, alloc: Global) -> Result<RealDepot<R>, OutOfMemory>
         ensures { IfOk result (λ depot. IsFresh (real_state depot)) }
     {
+        let guard = first_guard(alloc, &files)?;
         Ok(RealDepot {
             files,
+            guard,
             piece: new_piece(alloc)?,
             open: None,
             read_faults: 0,
@@ -44,12 +62,38 @@ impl<R: Files + Drop> RealDepot<R> {
     }
 }
 
-/// One write at the end of a file.
+/// A guard of the file that standard output is, where that can be told.
+fn first_guard<R: Files>(alloc: Global, files: &R) -> Result<Guard, OutOfMemory>
+    ensures { IfOk result (λ guard. GuardsAlone (codes "/dev/stdout") guard) }
+{
+    let mut guard = Guard::new(alloc);
+    guard_name(files, &mut guard, STANDARD_OUTPUT)?;
+    Ok(guard)
+}
+
+/// The fault that a call on a file gives: want of memory, or one that is counted. The number stays at its type's end.
+fn counted(fault: io::Error, faults: &mut u64) -> IoFault
+    ensures no_less { faults.old ≤ faults.new }
+    ensures failed { result ≡ Failed → Rose faults.old faults.new }
+    ensures out_of_memory { result ≡ IoOutOfMemory → faults.new ≡ faults.old }
+{
+    if fault.kind() == io::ErrorKind::OutOfMemory {
+        return IoFault::OutOfMemory;
+    }
+    *faults = faults.saturating_add(1);
+    IoFault::Failed
+}
+
+/// One write at the end of a file. A disk that takes nothing of some octets has failed.
 fn append_piece<R: Files>(files: &R, name: &str, bytes: &[u8]) -> io::Result<usize>
-    ensures { IfOk result (λ n. n ≤ length bytes.now) }
+    ensures { IfOk result (λ n. IsPart n bytes.now) }
 {
     let mut file = OpenOptions::new().append(true).open(files, name)?;
-    file.write(bytes)
+    let n = file.write(bytes)?;
+    if n == 0 && !bytes.is_empty() {
+        return Err(io::Error::from(io::ErrorKind::WriteZero));
+    }
+    Ok(n)
 }
 
 /// One read of a file from the octet `at` on, into the front of a buffer. The file stays open, in place of the one that was.
@@ -75,7 +119,7 @@ fn read_piece<R: Files>(
 }
 
 impl<R: Files + Drop> Depot for RealDepot<R> {
-    ghost use Rattle.net_io.specs.Real.{real_state};
+    ghost use Rattle.net_io.specs.Real.{real_state, real_guard};
 
     ghost state = { real_state };
 
@@ -92,31 +136,28 @@ impl<R: Files + Drop> Depot for RealDepot<R> {
                 buf[..n].copy_from_slice(&piece[..n]);
                 Ok(n)
             }
-            Err(_) => {
-                self.read_faults = self.read_faults.saturating_add(1);
-                Err(IoFault::Failed)
-            }
+            Err(fault) => Err(counted(fault, &mut self.read_faults)),
         }
+    }
+
+    fn protect(&mut self, name: &str) -> Result<(), OutOfMemory>
+        ensures kept { real_state self.new ≡ real_state self.old }
+        ensures guarded { OnOk result (Guards name.now (real_guard self.old) (real_guard self.new)) }
+    {
+        guard_name(&self.files, &mut self.guard, name)
     }
 
     fn create(&mut self, name: &str) -> Result<(), IoFault> {
-        match File::create(&self.files, name) {
-            Ok(_) => Ok(()),
-            Err(_) => {
-                self.create_faults = self.create_faults.saturating_add(1);
-                Err(IoFault::Failed)
-            }
+        match make_file(&self.files, &mut self.guard, name) {
+            Ok(()) => Ok(()),
+            Err(fault) => Err(counted(fault, &mut self.create_faults)),
         }
     }
 
-    // A disk that takes nothing of some octets has failed.
     fn append(&mut self, name: &str, bytes: &[u8]) -> Result<usize, IoFault> {
         match append_piece(&self.files, name, bytes) {
-            Ok(n) if n > 0 || bytes.is_empty() => Ok(n),
-            _ => {
-                self.append_faults = self.append_faults.saturating_add(1);
-                Err(IoFault::Failed)
-            }
+            Ok(n) => Ok(n),
+            Err(fault) => Err(counted(fault, &mut self.append_faults)),
         }
     }
 }

@@ -1,5 +1,5 @@
 //! A folder in memory none of whose calls fails but reads of absent names.
-ghost use Rattle.std.specs.Prelude.{◌≡◌, ◌<◌, ◌≤◌, ◌++◌, IsTrue, IsSome, [], None, take, OnOk, OnErr, IfOk, IsErrOf, option_copied};
+ghost use Rattle.std.specs.Prelude.{◌≡◌, ◌<◌, ◌≤◌, ◌++◌, IsTrue, IsSome, [], None, take, OnOk, OnErr, IsOk, IfOk, IsErrOf, option_copied};
 ghost use Rattle.net_io.specs.Depot.{octets_of, NowHolds, SameHeld, ReadsAt, IsPart, OnlyReads, OnlyCreates, OnlyAppends};
 ghost use Rattle.net_io.specs.Memory.{safe_state, safe_failed, IsFresh, SameFaults};
 
@@ -91,6 +91,14 @@ impl Depot for SafeDepot {
         ensures absent { IsErrOf result IoFault.Failed → (safe_state self.old).held name.now ≡ None }
     {
         self.read_piece(name, at, usize::MAX, buf)
+    }
+
+    // Each name is a file of its own: there is nothing to note.
+    fn protect(&mut self, _name: &str) -> Result<(), OutOfMemory>
+        ensures kept { safe_state self.new ≡ safe_state self.old }
+        ensures safe { IsOk result }
+    {
+        Ok(())
     }
 
     fn create(&mut self, name: &str) -> Result<(), IoFault>

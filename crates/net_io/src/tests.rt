@@ -1,6 +1,9 @@
 //! What no clause says: that calls succeed with ample memory, and the real edge once each way.
 use super::*;
+use std::alloc::Global;
 use std::fs;
+use std::os::unix;
+use std::process::Abort;
 
 // From an octet on, how many of four are read, and the buffer then.
 const READS: [(u64, usize, [u8; 4]); 5] = [
@@ -97,6 +100,77 @@ fn real_files(rt: HostRuntime) {
     }
     fs::remove_file(&rt, &name).expect(&rt, "removed");
     fs::remove_file(&rt, &other).expect(&rt, "removed");
+}
+
+// Names, in a folder of their own, of files that are protected or made, and of what is no regular file. The protected `to_later` leads to
+// `later`, which isn't there.
+const REFUSED: [&str; 12] = [
+    "in",
+    "./in",
+    "sub/../in",
+    "link",
+    "hard",
+    "later",
+    "to_later",
+    "nowhere",
+    "made",
+    "of_made",
+    "sub",
+    "../../dev/null",
+];
+
+const AFTERWARDS: [(&str, Option<&str>); 6] = [
+    ("in", Some("kept")),
+    ("made", Some("abc")),
+    ("old", Some("")),
+    ("new", Some("")),
+    ("later", None),
+    ("none", None),
+];
+
+fn within(rt: &impl Abort, alloc: Global, folder: &str, name: &str) -> String {
+    format!(in alloc; "{folder}/{name}").expect(rt, "memory")
+}
+
+#[test]
+fn guarded_files(rt: HostRuntime) {
+    let id = std::process::id(rt.process());
+    let alloc = rt.alloc();
+    let folder = format!(in alloc; "/tmp/net_io-{id}-guarded").expect(&rt, "memory");
+    fs::create_dir_all(&rt, &within(&rt, alloc, &folder, "sub")).expect(&rt, "folders");
+    let [kept, made] = ["in", "made"].map(|name| within(&rt, alloc, &folder, name));
+    fs::write(&rt, &kept, "kept").expect(&rt, "written");
+    fs::write(&rt, &within(&rt, alloc, &folder, "old"), "old").expect(&rt, "written");
+    fs::hard_link(&rt, &kept, &within(&rt, alloc, &folder, "hard")).expect(&rt, "linked");
+    for (file, link) in [
+        ("in", "link"),
+        ("later", "to_later"),
+        ("none", "nowhere"),
+        ("made", "of_made"),
+    ] {
+        unix::fs::symlink(&rt, file, &within(&rt, alloc, &folder, link)).expect(&rt, "linked");
+    }
+    let mut depot = RealDepot::new(&rt, alloc).expect(&rt, "memory");
+    depot.protect(&kept).expect(&rt, "memory");
+    depot
+        .protect(&within(&rt, alloc, &folder, "to_later"))
+        .expect(&rt, "memory");
+    depot.create(&made).expect(&rt, "made");
+    append_all(&mut depot, &made, b"abc").expect(&rt, "appended");
+    for name in REFUSED {
+        let refused = depot.create(&within(&rt, alloc, &folder, name));
+        assert_eq!(rt; refused, Err(IoFault::Failed), "of {name}");
+    }
+    for name in ["old", "new"] {
+        depot
+            .create(&within(&rt, alloc, &folder, name))
+            .expect(&rt, "made");
+    }
+    for (name, want) in AFTERWARDS {
+        let held = fs::read_to_string(&rt, &within(&rt, alloc, &folder, name)).ok();
+        assert_eq!(rt; held.as_deref(), want, "in {name}");
+    }
+    fs::remove_dir_all(&rt, &folder).expect(&rt, "removed");
 }
 
 #[test]

@@ -1,7 +1,8 @@
 -- How a call ends that makes no file, over plain values.
-use Rattle.std.proofs.Common.{◌≡◌, ◌≢◌, ◌<◌, ℕ, List, [], ◌++◌, length, refl, sym, ap, subst, ◌∙◌, arith, append_assoc, inl, inr, ◌⊎◌, Option, None}
+use Rattle.std.proofs.Common.{◌≡◌, ◌≢◌, ◌<◌, ℕ, ◌+◌, List, [], ◌++◌, length, take, refl, sym, ap, subst, ◌∙◌, arith, append_assoc, inl, inr, ◌⊎◌, Option, None}
 use Rattle.std.specs.Prelude.{IsTrue, Contains}
-use Rattle.std.proofs.lemmas.List.{append-nil, take-append-le, length-append}
+use Rattle.std.proofs.Math.Seq.{take-append-add}
+use Rattle.std.proofs.lemmas.List.{append-nil, take-append-le, take_all, length-append}
 use Rattle.net_io.specs.Depot.{SameHeld}
 use Rattle.net_io.specs.Faults.{Rose, SameCounts}
 use Rattle.net_io.specs.Sink.{SinkState, WritesPrefix, WritesLess}
@@ -10,16 +11,51 @@ use Rattle.call_report.specs.declared.status.Status.{Status}
 use Rattle.call_report.specs.declared.status.Status.TheVariants.{ReadFault, WriteFault, OutOfMemory}
 use Rattle.netlabel_run.specs.Report.{HasReport, PrintsLate}
 use Rattle.call_report.specs.Report.{Folder, Report, report_text}
-use Rattle.netlabel_run.specs.Status.{HasStatus, IsPossible}
+use Rattle.netlabel_run.specs.Status.{HasStatus, IsPossible, IsRefusal}
 use Rattle.netlabel_run.specs.Stages.{HasOutputs}
 use Rattle.call_report.specs.Stages.{Stage}
 use Rattle.netlabel_run.specs.Seen.{IsLawful, IsWhole}
-use Rattle.call_report.specs.Outside.{Outside, ReadRose, NoneFailed}
+use Rattle.call_report.specs.Outside.{Outside, ReadRose, NoneFailed, NoWriteFailed}
 use Rattle.netlabel_run.specs.CallEnds.{CallEnds, EndsWith, Prints, IsClean, IsWritten}
 use Rattle.netlabel_run.specs.inside.Ending.{Knows, Begins}
 use Rattle.call_report.specs.Numbers.{status_number}
-use Rattle.call_report.specs.Printing.{Printed, Breaks}
+use Rattle.call_report.specs.Printing.{Printed, EndsInLine, Breaks}
 use Rattle.call_report.proofs.Law.{a_whole_text_is_a_front, a_part_of_a_text_is_a_front, less_of_a_text_is_less_of_more}
+use Rattle.netlabel_run.proofs.Access.{has_access}
+
+-- ---- a body, and a line behind it
+
+-- all of a body and of its line some first octets are some first octets of both
+pub front_behind : (body line old new : List ℕ) → WritesPrefix line (old ++ body) new → WritesPrefix (body ++ line) old new
+front_behind body line old new part = record {
+  count = length body + part.count;
+  within = omega (arith, part.within, length-append body line);
+  written = part.written ∙ append_assoc old body (take part.count line) ∙ ap (λ t. old ++ t) (sym (take-append-add body line part.count));
+}
+
+whole_line : (body line old new : List ℕ) → new ≡ old ++ (body ++ line) → WritesPrefix line (old ++ body) new
+whole_line body line old new all = record {
+  count = length line;
+  within = omega arith;
+  written = all ∙ sym (append_assoc old body line) ∙ ap (λ t. (old ++ body) ++ t) (sym (take_all (length line) line (omega arith)));
+}
+
+pub part_of_line : (body line old new : List ℕ) → EndsInLine body line old new → WritesPrefix line (old ++ body) new
+part_of_line body line old new ends = record { count = ends.count; within = omega (arith, ends.within); written = ends.written ∙ sym (append_assoc old body (take ends.count line)) }
+
+-- unless the outside refused something, the status is the one that was due, and all of the body was printed
+pub printed_body : (body last : List ℕ) (due status : Status) (a b : SinkState) → Printed body last due status a b → (IsRefusal (status_number status) → ⊥)
+    → (status ≡ due) × (IsTrue a.tells → WritesPrefix last (a.written ++ body) b.written)
+printed_body body last due status a b printed other = elim printed.how [
+  | inl all ↦ (all.0, λ out. whole_line body last a.written b.written (all.2 out))
+  | inr rest ↦ elim rest [
+    | inl memory ↦ absurd (other (inr (inr (ap status_number memory.0))))
+    | inr failed ↦ elim failed [
+      | inl broken ↦ absurd (other (inr (inl (ap status_number broken.0))))
+      | inr line ↦ (line.0, λ out. part_of_line body last a.written b.written (line.3 out))
+    ]
+  ]
+]
 
 -- the report of what was asked for has this body and this last line
 pub record HasParts (request : Option Command) (held : Folder) (text line : List ℕ) : Type 0 where
@@ -50,8 +86,8 @@ parts_text : (request : Option Command) (held : Folder) (body last : List ℕ) (
 parts_text request held body last p = ap (λ x. x ++ p.report.last) p.body ∙ ap (λ x. body ++ x) p.last
 
 module _ (request : Option Command) (before after : Outside) (stages : List Stage) (knows : Knows request before after stages) where
-  ends : (status : ℕ) → EndsWith request before after status stages → (IsTrue before.folder.tells → Prints request before after status [] stages)
-      → (IsTrue before.stream.tells → status ≡ 3 → PrintsLate request → after.stream.written ≡ before.stream.written)
+  ends : (status : ℕ) → EndsWith request before after status [] stages → (IsTrue before.folder.tells → Prints request before after status [] stages)
+      → (IsTrue before.stream.tells → status ≡ 3 → PrintsLate request [] → after.stream.written ≡ before.stream.written)
       → (IsTrue before.folder.tells → IsClean stages before after status → IsWhole request before.folder.held []) → CallEnds request before after status []
   ends status with_status prints silent whole = record {
     stages = stages;
@@ -62,11 +98,13 @@ module _ (request : Option Command) (before after : Outside) (stages : List Stag
       outputs = [];
       are = knows.outputs;
       begun = λ k d within. absurd (omega (arith, within));
+      earlier = ([], knows.outputs, λ k d within. absurd (omega (arith, within)));
       whole = λ clean k d within. absurd (omega (arith, within));
       others = λ name not_it. knows.kept told name;
     };
     lawful = λ told. knows.lawful;
     whole = whole;
+    access = λ told. has_access request before.folder.held [];
     silent = silent;
     still = λ none. (knows.creates, knows.appends);
     folder_told = knows.folder_told;
@@ -89,9 +127,15 @@ module _ (request : Option Command) (before after : Outside) (stages : List Stag
   short_of_memory : IsClean stages before after 6 → ⊥
   short_of_memory clean = elim clean [ inl e ↦ omega (arith, e) | inr c ↦ c.0 refl ]
 
-  -- no read has failed, or one that is counted
+  -- no read has failed, or one that is counted and may have something in front of it
   abbrev Reads : Type 0
-  Reads = SameCounts before.folder.reads after.folder.reads ⊎ ReadRose stages before after
+  Reads = SameCounts before.folder.reads after.folder.reads ⊎ (ReadRose stages before after × (PrintsLate request [] → ⊥))
+
+  none_failed : SameCounts before.folder.reads after.folder.reads → after.stream.faults ≡ before.stream.faults → NoneFailed before after
+  none_failed reads writes = record { reads = reads; creates = knows.creates; appends = knows.appends; writes = writes }
+
+  unwritten : after.stream.faults ≡ before.stream.faults → NoWriteFailed before after
+  unwritten writes = record { writes = writes; appends = knows.appends }
 
   -- memory ran out, and nothing or a beginning of the report was printed
   ends_without_memory : Reads → after.stream.faults ≡ before.stream.faults → (IsTrue before.folder.tells → IsTrue before.stream.tells → Part) → CallEnds request before after 6 []
@@ -102,16 +146,12 @@ module _ (request : Option Command) (before after : Outside) (stages : List Stag
     usage = λ none. inr refl;
     read_fault = λ e. absurd (omega (arith, e));
     write_fault = λ e. absurd (omega (arith, e));
-    memory = λ e. (
-      record { writes = writes; appends = knows.appends },
-      elim reads [
-        | inl same ↦ inl (record { reads = same; creates = knows.creates; appends = knows.appends; writes = writes })
-        | inr rose ↦ inr (inl rose)
-      ],
-    );
+    memory = λ e. (unwritten writes, elim reads [ inl same ↦ inl (none_failed same writes) | inr rose ↦ inr (inl rose.0) ]);
+    memory_alone = λ e late. elim reads [ inl same ↦ none_failed same writes | inr rose ↦ absurd (rose.1 late) ];
     unmoved = λ e. absurd (omega (arith, e));
   }) (λ told. record {
     whole = λ out clean. absurd (short_of_memory clean);
+    body = λ out other. absurd (other (inr (inr refl)));
     part = part told;
     pause = λ out e. absurd (omega (arith, e));
     stop = λ e. absurd (omega (arith, e));
@@ -143,11 +183,13 @@ module _ (request : Option Command) (before after : Outside) (stages : List Stag
     read_fault = λ e. absurd (omega (arith, e));
     write_fault = λ e. inl rose;
     memory = λ e. absurd (omega (arith, e));
+    memory_alone = λ e. absurd (omega (arith, e));
     unmoved = λ e. absurd (omega (arith, e));
   }) (λ told.
       let b = begins told in
       record {
         whole = λ out clean. absurd (write_failed rose clean);
+        body = λ out other. absurd (other (inr (inl refl)));
         part = λ out. begun_part text b (a_part_of_a_text_is_a_front text (b.rest ++ b.report.last) before.stream.written after.stream.written (breaks.written out));
         pause = λ out e. absurd (omega (arith, e));
         stop = λ e. inl (record {
@@ -164,21 +206,23 @@ module _ (request : Option Command) (before after : Outside) (stages : List Stag
   read_failed rose clean = elim clean [ inl e ↦ omega (arith, e) | inr c ↦ c.1 (inr (inl rose)) ]
 
   -- a read has failed behind the beginning of a report
-  pub ends_unread : (text : List ℕ) → request ≢ None → ReadRose stages before after → (IsTrue before.stream.tells → IsWritten text before after)
+  pub ends_unread : (text : List ℕ) → request ≢ None → ReadRose stages before after → after.stream.faults ≡ before.stream.faults → (IsTrue before.stream.tells → IsWritten text before after)
       → (IsTrue before.folder.tells → (text ≡ []) ⊎ Begins request before.folder.held text)
       → (IsTrue before.folder.tells → (report : Report) → HasReport request before.folder.held [] report → Contains report.pauses text)
-      → (PrintsLate request → text ≡ []) → CallEnds request before after 3 []
-  ends_unread text form rose written begins pauses quiet = ends 3 (record {
+      → (PrintsLate request [] → text ≡ []) → CallEnds request before after 3 []
+  ends_unread text form rose writes written begins pauses quiet = ends 3 (record {
     due = λ told. inr (inl refl);
     possible = inr (inl refl);
     no_form = λ e. absurd (omega (arith, e));
     usage = λ none. absurd (form none);
-    read_fault = λ e. inl rose;
+    read_fault = λ e. (unwritten writes, inl rose);
     write_fault = λ e. absurd (omega (arith, e));
     memory = λ e. absurd (omega (arith, e));
+    memory_alone = λ e. absurd (omega (arith, e));
     unmoved = λ e. absurd (omega (arith, e));
   }) (λ told. record {
     whole = λ out clean. absurd (read_failed rose clean);
+    body = λ out other. absurd (other (inl refl));
     part = λ out. elim (begins told) [
       | inl none ↦ inl (written out ∙ ap (λ t. before.stream.written ++ t) none)
       | inr b ↦ begun_part text b (a_whole_text_is_a_front text (b.rest ++ b.report.last) before.stream.written after.stream.written (written out))
@@ -212,12 +256,12 @@ module _ (request : Option Command) (before after : Outside) (stages : List Stag
 
     pub ends_stopped_unread : (status : Status) → ReadRose stages before after
         → (IsTrue before.folder.tells → (report : Report) → HasReport request before.folder.held [] report → Contains report.pauses text)
-        → (PrintsLate request → text ≡ []) → Printed text [] ReadFault status before.stream after.stream → CallEnds request before after (status_number status) []
-    ends_stopped_unread status rose pauses quiet printed = elim printed.how [
+        → (PrintsLate request [] → ⊥) → Printed text [] ReadFault status before.stream after.stream → CallEnds request before after (status_number status) []
+    ends_stopped_unread status rose pauses early printed = elim printed.how [
       | inl all ↦ subst (λ (n : ℕ). CallEnds request before after n []) (sym (ap status_number all.0))
-          (ends_unread text form rose (λ out. all.2 out ∙ ap (λ t. before.stream.written ++ t) (append-nil text)) (λ told. inr (begins told)) pauses quiet)
+          (ends_unread text form rose all.1 (λ out. all.2 out ∙ ap (λ t. before.stream.written ++ t) (append-nil text)) (λ told. inr (begins told)) pauses (λ late. absurd (early late)))
       | inr rest ↦ elim rest [
-        | inl memory ↦ short_of status memory.0 (inr rose) memory.1 memory.2
+        | inl memory ↦ short_of status memory.0 (inr (rose, early)) memory.1 memory.2
         | inr failed ↦ elim failed [
           | inl broken ↦ unwritten_of status broken.0 broken.1 broken.2
           | inr line ↦ absurd (omega (arith, line.2))
@@ -228,9 +272,9 @@ module _ (request : Option Command) (before after : Outside) (stages : List Stag
   module _ (due : Status) (body last : List ℕ) (is : IsDue request before due body last) where
     -- the event decides, whether or not its line was printed whole
     ends_due : (IsTrue before.stream.tells → IsClean stages before after (status_number due) → IsWritten (body ++ last) before after)
-        → (IsTrue before.stream.tells → WritesPrefix (body ++ last) before.stream.written after.stream.written)
+        → (IsTrue before.stream.tells → WritesPrefix last (before.stream.written ++ body) after.stream.written)
         → (status_number due ≡ 0 → NoneFailed before after) → CallEnds request before after (status_number due) []
-    ends_due whole part unmoved = ends (status_number due) (record {
+    ends_due whole behind unmoved = ends (status_number due) (record {
       due = λ told. inl (is.has told);
       possible = inl is.may;
       no_form = is.form;
@@ -238,12 +282,19 @@ module _ (request : Option Command) (before after : Outside) (stages : List Stag
       read_fault = λ e. absurd (is.event.0 e);
       write_fault = λ e. absurd (is.event.1 e);
       memory = λ e. absurd (is.event.2 e);
+      memory_alone = λ e. absurd (is.event.2 e);
       unmoved = unmoved;
     }) (λ told.
         let p = is.parts told in
         record {
           whole = λ out clean. (p.report, p.has, whole out clean ∙ ap (λ t. before.stream.written ++ t) (sym (parts_text request before.folder.held body last p)));
-          part = λ out. parts_part body last p (part out);
+          body = λ out other. (
+            p.report,
+            p.has,
+            subst (λ (b : List ℕ). WritesPrefix p.report.last (before.stream.written ++ b) after.stream.written) (sym p.body)
+                (subst (λ (l : List ℕ). WritesPrefix l (before.stream.written ++ body) after.stream.written) (sym p.last) (behind out)),
+          );
+          part = λ out. parts_part body last p (front_behind body last before.stream.written after.stream.written (behind out));
           pause = λ out e. absurd (is.event.0 e);
           stop = λ e. absurd (is.event.1 e);
         })
@@ -260,8 +311,7 @@ module _ (request : Option Command) (before after : Outside) (stages : List Stag
         let ended = λ (n : ℕ). CallEnds request before after n [] in
         elim printed.how [
           | inl all ↦ subst ended (sym (ap status_number all.0)) (ends_due (λ out clean. all.2 out)
-              (λ out. subst (λ (t : List ℕ). WritesPrefix t before.stream.written after.stream.written) (append-nil (body ++ last)) (a_whole_text_is_a_front (body ++ last) [] before.stream.written after.stream.written (all.2 out)))
-              (λ zero. record { reads = reads; creates = knows.creates; appends = knows.appends; writes = all.1 }))
+              (λ out. whole_line body last before.stream.written after.stream.written (all.2 out)) (λ zero. none_failed reads all.1))
           | inr rest ↦ elim rest [
             | inl memory ↦ subst ended (sym (ap status_number memory.0)) (ends_without_memory (inl reads) memory.1 (λ told out. parts_part body last (is.parts told) (memory.2 out)))
             | inr failed ↦ elim failed [
@@ -270,7 +320,7 @@ module _ (request : Option Command) (before after : Outside) (stages : List Stag
                   let not_done : status_number due ≢ 0 = λ e. omega (arith, line.2, ap length (is.last e)) in
                   subst ended (sym (ap status_number line.0)) (ends_due
                   (λ out clean. elim clean [ inl e ↦ absurd (not_done e) | inr c ↦ absurd (c.1 (inl line.1)) ])
-                  line.3 (λ zero. absurd (not_done zero)))
+                  (λ out. part_of_line body last before.stream.written after.stream.written (line.3 out)) (λ zero. absurd (not_done zero)))
             ]
           ]
         ]

@@ -1,9 +1,17 @@
 -- The laws of src/laws.rt under their names, for the crates above.
-use Rattle.std.proofs.Common.{ℕ, List, Option}
+use Rattle.std.proofs.Common.{◌≡◌, ◌<◌, ℕ, List, Option, Some, ◌↔◌, Ok}
+use Rattle.mls_label.specs.declared.label.Label.{Label}
 use Rattle.netlabel_run.specs.declared.command.Command.{Command}
+use Rattle.netlabel_run.specs.declared.command.Command.TheVariants.{Run}
 use Rattle.netlabel_run.specs.Words.{IsAsked}
-use Rattle.call_report.specs.Report.{Folder, Versions}
-use Rattle.netlabel_run.specs.Laws.{IsOne, IsDetermined}
+use Rattle.call_report.specs.Report.{Folder, Versions, Report}
+use Rattle.call_report.specs.Output.{Output}
+use Rattle.netlabel_run.specs.Seen.{IsLawful, IsWhole}
+use Rattle.netlabel_run.specs.Laws.{IsOne, IsDetermined, HasNoCommandBeside, HoldTheSame, IsAnswer}
+use Rattle.netlabel_run.proofs.Forced.{forced}
+use Rattle.netlabel_run.proofs.OneAnswer.{one_answer}
+use Rattle.netlabel_run.specs.Verdict.{IsVerdict, IsGranted}
+use Rattle.netlabel_run.proofs.Granted.{granted, grants}
 use Rattle.netlabel_run.proofs.Once.{asked_once, determined}
 
 pub words_ask_for_one_thing : (words : List (List ℕ)) → IsOne (IsAsked words)
@@ -11,3 +19,14 @@ words_ask_for_one_thing = asked_once
 
 pub commands_have_one_report : (request : Option Command) (held : Folder) (seen : Versions) → IsDetermined request held seen
 commands_have_one_report = determined
+
+pub versions_without_commands_beside_are_forced : (file : List ℕ) (workers workers' : ℕ) (held : Folder) (seen seen' : Versions) → HasNoCommandBeside file held → 0 < workers → 0 < workers'
+    → IsLawful (Some (Run file workers)) held seen → IsWhole (Some (Run file workers)) held seen → IsLawful (Some (Run file workers')) held seen' → IsWhole (Some (Run file workers')) held seen' → seen ≡ seen'
+versions_without_commands_beside_are_forced = forced
+
+pub scripts_without_commands_beside_have_one_answer : (file : List ℕ) (held other : Folder) (report report' : Report) (outputs outputs' : List Output) → HasNoCommandBeside file other → HoldTheSame file held other
+    → IsAnswer file held report outputs → IsAnswer file other report' outputs' → (report ≡ report') × (outputs ≡ outputs')
+scripts_without_commands_beside_have_one_answer = one_answer
+
+pub labels_are_delivered_exactly_where_granted : (doi : ℕ) (level : Label) (octets : List ℕ) (label : Label) → (IsVerdict doi level octets (Ok label) ↔ IsGranted doi level octets label)
+labels_are_delivered_exactly_where_granted doi level octets label = (granted doi level octets label, grants doi level octets label)

@@ -1,5 +1,7 @@
+pub mod Access
 pub mod Answer
 pub mod Judging
+pub mod Granted
 pub mod Scripts
 pub mod Checking
 pub mod Runs
@@ -11,3 +13,5 @@ pub mod Once
 pub mod Requests
 pub mod Shown
 pub mod Showing
+pub mod Forced
+pub mod OneAnswer

@@ -1,5 +1,5 @@
 -- How `run` ends whose script was read, over plain values.
-use Rattle.std.proofs.Common.{◌≡◌, ◌≢◌, ◌<◌, ◌≤◌, ℕ, zero, suc, Bool, true, false, List, [], ◌∷◌, ◌++◌, length, map, take, Option, Some, None, Result, Ok, Err, refl, sym, ap, subst, ◌∙◌, append_assoc, append-nil, arith, inl, inr, ◌⊎◌}
+use Rattle.std.proofs.Common.{◌≡◌, ◌≢◌, ◌<◌, ◌≤◌, ℕ, zero, suc, ◌-◌, Bool, true, false, List, [], ◌∷◌, ◌++◌, length, map, take, Option, Some, None, Result, Ok, Err, refl, sym, ap, subst, ◌∙◌, append_assoc, append-nil, arith, inl, inr, ◌⊎◌}
 use Rattle.std.specs.Prelude.{IsTrue, IsSome, All, Contains}
 use Rattle.std.specs.Option.{option_map_or}
 use Rattle.std.proofs.lemmas.List.{length-map, length-take-le, length-append, take-append-le}
@@ -16,7 +16,7 @@ use Rattle.call_report.specs.Numbers.{status_number}
 use Rattle.call_report.specs.Report.{Folder, Versions, Report, report_text, late_report}
 use Rattle.call_report.specs.Event.{Event, packets_limit}
 use Rattle.call_report.specs.Output.{Output, IsBegun, IsMade}
-use Rattle.call_report.specs.Outside.{Outside, ReadRose, CreateRose, AppendRose, NoneFailed}
+use Rattle.call_report.specs.Outside.{Outside, ReadRose, CreateRose, AppendRose, NoneFailed, NoWriteFailed}
 use Rattle.call_report.specs.Printing.{Printed}
 use Rattle.call_report.specs.Stages.{Stage, reading_stage}
 use Rattle.call_report.proofs.Law.{a_whole_text_is_a_front, a_part_of_a_text_is_a_front}
@@ -36,8 +36,10 @@ use Rattle.netlabel_run.specs.Report.{HasReport}
 use Rattle.netlabel_run.specs.Status.{HasStatus, IsPossible, IsRefusal}
 use Rattle.netlabel_run.specs.CallEnds.{CallEnds, HasBegun, EndsWith, Prints, Leaves, IsClean, IsWritten, StopsInBody}
 use Rattle.netlabel_run.specs.inside.Ending.{IsOnlyRead, ReadsScript}
+use Rattle.netlabel_run.proofs.Access.{has_access}
+use Rattle.netlabel_run.proofs.Endings.{front_behind, part_of_line, printed_body}
 use Rattle.netlabel_run.proofs.Requests.{knows_reading}
-use Rattle.netlabel_run.proofs.Runs.{runs_same, body_begins, report_begins, done_has_no_event, done_is_whole, event_is_whole, input_of_last, output_of_last, none_of_theirs}
+use Rattle.netlabel_run.proofs.Runs.{runs_same, runs_front, body_begins, line_begins, report_begins, done_has_no_event, done_is_whole, event_is_whole, input_of_last, output_of_last, none_of_theirs}
 
 -- ---- a file that holds a script
 
@@ -102,7 +104,7 @@ prefix_of body last due status a b printed out = elim printed.how [
     | inl memory ↦ memory.2 out
     | inr failed ↦ elim failed [
       | inl broken ↦ a_part_of_a_text_is_a_front body last a.written b.written (broken.2.written out)
-      | inr line ↦ line.3 out
+      | inr line ↦ front_behind body last a.written b.written (part_of_line body last a.written b.written (line.3 out))
     ]
   ]
 ]
@@ -139,6 +141,11 @@ longer_prefix : (text rest whole old new : List ℕ) → text ++ rest ≡ whole 
 longer_prefix text rest whole old new is p =
     subst (λ (t : List ℕ). WritesPrefix t old new) is
     (record { count = p.count; within = omega (arith, p.within, length-append text rest); written = p.written ∙ ap (λ t. old ++ t) (sym (take-append-le p.count text rest p.within)) })
+
+-- no flow is in hand where none was begun
+none_in_hand : (flows : List FlowLine) (of : FlowLine) → last_of (take 0 flows) ≡ Some of → ⊥
+none_in_hand [] of is = absurd cc
+none_in_hand (flow ∷ flows) of is = absurd cc
 
 -- stages without an output are of flows without one
 no_outputs : (flows : List FlowLine) → All (λ (stage : Stage). stage.output ≡ None) (map flow_stage flows) → All (λ (flow : FlowLine). flow.output ≡ None) flows
@@ -204,6 +211,16 @@ module _ (file : List ℕ) (workers : ℕ) (before : Outside) (folder : DepotSta
     appends = λ name. none.appends name ∙ reads.appends name;
     writes = none.writes;
   }
+
+  unwritten : NoWriteFailed mid after → NoWriteFailed before after
+  unwritten none = record { writes = none.writes; appends = λ name. none.appends name ∙ reads.appends name }
+
+  -- of a flow's files nothing has failed where no flow was begun
+  none_rose : seen ≡ [] → InputRose hand mid after → ⊥
+  none_rose none rose = none_in_hand script.flows rose.of (ap (λ (s : Versions). flow_in_hand script s) (sym none) ∙ rose.is)
+
+  cause_of : (due : Status) → status ≡ due → IsCauseOf hand due mid after
+  cause_of due e = subst (λ (s : Status). IsCauseOf hand s mid after) e ends.cause
 
   -- ---- where the folder tells what it holds
 
@@ -271,6 +288,20 @@ module _ (file : List ℕ) (workers : ℕ) (before : Outside) (folder : DepotSta
     part out =
         let begins = report_begins script has.runs ends.due in
         inr (report, has_report, longer_prefix (due_body script has.runs ends.due ++ due_line script has.runs ends.due) begins.0 (report_text report) before.stream.written after.stream.written begins.1 (due_prefix out))
+
+    body : IsTrue before.stream.tells → (IsRefusal (status_number status) → ⊥)
+        → (r : Report) × HasReport asked before.folder.held seen r × WritesPrefix r.last (before.stream.written ++ r.body) after.stream.written
+    body out other = elim shown [
+      | inl printed ↦
+          let all = printed_body (due_body script has.runs ends.due) (due_line script has.runs ends.due) ends.due status before.stream after.stream printed other in
+          let begins = line_begins script has.runs ends.due (λ refusal. other (subst (λ (s : Status). IsRefusal (status_number s)) (sym all.0) refusal)) in (
+            report,
+            has_report,
+            longer_prefix (due_line script has.runs ends.due) begins.1 report.last (before.stream.written ++ report.body) after.stream.written begins.2
+                (subst (λ (t : List ℕ). WritesPrefix (due_line script has.runs ends.due) (before.stream.written ++ t) after.stream.written) begins.0 (all.1 out)),
+          )
+      | inr kept ↦ absurd (other (inr (inl (ap status_number kept.is))))
+    ]
 
     event_whole : (n : ℕ) → EndsBy n has.runs → AreWholeRuns script has.runs
     event_whole n by = event_is_whole script before.folder.held 1 packets_limit seen has.runs by.event are by.is
@@ -375,7 +406,7 @@ module _ (file : List ℕ) (workers : ℕ) (before : Outside) (folder : DepotSta
         ]
 
     prints : Prints asked before after (status_number status) seen stages
-    prints = record { whole = λ out clean. (report, has_report, (clean_ends clean).1 out); part = part; pause = pause; stop = stop }
+    prints = record { whole = λ out clean. (report, has_report, (clean_ends clean).1 out); body = body; part = part; pause = pause; stop = stop }
 
     -- ---- files
 
@@ -393,6 +424,11 @@ module _ (file : List ℕ) (workers : ℕ) (before : Outside) (folder : DepotSta
       outputs = runs_outputs has.runs;
       are = as_script file (before.folder.held file) text script (holds told) is _ _ _ (has.runs, are, refl);
       begun = λ k d within. begun_here _ (has.begun k d within);
+      earlier = (
+        runs_outputs (take (length seen - 1) has.runs),
+        as_script file (before.folder.held file) text script (holds told) is _ _ _ (take (length seen - 1) has.runs, runs_front (plan_of script) before.folder.held (length seen - 1) 1 packets_limit script.flows seen has.runs are, refl),
+        λ k d within. made_here _ (has.earlier k d within),
+      );
       whole = λ clean k d within. made_here _ (has.made (clean_ends clean).0.finished k d within);
       others = λ name none. has.others name (none_of_theirs has.runs name none) ∙ kept name;
     }
@@ -415,20 +451,19 @@ module _ (file : List ℕ) (workers : ℕ) (before : Outside) (folder : DepotSta
   possible OutOfMemory cause = inr (inr (inr refl))
   possible Limit cause = inl (text, subst (λ (r : Result Script ScriptStop). RunMay r 7) (sym is) (inr (some_flow script seen cause, inr refl)))
 
-  with_ends : EndsWith asked before after (status_number status) stages
+  with_ends : EndsWith asked before after (status_number status) seen stages
   with_ends = record {
     due = status_due;
     possible = possible status ends.cause;
-    no_form = λ e. absurd (subst (λ (s : Status). IsCauseOf hand s mid after) (is_by status NoForm e) ends.cause);
+    no_form = λ e. absurd (cause_of NoForm (is_by status NoForm e));
     usage = λ none. absurd cc;
-    read_fault = λ e. input_rose (subst (λ (s : Status). IsCauseOf hand s mid after) (is_by status ReadFault e) ends.cause);
-    write_fault = λ e. elim (subst (λ (s : Status). IsCauseOf hand s mid after) (is_by status WriteFault e) ends.cause) [ inl write ↦ inl write | inr append ↦ inr (output_rose append) ];
+    read_fault = λ e. let cause = cause_of ReadFault (is_by status ReadFault e) in (unwritten cause.0, input_rose cause.1);
+    write_fault = λ e. elim (cause_of WriteFault (is_by status WriteFault e)) [ inl write ↦ inl write | inr append ↦ inr (output_rose append) ];
     memory = λ e.
-        let cause = subst (λ (s : Status). IsCauseOf hand s mid after) (is_by status OutOfMemory e) ends.cause in (
-          record { writes = cause.0.writes; appends = λ name. cause.0.appends name ∙ reads.appends name },
-          elim cause.1 [ inl none ↦ inl (none_failed none) | inr rose ↦ inr (input_rose rose) ],
-        );
-    unmoved = λ e. none_failed (subst (λ (s : Status). IsCauseOf hand s mid after) (is_by status Done e) ends.cause);
+        let cause = cause_of OutOfMemory (is_by status OutOfMemory e) in
+        (unwritten cause.0, elim cause.1 [ inl none ↦ inl (none_failed none) | inr rose ↦ inr (input_rose rose) ]);
+    memory_alone = λ e none. elim (cause_of OutOfMemory (is_by status OutOfMemory e)).1 [ inl none' ↦ none_failed none' | inr rose ↦ absurd (none_rose none rose) ];
+    unmoved = λ e. none_failed (cause_of Done (is_by status Done e));
   }
 
   pub run_ends : CallEnds asked before after (status_number status) seen
@@ -440,7 +475,8 @@ module _ (file : List ℕ) (workers : ℕ) (before : Outside) (folder : DepotSta
     leaves = leaves;
     lawful = lawful;
     whole = whole;
-    silent = λ out e late. absurd late;
+    access = λ told. has_access asked before.folder.held seen;
+    silent = λ out e none. absurd (none_rose none (cause_of ReadFault (is_by status ReadFault e)).1);
     still = λ none.
         let same = ends.still (no_outputs (take (length seen) script.flows) (λ k d less. none (suc k) d (omega (arith, less)))) in
         (λ name. same.0 name ∙ reads.creates name, λ name. same.1 name ∙ reads.appends name);

@@ -21,7 +21,9 @@ use Rattle.call_report.specs.declared.status.Status.{Status}
 use Rattle.call_report.specs.declared.status.Status.TheVariants.{Done, NoForm, WrongScript, ReadFault, WriteFault, WrongCapture, OutOfMemory, Limit}
 use Rattle.call_report.specs.Report.{report_text}
 use Rattle.call_report.specs.Event.{Event}
+use Rattle.call_report.specs.Numbers.{status_number}
 use Rattle.netlabel_run.specs.Run.{flow_stage}
+use Rattle.netlabel_run.specs.Status.{IsRefusal}
 
 -- ---- another folder with the same content
 
@@ -35,6 +37,25 @@ runs_same plan held held' same number most [] [] (run ∷ runs) h = absurd h
 runs_same plan held held' same number most [] (lists ∷ seen) runs h = absurd h
 runs_same plan held held' same number most (flow ∷ flows) [] (run ∷ runs) h = absurd h
 runs_same plan held held' same number most (flow ∷ flows) (lists ∷ seen) [] h = absurd h
+
+-- the first of the flows that have run
+some_taken : (n : ℕ) (seen : Versions) → 0 < length (take n seen) → 0 < length seen
+some_taken zero [] some = some
+some_taken (suc n) [] some = some
+some_taken n (lists ∷ seen) some = omega arith
+
+pub runs_front : (plan : PlanState) (held : Folder) (k number most : ℕ) (flows : List FlowLine) (seen : Versions) (runs : List FlowRun) → AreRuns plan held number most flows seen runs
+    → AreRuns plan held number most flows (take k seen) (take k runs)
+runs_front plan held zero number most [] seen runs h = tt
+runs_front plan held zero number most (flow ∷ flows) seen runs h = tt
+runs_front plan held (suc k) number most [] [] [] h = tt
+runs_front plan held (suc k) number most (flow ∷ flows) [] [] h = tt
+runs_front plan held (suc k) number most (flow ∷ flows) (lists ∷ seen) (run ∷ runs) h =
+    (h.0, h.1, h.2, h.3, λ some. h.4 (some_taken k seen some), runs_front plan held k (number + 1) (most - length lists) flows seen runs h.5)
+runs_front plan held (suc k) number most [] [] (run ∷ runs) h = absurd h
+runs_front plan held (suc k) number most [] (lists ∷ seen) runs h = absurd h
+runs_front plan held (suc k) number most (flow ∷ flows) [] (run ∷ runs) h = absurd h
+runs_front plan held (suc k) number most (flow ∷ flows) (lists ∷ seen) [] h = absurd h
 
 -- ---- the report begins with what was printed
 
@@ -71,6 +92,18 @@ body_begins script runs WrongScript = ([], append-nil (runs_report script runs).
 body_begins script runs WrongCapture = ([], append-nil (runs_report script runs).body)
 body_begins script runs OutOfMemory = ([], append-nil (runs_report script runs).body)
 body_begins script runs Limit = ([], append-nil (runs_report script runs).body)
+
+-- where the outside refused nothing all of the body is printed, and of the event's line nothing, or all
+pub line_begins : (script : Script) (runs : List FlowRun) (due : Status) → (IsRefusal (status_number due) → ⊥)
+    → (due_body script runs due ≡ (runs_report script runs).body) × (rest : List ℕ) × (due_line script runs due ++ rest ≡ (runs_report script runs).last)
+line_begins script runs Done other = (refl, (runs_report script runs).last, refl)
+line_begins script runs NoForm other = (refl, (runs_report script runs).last, refl)
+line_begins script runs WrongScript other = (refl, (runs_report script runs).last, refl)
+line_begins script runs ReadFault other = absurd (other (inl refl))
+line_begins script runs WriteFault other = absurd (other (inr (inl refl)))
+line_begins script runs WrongCapture other = (refl, [], append-nil (runs_report script runs).last)
+line_begins script runs OutOfMemory other = absurd (other (inr (inr refl)))
+line_begins script runs Limit other = (refl, [], append-nil (runs_report script runs).last)
 
 -- with an event's line it begins the report
 without_line : (script : Script) (runs : List FlowRun) (body : List ℕ) → (rest : List ℕ) × (body ++ rest ≡ (runs_report script runs).body) → (rest : List ℕ) × ((body ++ []) ++ rest ≡ report_text (runs_report script runs))

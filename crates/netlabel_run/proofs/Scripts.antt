@@ -5,6 +5,7 @@ use Rattle.std.proofs.lemmas.Bool.{lt-ltb}
 use Rattle.std.proofs.lemmas.List.{append-nil, length-replicate}
 use Rattle.net_io.specs.Depot.{octets_of}
 use Rattle.net_io.specs.Faults.{Rose, SameCounts}
+use Rattle.net_io.specs.Sink.{SinkState}
 use Rattle.script_lines.specs.declared.stop.LimitName.TheVariants.{Octets}
 use Rattle.line_forms.specs.Form.{with_translations}
 use Rattle.label_commands.specs.declared.script.Script.{Script}
@@ -88,10 +89,11 @@ module _ (asked : Option Command) (file : List ℕ) (asks : ReadsScript asked fi
       (λ told. there (before.folder.held file) (long told)) refl (λ e. omega (arith, e), λ e. omega (arith, e), λ e. omega (arith, e)) (λ e. omega (arith, e)) (λ e. omega (arith, e)) counts printed
 
   -- it couldn't be read
-  pub ends_without_script : after.stream.written ≡ before.stream.written → Rose (before.folder.reads file) (after.folder.reads file) → CallEnds asked before after 3 []
+  pub ends_without_script : after.stream ≡ before.stream → Rose (before.folder.reads file) (after.folder.reads file) → CallEnds asked before after 3 []
   ends_without_script same rose =
       ends_unread asked before after (reading_stage file ∷ []) known
-      [] asks.form (record { name = file; counted = inl refl; rose = rose }) (λ out. same ∙ sym (append-nil before.stream.written)) (λ told. inl refl)
+      [] asks.form (record { name = file; counted = inl refl; rose = rose }) (ap (λ (s : SinkState). s.faults) same)
+      (λ out. ap (λ (s : SinkState). s.written) same ∙ sym (append-nil before.stream.written)) (λ told. inl refl)
       (λ told report has. asks.pauses before.folder.held report has) (λ late. refl)
 
   -- nor was there memory for it

@@ -85,7 +85,7 @@ module _ (file : List ℕ) where
   knows_show before after reads told = knows_reading asked file before after refl refl refl reads told
 
   -- it doesn't wait for the capture's end before it prints
-  not_late : PrintsLate asked → ⊥
+  not_late : PrintsLate asked [] → ⊥
   not_late late = late
 
   -- a front of a told capture's report begins the report of the call
@@ -244,7 +244,7 @@ module _ (file : List ℕ) (before now after : Outside) (reader : Reader) (waiti
   ends_at_stop stop.ReadFault octets status reads answer printed =
       ends_stopped_unread (asked file) before after (reading_stage file ∷ []) (knows (Err stop.ReadFault) reads printed.told) showing.text (has_form file) begins status
       (record { name = file; counted = inl refl; rose = then_rose before.folder now.folder after.folder showing.same stop.ReadFault reader.name file showing.name reads })
-      pauses (λ late. absurd (not_late file late))
+      pauses (not_late file)
       (a_report_is_printed showing.text waiting before.stream now.stream showing.way [] ReadFault status after.stream printed)
   ends_at_stop stop.OutOfMemory octets status reads answer printed =
       ends_stopped_short (asked file) before after (reading_stage file ∷ []) (knows (Err stop.OutOfMemory) reads printed.told) showing.text (has_form file) begins status
@@ -330,6 +330,6 @@ module _ (file : List ℕ) (before after : Outside) where
   ends_unbegun shown stop.ReadFault status reads answer there printed =
       ends_stopped_unread (asked file) before after (reading_stage file ∷ []) (knows_show file before after (only_read stop.ReadFault _ file before.folder after.folder reads) printed.told) [] (has_form file) any_begins status
       (record { name = file; counted = inl refl; rose = reads.reads.cause refl })
-      (λ told report has. first_pause (before.folder.held file) report has) (λ quiet. refl) printed
+      (λ told report has. first_pause (before.folder.held file) report has) (not_late file) printed
   ends_unbegun shown stop.OutOfMemory status reads answer there printed =
       ends_stopped_short (asked file) before after (reading_stage file ∷ []) (knows_show file before after (only_read stop.ReadFault _ file before.folder after.folder reads) printed.told) [] (has_form file) any_begins status (reads.reads.still (λ failed. absurd cc)) printed

@@ -1,5 +1,5 @@
 -- How a call ends: what was asked for, what it finds outside and leaves there, its status, and the versions that it printed.
-use Rattle.std.specs.Prelude.{ℕ, ◌≡◌, ◌≢◌, ◌⊎◌, ◌<◌, ◌++◌, IsTrue, List, [], length, drop, Contains, Option, None}
+use Rattle.std.specs.Prelude.{ℕ, ◌≡◌, ◌≢◌, ◌⊎◌, ◌-◌, ◌<◌, ◌++◌, IsTrue, List, [], length, take, drop, Contains, Option, None}
 use Rattle.std.specs.List.{All}
 use Rattle.net_io.specs.Depot.{DepotState, SameHeld}
 use Rattle.net_io.specs.Faults.{SameCounts}
@@ -11,7 +11,7 @@ use Rattle.netlabel_run.specs.Status.{HasStatus, IsPossible, IsRefusal}
 use Rattle.netlabel_run.specs.Stages.{HasStages, HasOutputs}
 use Rattle.call_report.specs.Stages.{Stage}
 use Rattle.call_report.specs.Output.{Output, IsBegun, IsMade}
-use Rattle.netlabel_run.specs.Seen.{IsLawful, IsWhole}
+use Rattle.netlabel_run.specs.Seen.{IsLawful, IsWhole, HasAccess}
 use Rattle.call_report.specs.Outside.{Outside, ReadRose, CreateRose, AppendRose, WriteRose, CountRose, NoneFailed, NoWriteFailed}
 
 -- nothing was refused: the status is 0, or no counted number rose and memory sufficed
@@ -19,18 +19,20 @@ abbrev pub IsClean : List Stage → Outside → Outside → ℕ → Type 0
 IsClean stages before after status = (status ≡ 0) ⊎ ((status ≢ 6) × (CountRose stages before after → ⊥))
 
 -- What was asked for, and the folder where it tells what it holds, say of the status.
-pub record EndsWith (request : Option Command) (before after : Outside) (status : ℕ) (stages : List Stage) : Type 0 where
+pub record EndsWith (request : Option Command) (before after : Outside) (status : ℕ) (seen : Versions) (stages : List Stage) : Type 0 where
   -- the status is the one that is due, or a refusal's; where the folder tells nothing, it is due over some content
   pub due : IsTrue before.folder.tells → HasStatus request before.folder.held status ⊎ IsRefusal status
   pub possible : IsPossible request status ⊎ IsRefusal status
   -- 1: exactly where the words are no form, but for want of memory
   pub no_form : status ≡ 1 → request ≡ None
   pub usage : request ≡ None → (status ≡ 1) ⊎ (status ≡ 6)
-  -- 3 and 4: only where a counted number rose in this call
-  pub read_fault : status ≡ 3 → ReadRose stages before after ⊎ CreateRose stages before after
+  -- 3 and 4: only where a counted number rose in this call; 3 only where no write and no append has failed
+  pub read_fault : status ≡ 3 → NoWriteFailed before after × (ReadRose stages before after ⊎ CreateRose stages before after)
   pub write_fault : status ≡ 4 → WriteRose before after ⊎ AppendRose stages before after
-  -- 6: only where no write and no append has failed, and nothing else, unless memory ran out while what stands in front of a read or a making that failed was printed
+  -- 6: only where no write and no append has failed, and nothing else, unless a counted read or making failed
   pub memory : status ≡ 6 → NoWriteFailed before after × (NoneFailed before after ⊎ ReadRose stages before after ⊎ CreateRose stages before after)
+  -- and nothing at all where nothing is printed in front of a read
+  pub memory_alone : status ≡ 6 → PrintsLate request seen → NoneFailed before after
   -- 0: only where nothing has failed
   pub unmoved : status ≡ 0 → NoneFailed before after
 
@@ -57,6 +59,9 @@ pub record Prints (request : Option Command) (before after : Outside) (status : 
   -- the whole report, where nothing was refused
   pub whole : IsTrue before.stream.tells → IsClean stages before after status
       → (report : Report) × HasReport request before.folder.held seen report × IsWritten (report_text report) before after
+  -- unless the outside refused something the whole body, and some first octets of the event's line
+  pub body : IsTrue before.stream.tells → (IsRefusal status → ⊥)
+      → (report : Report) × HasReport request before.folder.held seen report × WritesPrefix report.last (before.stream.written ++ report.body) after.stream.written
   -- with every status nothing, or some first octets of the report
   pub part : IsTrue before.stream.tells → IsWritten [] before after
       ⊎ ((report : Report) × HasReport request before.folder.held seen report × WritesPrefix (report_text report) before.stream.written after.stream.written)
@@ -71,6 +76,9 @@ pub record Leaves (request : Option Command) (before after : Outside) (status : 
   pub outputs : List Output
   pub are : HasOutputs request before.folder.held seen outputs
   pub begun : All (λ output. IsBegun output before.folder.held after.folder.held) outputs
+  -- with every status the flows in front of the one in hand have made all of theirs
+  pub earlier : (outputs : List Output) × HasOutputs request before.folder.held (take (length seen - 1) seen) outputs
+      × All (λ output. IsMade output before.folder.held after.folder.held) outputs
   pub whole : IsClean stages before after status → All (λ output. IsMade output before.folder.held after.folder.held) outputs
   pub others : (name : List ℕ) → All (λ output. output.name ≢ name) outputs → after.folder.held name ≡ before.folder.held name
 
@@ -78,13 +86,15 @@ pub record Leaves (request : Option Command) (before after : Outside) (status : 
 pub record CallEnds (request : Option Command) (before after : Outside) (status : ℕ) (seen : Versions) : Type 0 where
   pub stages : List Stage
   pub begun : HasBegun request before.folder seen stages
-  pub ends : EndsWith request before after status stages
+  pub ends : EndsWith request before after status seen stages
   pub prints : IsTrue before.folder.tells → Prints request before after status seen stages
   pub leaves : IsTrue before.folder.tells → Leaves request before after status seen stages
   pub lawful : IsTrue before.folder.tells → IsLawful request before.folder.held seen
   pub whole : IsTrue before.folder.tells → IsClean stages before after status → IsWhole request before.folder.held seen
-  -- where nothing is printed before a read, nothing stands there with status 3, whether or not the folder tells what it holds
-  pub silent : IsTrue before.stream.tells → status ≡ 3 → PrintsLate request → after.stream.written ≡ before.stream.written
+  -- no receiver is given what its level doesn't dominate, where the label was kept
+  pub access : IsTrue before.folder.tells → HasAccess request before.folder.held seen
+  -- where nothing is printed in front of a read, nothing stands there with status 3, whether or not the folder tells what it holds
+  pub silent : IsTrue before.stream.tells → status ≡ 3 → PrintsLate request seen → after.stream.written ≡ before.stream.written
   -- a call without an output makes nothing and appends nothing
   pub still : All (λ stage. stage.output ≡ None) stages → SameCounts before.folder.creates after.folder.creates × SameCounts before.folder.appends after.folder.appends
   pub folder_told : after.folder.tells ≡ before.folder.tells

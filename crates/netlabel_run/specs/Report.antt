@@ -67,10 +67,10 @@ HasReport (Some (Check file)) held seen report = CheckReport file (held file) re
 HasReport (Some (Show file)) held seen report = ShowReport (held file) report
 HasReport (Some (Run file workers)) held seen report = RunReport file held seen report
 
--- nothing is printed before the input is read
-abbrev pub PrintsLate : Option Command → Type 0
-PrintsLate None = Unit {0}
-PrintsLate (Some (Judge doi level file)) = Unit {0}
-PrintsLate (Some (Check file)) = Unit {0}
-PrintsLate (Some (Show file)) = ⊥
-PrintsLate (Some (Run file workers)) = ⊥
+-- nothing is printed in front of the last read that was begun: a flow of `run` has the replies above it in front of its reads, where it has begun one
+abbrev pub PrintsLate : Option Command → Versions → Type 0
+PrintsLate None seen = Unit {0}
+PrintsLate (Some (Judge doi level file)) seen = Unit {0}
+PrintsLate (Some (Check file)) seen = Unit {0}
+PrintsLate (Some (Show file)) seen = ⊥
+PrintsLate (Some (Run file workers)) seen = seen ≡ []

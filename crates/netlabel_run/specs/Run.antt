@@ -8,6 +8,8 @@ use Rattle.call_report.specs.Event.{packets_limit}
 use Rattle.call_report.specs.Output.{Output}
 use Rattle.call_report.specs.Stages.{Stage, reading_stage}
 use Rattle.report_lines.specs.Script.{script_stop_line}
+use Rattle.flow_access.specs.Access.{HaveAccess}
+use Rattle.flow_run.specs.Input.{packets_in}
 use Rattle.flow_run.specs.Run.{FlowRun}
 use Rattle.script_run.specs.Runs.{plan_of, AreRuns, AreWholeRuns, IsLawfulRun, FlowsStatus}
 use Rattle.script_run.specs.Report.{runs_report, runs_outputs}
@@ -74,3 +76,15 @@ RunWhole file held seen = ByScript file (held file)
     (seen ≡ [])
     (λ stop. seen ≡ [])
     (λ script. (runs : List FlowRun) × AreItsRuns script held seen runs × AreWholeRuns script runs)
+
+-- The packets of a flow that were judged, with what their lines tell of them, the versions of their hops and their end: where a packet's label was kept
+-- along its way under these versions, its end is sound.
+abbrev pub HasRunAccess : Script → FlowRun → Type 0
+HasRunAccess script run = HaveAccess (plan_of script) script.readings run.flow.hops (packets_in run.input) run.pairs
+
+-- Of whatever runs the versions give, so of those that the report is of, those that the outputs are made of, and those that are lawful and whole.
+abbrev pub RunAccess : List ℕ → Folder → Versions → Type 0
+RunAccess file held seen = ByScript file (held file)
+    (Unit {0})
+    (λ stop. Unit {0})
+    (λ script. (runs : List FlowRun) → AreItsRuns script held seen runs → All (HasRunAccess script) runs)

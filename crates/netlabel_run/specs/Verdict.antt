@@ -1,12 +1,16 @@
 -- What is decided of the octets of a file: `judge` sets up a node for the packet that they hold, which receives it.
-use Rattle.std.specs.Prelude.{ℕ, List, [], ◌∷◌, codes, fold, None, Result, Ok, Err}
+use Rattle.std.specs.Prelude.{◌≡◌, ℕ, List, [], ◌∷◌, codes, fold, Some, None, Result, Ok, Err}
 use Rattle.mls_label.specs.declared.label.Label.{Label}
+use Rattle.mls_label.specs.declared.label.Tag.{Tag}
 use Rattle.mls_label.specs.declared.label.Tag.TheVariants.{One, Two, Five}
+use Rattle.mls_label.specs.Label.{Dominates}
 use Rattle.ip_headers.specs.declared.version.Version.{Version}
 use Rattle.ip_headers.specs.declared.version.Version.TheVariants.{V4, V6}
 use Rattle.ip_headers.specs.Packet.{ParsedPacket}
 use Rattle.packet_label.specs.declared.denial.Denial.{Denial}
 use Rattle.packet_label.specs.declared.packet.Wire.{Wire}
+use Rattle.packet_label.specs.declared.packet.Wire.TheVariants as wire
+use Rattle.packet_label.specs.Packet.{IsPacket}
 use Rattle.domain_map.specs.declared.protocol.Protocol.{Protocol}
 use Rattle.domain_map.specs.declared.protocol.Protocol.TheVariants.{Cipso, Calipso}
 use Rattle.command_values.specs.Ranges.{range_below}
@@ -51,3 +55,16 @@ judge_rule doi level p = label_alone (receive_of (judge_node doi level p.version
 -- on the octets of a file, for a receiver of this level
 abbrev pub IsVerdict : ℕ → Label → List ℕ → Verdict → Type 0
 IsVerdict doi level octets verdict = IsJudged octets (judge_rule doi level) verdict
+
+-- the packet's label option says this label under the DOI: a CIPSO option, with any tag, in version 4, a CALIPSO option in version 6
+pub data SaysUnder (doi : ℕ) (p : ParsedPacket Wire) (label : Label) : Type 0 where
+  by_cipso : (at : ℕ) (tag : Tag) → p.version ≡ V4 → p.label ≡ Some (wire.Cipso at doi tag label) → SaysUnder doi p label
+  by_calipso : (at : ℕ) → p.version ≡ V6 → p.label ≡ Some (wire.Calipso at doi label) → SaysUnder doi p label
+
+-- Why the label is delivered: the octets begin with a packet, with right headers and no second label option, whose option says the label
+-- under the DOI, and the level dominates it.
+pub record IsGranted (doi : ℕ) (level : Label) (octets : List ℕ) (label : Label) : Type 0 where
+  pub packet : ParsedPacket Wire
+  pub reads : IsPacket octets packet
+  pub says : SaysUnder doi packet label
+  pub dominated : Dominates level label

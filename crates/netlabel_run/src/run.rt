@@ -12,16 +12,17 @@ ghost use Rattle.netlabel_run.specs.CallEnds.{CallEnds};
 
 use crate::outcome::Outcome;
 use crate::script::script_of;
+use call_report::Status;
 use label_commands::Script;
 use label_flow::Gate;
-use net_io::{Depot, Sink};
+use net_io::{Depot, OutOfMemory, Sink};
 use script_run::run_script;
 use std::alloc::Global;
 use std::sync::Wait;
 use std::thread::Threads;
 
 /// Reads a script whole, and carries out its commands and flows in their order. Nothing is printed before the script is known to be
-/// right.
+/// right. No flow makes the script's own file, nor an input of any flow, under another name of it.
 pub(crate) fn run<D: Depot + Send, S: Sink + Send, G: Gate + Sync, R: Threads + Wait + Sync>(
     rt: &R,
     alloc: Global,
@@ -37,9 +38,23 @@ pub(crate) fn run<D: Depot + Send, S: Sink + Send, G: Gate + Sync, R: Threads + 
         (record { folder = D.state depot.new; stream = S.state out.new }) result.status result.seen }
 {
     match script_of(alloc, file, depot, out) {
-        Ok(script) => run_flows(rt, alloc, &script, workers, depot, out, gate),
+        Ok(script) => match protect_read(file, &script, depot) {
+            Ok(()) => run_flows(rt, alloc, &script, workers, depot, out, gate),
+            Err(OutOfMemory) => Outcome::without_flows(alloc, Status::OutOfMemory),
+        },
         Err(status) => Outcome::without_flows(alloc, status),
     }
+}
+
+/// Protects what a script's call reads: its own file, and the input of each flow.
+fn protect_read<D: Depot>(file: &str, script: &Script, depot: &mut D) -> Result<(), OutOfMemory>
+    ensures { D.state depot.new ≡ D.state depot.old }
+{
+    depot.protect(file)?;
+    for flow in script.flows.as_slice() {
+        depot.protect(flow.input.text())?;
+    }
+    Ok(())
 }
 
 /// Carries out the commands and flows of a script.

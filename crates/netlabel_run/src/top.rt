@@ -27,10 +27,11 @@ use std::thread::Threads;
 /// Carries out what the words ask for, over a folder of named files, and prints to a stream out.
 ///
 /// The words are those of the command line without the program's name. The status is 0 where the command was carried
-/// out, 1 where the words are none of its forms, 2 where a script is wrong, 3 where a read failed, 4 where a write
-/// failed, 5 where a capture is wrong, 6 where memory ran out and 7 where a limit is passed; the first of these events
-/// decides. The clause says what each of them means, what is printed and what is left as it was. The gate is called before each look of a
-/// worker and round each step of the publisher; it has no say on results.
+/// out, 1 where the words are none of its forms, 2 where a script is wrong, 3 where a read or the making of a file
+/// failed, 4 where a write or an append failed, 5 where a capture is wrong, 6 where memory ran out and 7 where a limit
+/// is passed; the first of these events decides, but that memory may run out while what stands in front of a failed read
+/// or making is printed. The clause says what each of them means, what is printed and what is left as it was. The gate is
+/// called before each look of a worker and round each step of the publisher; it has no say on results.
 pub fn netlabel<D: Depot + Send, S: Sink + Send, G: Gate + Sync, R: Threads + Wait + Sync>(
     rt: &R,
     alloc: Global,

@@ -1,5 +1,5 @@
 -- The laws of src/laws.rt under their names, for the crates above.
-use Rattle.std.proofs.Common.{◌≡◌, ◌↔◌, ℕ, ◌<◌, ◌≤◌, Bool, false, Ok, IsTrue, sym, refl, arith, inl, inr, Some}
+use Rattle.std.proofs.Common.{◌≡◌, ◌↔◌, ℕ, ◌<◌, ◌≤◌, Bool, true, false, List, length, Result, Ok, IsTrue, sym, ◌∙◌, ap, refl, arith, inl, inr, Some}
 use Rattle.std.proofs.lemmas.Bool.{cases_eq}
 use Rattle.mls_label.specs.declared.label.Label.{Label}
 use Rattle.mls_label.specs.declared.label.Proto.{Proto}
@@ -11,11 +11,17 @@ use Rattle.doi_table.specs.Definition.{IsDefinition}
 use Rattle.doi_table.specs.Translation.{wire_label, local_label}
 use Rattle.doi_table.specs.Table.{definition_of}
 use Rattle.doi_table.proofs.Law.{wire_labels_are_labels, wire_labels_go_by_numbers, local_labels_go_by_numbers}
+use Rattle.line_forms.specs.Form.{with_ranges, with_translations}
 use Rattle.node_readings.specs.Reading.{NamedMeanings}
 use Rattle.node_readings.specs.Meaning.{meaning_of}
 use Rattle.node_tables.specs.Tables.{TableState}
+use Rattle.node_tables.specs.Steps.{tables_after, reply_at}
+use Rattle.label_commands.specs.declared.script.Script.{Script}
+use Rattle.label_commands.specs.declared.stop.ScriptStop.{ScriptStop}
+use Rattle.label_commands.specs.Script.{read_text, IsScript}
+use Rattle.label_commands.proofs.Law.{scripts_with_ranges_are_kept}
 use Rattle.node_agreement.specs.declared.disagree.Disagree.{Disagree}
-use Rattle.node_agreement.specs.Meanings.{carried_below}
+use Rattle.node_agreement.specs.Meanings.{carried_below, carried_in}
 use Rattle.node_agreement.specs.Agreement.{AgreeBelow, Agree}
 use Rattle.node_agreement.specs.First.{is_before, IsDifference, IsFirstBelow, IsFirst}
 use Rattle.node_agreement.proofs.Same.{one_first, widened}
@@ -67,3 +73,50 @@ fewer_numbers_differ_later below wide left right left_named right_named d fewer 
   },
   λ e of_e. of_d.first e (widened below wide left right left_named right_named e fewer of_e.difference),
 )
+
+fewer_carried : (proto : Proto) (level : Bool) → carried_below proto level ≤ carried_in with_ranges proto level
+fewer_carried Cipso true = omega arith
+fewer_carried Cipso false = omega arith
+fewer_carried Calipso true = omega arith
+fewer_carried Calipso false = omega arith
+
+carried_still : (proto : Proto) (level : Bool) (wire : ℕ) → wire < carried_in with_ranges proto level → (proto ≡ Calipso → level ≡ false → wire < 1952) → wire < carried_below proto level
+carried_still Cipso true wire lt few = lt
+carried_still Cipso false wire lt few = lt
+carried_still Calipso true wire lt few = lt
+carried_still Calipso false wire lt few = few refl refl
+
+pub record LawsOnAgreement : Type 0 where
+  pub agree : (left right : TableState) (left_named right_named : NamedMeanings) → AgreeBelow (carried_in with_ranges) left right left_named right_named → Agree left right left_named right_named
+  pub stays : (left right : TableState) (left_named right_named : NamedMeanings) (d : Disagree) → IsFirstBelow (carried_in with_ranges) left right left_named right_named d
+      → (d.proto ≡ Calipso → d.level ≡ false → d.wire < 1952) → IsFirst left right left_named right_named d
+  pub later : (left right : TableState) (left_named right_named : NamedMeanings) (d e : Disagree) → IsFirstBelow (carried_in with_ranges) left right left_named right_named d
+      → IsFirst left right left_named right_named e → is_before e d ≡ false
+
+pub last_edition_agrees_more : LawsOnAgreement
+last_edition_agrees_more = record {
+  agree = λ left right left_named right_named agree. fewer_numbers_agree_more carried_below (carried_in with_ranges) left right left_named right_named fewer_carried agree;
+  stays = λ left right left_named right_named d of_d few.
+      (fewer_numbers_differ_later carried_below (carried_in with_ranges) left right left_named right_named d fewer_carried of_d).0
+      (carried_still d.proto d.level d.wire of_d.difference.carried few);
+  later = λ left right left_named right_named d e of_d of_e.
+      (fewer_numbers_differ_later carried_below (carried_in with_ranges) left right left_named right_named d fewer_carried of_d).1 e of_e;
+}
+
+same_script : (r : Result Script ScriptStop) (old new : Script) → r ≡ Ok old → r ≡ Ok new → old ≡ new
+same_script r old new x y = let same : ◌≡◌ {A = Result Script ScriptStop} (Ok old) (Ok new) = sym x ∙ y in cc
+
+one_script : (own text : List ℕ) (old new : Script) → IsScript with_ranges own text old → IsScript with_translations own text new → old ≡ new
+one_script own text old new x y = same_script (read_text with_translations own text) old new (scripts_with_ranges_are_kept own text old x) y
+
+pub record LawsOnTables : Type 0 where
+  pub tables : (own text : List ℕ) (old new : Script) (k : ℕ) → IsScript with_ranges own text old → IsScript with_translations own text new
+      → tables_after (length old.nodes) old.steps k ≡ tables_after (length new.nodes) new.steps k
+  pub replies : (own text : List ℕ) (old new : Script) (k : ℕ) → IsScript with_ranges own text old → IsScript with_translations own text new
+      → reply_at (length old.nodes) old.steps k ≡ reply_at (length new.nodes) new.steps k
+
+pub last_edition_keeps_tables : LawsOnTables
+last_edition_keeps_tables = record {
+  tables = λ own text old new k x y. ap (λ (s : Script). tables_after (length s.nodes) s.steps k) (one_script own text old new x y);
+  replies = λ own text old new k x y. ap (λ (s : Script). reply_at (length s.nodes) s.steps k) (one_script own text old new x y);
+}

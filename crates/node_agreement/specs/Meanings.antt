@@ -6,6 +6,7 @@ use Rattle.doi_table.specs.declared.plan.DoiPlan.{DoiPlan}
 use Rattle.doi_table.specs.Pairs.{flipped}
 use Rattle.doi_table.specs.Definition.{number_in}
 use Rattle.doi_table.specs.Table.{definition_of}
+use Rattle.line_forms.specs.Form.{Edition, with_translations}
 use Rattle.node_readings.specs.Reading.{NamedMeanings, meaning_in}
 use Rattle.node_tables.specs.Tables.{TableState}
 
@@ -25,3 +26,9 @@ abbrev pub carried_below : Proto → Bool → ℕ
 carried_below proto true = 256
 carried_below Cipso false = 65535
 carried_below Calipso false = 1952
+
+-- The numbers that count for the scripts of an edition. Before the last edition all categories did, whatever a protocol can carry.
+abbrev pub carried_in : Edition → Proto → Bool → ℕ
+carried_in with_translations proto level = carried_below proto level
+carried_in edition proto true = 256
+carried_in edition proto false = 65535

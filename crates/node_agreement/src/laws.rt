@@ -1,6 +1,6 @@
 //! What the definitions are worth, whatever the code does.
 
-ghost use Rattle.std.specs.Prelude.{◌≡◌, ◌↔◌, ℕ, ◌<◌, ◌≤◌, Bool, false, Some, Ok, IsTrue};
+ghost use Rattle.std.specs.Prelude.{◌≡◌, ◌↔◌, ℕ, ◌<◌, ◌≤◌, Bool, false, List, length, Some, Ok, IsTrue};
 ghost use Rattle.mls_label.specs.declared.label.Label.{Label};
 ghost use Rattle.mls_label.specs.declared.label.Proto.{Proto};
 ghost use Rattle.mls_label.specs.declared.label.Proto.TheVariants.{Calipso};
@@ -9,10 +9,15 @@ ghost use Rattle.doi_table.specs.declared.plan.DoiPlan.{DoiPlan};
 ghost use Rattle.doi_table.specs.Definition.{IsDefinition};
 ghost use Rattle.doi_table.specs.Translation.{wire_label, local_label};
 ghost use Rattle.doi_table.specs.Table.{definition_of};
+ghost use Rattle.line_forms.specs.Form.{with_ranges, with_translations};
 ghost use Rattle.node_readings.specs.Reading.{NamedMeanings};
 ghost use Rattle.node_readings.specs.Meaning.{meaning_of};
 ghost use Rattle.node_tables.specs.Tables.{TableState};
+ghost use Rattle.node_tables.specs.Steps.{tables_after, reply_at};
+ghost use Rattle.label_commands.specs.declared.script.Script.{Script};
+ghost use Rattle.label_commands.specs.Script.{IsScript};
 ghost use Rattle.node_agreement.specs.declared.disagree.Disagree.{Disagree};
+ghost use Rattle.node_agreement.specs.Meanings.{carried_in};
 ghost use Rattle.node_agreement.specs.Agreement.{AgreeBelow, Agree};
 ghost use Rattle.node_agreement.specs.First.{is_before, IsDifference, IsFirstBelow, IsFirst};
 
@@ -60,4 +65,28 @@ pub fn fewer_numbers_differ_later()
         → IsFirstBelow wide left right left_named right_named d
         → (d.wire < below d.proto d.level → IsFirstBelow below left right left_named right_named d)
         × ((e : Disagree) → IsFirstBelow below left right left_named right_named e → is_before e d ≡ false) }
+{}
+
+/// Under the last edition nodes that agreed before agree. A first difference stays the first, unless it is a CALIPSO category above 1951,
+/// and what is then the first comes no earlier.
+pub fn last_edition_agrees_more()
+    ensures agree { (left right : TableState) (left_named right_named : NamedMeanings)
+        → AgreeBelow (carried_in with_ranges) left right left_named right_named → Agree left right left_named right_named }
+    ensures stays { (left right : TableState) (left_named right_named : NamedMeanings) (d : Disagree)
+        → IsFirstBelow (carried_in with_ranges) left right left_named right_named d
+        → (d.proto ≡ Calipso → d.level ≡ false → d.wire < 1952) → IsFirst left right left_named right_named d }
+    ensures later { (left right : TableState) (left_named right_named : NamedMeanings) (d e : Disagree)
+        → IsFirstBelow (carried_in with_ranges) left right left_named right_named d
+        → IsFirst left right left_named right_named e → is_before e d ≡ false }
+{}
+
+/// A script of the edition before the last leaves the same tables after each of its steps under the last one, and each step has the same
+/// reply. None of these steps is a command that only the last edition has (`commands_are_of_their_edition` in `label_commands`).
+pub fn last_edition_keeps_tables()
+    ensures tables { (own text : List ℕ) (old new : Script) (k : ℕ)
+        → IsScript with_ranges own text old → IsScript with_translations own text new
+        → tables_after (length old.nodes) old.steps k ≡ tables_after (length new.nodes) new.steps k }
+    ensures replies { (own text : List ℕ) (old new : Script) (k : ℕ)
+        → IsScript with_ranges own text old → IsScript with_translations own text new
+        → reply_at (length old.nodes) old.steps k ≡ reply_at (length new.nodes) new.steps k }
 {}

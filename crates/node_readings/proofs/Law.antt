@@ -1,14 +1,15 @@
 -- The laws of src/laws.rt under their names, for the crates above.
-use Rattle.std.proofs.Common.{◌≡◌, ◌↔◌, ℕ, ◌+◌, ◌<◌, List, IsTrue, arith}
+use Rattle.std.proofs.Common.{◌≡◌, ◌↔◌, ℕ, ◌+◌, ◌<◌, true, List, IsTrue, le_refl, subst, arith}
 use Rattle.std.specs.List.{All}
+use Rattle.std.specs.FinSet as set
 use Rattle.mls_label.specs.declared.label.Label.{Label}
-use Rattle.mls_label.specs.Cats.{IsCats}
+use Rattle.mls_label.specs.Cats.{has, IsCats}
 use Rattle.mls_label.specs.Label.{Dominates}
 use Rattle.node_readings.specs.Reading.{NamedMeanings, meaning_in, names_once, is_increasing, is_distinct, IsReading}
-use Rattle.node_readings.specs.Meaning.{meaning_of, MeansDominates}
+use Rattle.node_readings.specs.Meaning.{Meaning, meaning_of, MeansDominates}
 use Rattle.node_readings.proofs.Distinct.{once_of, differ, distinct_from}
 use Rattle.node_readings.proofs.Increasing.{increasing_steps, steps_increasing, climbs}
-use Rattle.node_readings.proofs.Dominance.{means_more, more_means}
+use Rattle.node_readings.proofs.Dominance.{image, image_has, has_image, means_more, more_means}
 
 pub distinct_categories_differ : (cats : List (ℕ × ℕ)) → All (λ (p : ℕ × ℕ). p.0 < 65535) cats → (IsTrue (is_distinct cats) ↔ (IsTrue (names_once cats) × ((a b : ℕ) → a < 65535 → b < 65535 → meaning_in cats a ≡ meaning_in cats b → a ≡ b)))
 distinct_categories_differ cats below = (λ d. (once_of cats d, differ cats d), λ h. distinct_from cats below h.0 h.1)
@@ -19,3 +20,15 @@ increasing_levels_keep_their_order levels =
 
 pub meaning_follows_dominance : (named : NamedMeanings) (a b : Label) → IsReading named → a.level < 256 → IsCats a.cats → b.level < 256 → IsCats b.cats → (Dominates a b ↔ MeansDominates (meaning_of named a) (meaning_of named b))
 meaning_follows_dominance named a b is la sa lb sb = (means_more named is a b la, more_means named is a b sa lb sb)
+
+pub meanings_dominate_themselves : (a : Meaning) → MeansDominates a a
+meanings_dominate_themselves a = record { level = le_refl a.level; cats = λ n has. has }
+
+pub dominance_of_meanings_goes_on : (a b c : Meaning) → MeansDominates a b → MeansDominates b c → MeansDominates a c
+dominance_of_meanings_goes_on a b c above below = record { level = omega (arith, above.level, below.level); cats = λ n has. above.cats n (below.cats n has) }
+
+pub meanings_have_what_categories_mean : (named : NamedMeanings) (label : Label) (n : ℕ) → (IsTrue (set.contains (meaning_of named label).cats n) ↔ ((c : ℕ) × IsTrue (has label.cats c) × (meaning_in named.cats c ≡ n)))
+meanings_have_what_categories_mean named label n = (
+  λ there. has_image (meaning_in named.cats) label.cats n there,
+  λ from. subst (λ k. set.contains (image (meaning_in named.cats) label.cats) k ≡ true) from.2 (image_has (meaning_in named.cats) label.cats from.0 from.1),
+)

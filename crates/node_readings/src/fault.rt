@@ -9,7 +9,7 @@ pub enum ReadingFault {
     NotIncreasing,
     /// Two of the 65,535 categories mean the same, or a level or a category is named twice.
     NotDistinct,
-    /// Memory ran out; nothing else is wrong.
+    /// Memory ran out. Causes that are tested later may hold as well.
     OutOfMemory,
 }
 

@@ -1,8 +1,9 @@
 -- The laws of src/laws.rt under their names, for the crates above.
-use Rattle.std.proofs.Common.{◌≡◌, ℕ, ◌+◌, List, [], ◌∷◌, take, Option, Some, slice_get, refl, ap, ◌∙◌}
+use Rattle.std.proofs.Common.{◌≡◌, ℕ, ◌+◌, List, [], ◌∷◌, take, Some, slice_get, refl, ap, ◌∙◌}
 use Rattle.std.specs.Prelude.{All, IsTrue, IsSome, fold, length, replicate, option_and_then}
 use Rattle.std.proofs.lemmas.List.Sums.{fold-append}
 use Rattle.mls_label.specs.declared.label.Proto.{Proto}
+use Rattle.doi_table.specs.declared.plan.DoiPlan.{DoiPlan}
 use Rattle.doi_table.specs.Table.{Entries, definition_of}
 use Rattle.address_text.specs.declared.address.Address.{Address}
 use Rattle.domain_map.specs.declared.protocol.Protocol.{Protocol}
@@ -10,14 +11,17 @@ use Rattle.domain_map.specs.Protocol.{has_doi}
 use Rattle.domain_map.specs.Domains.{Domains, find_of}
 use Rattle.command_forms.specs.declared.command.Command.{Command}
 use Rattle.command_forms.specs.declared.command.Step.{Step}
+use Rattle.command_forms.specs.Bounded.{IsBounded}
 use Rattle.node_tables.specs.declared.reply.Reply.TheVariants.{Done}
 use Rattle.node_tables.specs.Tables.{TableState, fresh}
 use Rattle.node_tables.specs.Coherence.{NamesDefined}
-use Rattle.node_tables.specs.Effect.{Effect, becomes, lists, refuses, effect_of, state_after, reply_to, applied, reply_of}
+use Rattle.node_tables.specs.Effect.{becomes, lists, refuses, effect_of, state_after, reply_to, applied, reply_of}
 use Rattle.node_tables.specs.Steps.{step_applied, step_reply, tables_after, reply_at}
+use Rattle.node_tables.specs.Valid.{IsDefined, AreValid}
 use Rattle.node_tables.proofs.Listings.{take_next}
 use Rattle.node_tables.proofs.Names.{named_by_found}
 use Rattle.node_tables.proofs.Stepping.{all_named, as_many}
+use Rattle.node_tables.proofs.Valid.{found_valid, command_valid, all_valid}
 
 pub nodes_begin_fresh : (nodes : ℕ) (steps : List Step) → tables_after nodes steps 0 ≡ replicate nodes fresh
 unfolding tables_after
@@ -51,3 +55,13 @@ pub found_protocols_are_defined : (definitions : Entries) (domains : Domains) (d
     → find_of domains domain address ≡ Some protocol → IsTrue (has_doi proto doi protocol) → IsSome (definition_of definitions proto doi)
 found_protocols_are_defined definitions domains domain address protocol proto doi defined found has =
     defined proto doi (named_by_found proto doi domains domain address protocol found has)
+
+pub bounded_commands_keep_tables_valid : (t : TableState) (command : Command) → IsBounded command → AreValid t → AreValid (applied t command)
+bounded_commands_keep_tables_valid = command_valid
+
+pub tables_are_valid_after_steps : (nodes : ℕ) (steps : List Step) (k : ℕ) → All (λ (step : Step). IsBounded step.command) steps → All AreValid (tables_after nodes steps k)
+unfolding tables_after
+tables_are_valid_after_steps nodes steps k are = all_valid nodes k steps are
+
+pub found_definitions_are_valid : (t : TableState) (proto : Proto) (doi : ℕ) (plan : DoiPlan) → AreValid t → definition_of t.definitions proto doi ≡ Some plan → IsDefined ((proto, doi), plan)
+found_definitions_are_valid t proto doi plan valid found = found_valid t.definitions proto doi plan valid.definitions found

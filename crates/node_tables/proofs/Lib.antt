@@ -6,4 +6,5 @@ pub mod Listings
 pub mod Names
 pub mod Defined
 pub mod Stepping
+pub mod Valid
 pub mod Law

@@ -5,4 +5,5 @@ pub mod Change
 pub mod Effect
 pub mod Steps
 pub mod Coherence
+pub mod Valid
 pub mod inside

@@ -2,6 +2,7 @@
 
 ghost use Rattle.std.specs.Prelude.{◌≡◌, ℕ, ◌+◌, List, All, Some, length, slice_get, replicate, IsTrue, IsSome};
 ghost use Rattle.mls_label.specs.declared.label.Proto.{Proto};
+ghost use Rattle.doi_table.specs.declared.plan.DoiPlan.{DoiPlan};
 ghost use Rattle.doi_table.specs.Table.{Entries, definition_of};
 ghost use Rattle.address_text.specs.declared.address.Address.{Address};
 ghost use Rattle.domain_map.specs.declared.protocol.Protocol.{Protocol};
@@ -9,11 +10,13 @@ ghost use Rattle.domain_map.specs.Protocol.{has_doi};
 ghost use Rattle.domain_map.specs.Domains.{Domains, find_of};
 ghost use Rattle.command_forms.specs.declared.command.Command.{Command};
 ghost use Rattle.command_forms.specs.declared.command.Step.{Step};
+ghost use Rattle.command_forms.specs.Bounded.{IsBounded};
 ghost use Rattle.node_tables.specs.declared.reply.Reply.TheVariants.{Done};
 ghost use Rattle.node_tables.specs.Tables.{TableState, fresh};
 ghost use Rattle.node_tables.specs.Coherence.{NamesDefined};
 ghost use Rattle.node_tables.specs.Effect.{applied, reply_of};
 ghost use Rattle.node_tables.specs.Steps.{step_applied, step_reply, tables_after, reply_at};
+ghost use Rattle.node_tables.specs.Valid.{IsDefined, AreValid};
 
 /// Before the first step all nodes are fresh.
 pub fn nodes_begin_fresh()
@@ -49,4 +52,21 @@ pub fn found_protocols_are_defined()
         (protocol : Protocol) (proto : Proto) (doi : ℕ) → NamesDefined definitions domains
         → find_of domains domain address ≡ Some protocol → IsTrue (has_doi proto doi protocol)
         → IsSome (definition_of definitions proto doi) }
+{}
+
+/// A command whose numbers are within their bounds keeps tables valid.
+pub fn bounded_commands_keep_tables_valid()
+    ensures { (t : TableState) (command : Command) → IsBounded command → AreValid t → AreValid (applied t command) }
+{}
+
+/// So do any steps, from fresh nodes on.
+pub fn tables_are_valid_after_steps()
+    ensures { (nodes : ℕ) (steps : List Step) (k : ℕ) → All (λ (step : Step). IsBounded step.command) steps
+        → All AreValid (tables_after nodes steps k) }
+{}
+
+/// What valid tables define a DOI as is one of their valid definitions.
+pub fn found_definitions_are_valid()
+    ensures { (t : TableState) (proto : Proto) (doi : ℕ) (plan : DoiPlan) → AreValid t
+        → definition_of t.definitions proto doi ≡ Some plan → IsDefined ((proto, doi), plan) }
 {}

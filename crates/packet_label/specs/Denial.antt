@@ -5,7 +5,7 @@ use Rattle.ip_headers.specs.declared.cause.Cause.TheVariants.{Protocol, Fragment
 use Rattle.packet_label.specs.declared.denial.Denial.{Denial}
 use Rattle.packet_label.specs.declared.denial.Denial.TheVariants.{BadHeader, BadOption, Unlabelled, NoStatic, UnknownDoi, TagNotAllowed, LevelUnmapped, CategoryUnmapped, OutsideRange, NoReceiver, MapRefuses, NotDominated, NoMap, AlreadyLabelled, Inexpressible, NoRoom, TooLong, Expired, WrongVersion, NoPair, NotCrossable, NotIp, BelowRange}
 
--- the denials are numbered from 1 in the order of their tests
+-- the numbers of the denials, from 1, under which they are reported
 abbrev pub number_of : Denial → ℕ
 number_of (BadHeader octet) = 1
 number_of (BadOption octet) = 2

@@ -1,11 +1,19 @@
 -- The laws of src/laws.rt under their names, for the crates above.
-use Rattle.std.proofs.Common.{◌≡◌, ℕ, ◌≤◌, List, take, All}
+use Rattle.std.proofs.Common.{◌≡◌, ℕ, ◌≤◌, List, ◌++◌, [], take, All, Result, Err}
+use Rattle.ip_headers.specs.Packet.{ParsedPacket}
+use Rattle.packet_label.specs.declared.denial.Denial.{Denial}
+use Rattle.packet_label.specs.declared.fault.CarryFault.{CarryFault}
+use Rattle.packet_label.specs.declared.packet.Wire.{Wire}
 use Rattle.flow_lines.specs.declared.hop.Hop.{Hop}
+use Rattle.node_tables.specs.Tables.{TableState}
 use Rattle.shared_tables.specs.Plan.{PlanState}
 use Rattle.packet_walk.specs.declared.packet.PacketIn.{PacketIn}
 use Rattle.packet_walk.specs.declared.walked.End.{End}
-use Rattle.packet_walk.specs.Walk.{IsWalkOf}
-use Rattle.packet_walk.proofs.OneWay.{one_way, over_beginning}
+use Rattle.packet_walk.specs.declared.walked.End.TheVariants as the_end
+use Rattle.packet_walk.specs.Walk.{Coming, IsReadFrom, IsWalkOf, hop_verdict}
+use Rattle.packet_walk.specs.NoOption.{HopHasNoOption, MeetsNoOption}
+use Rattle.packet_walk.proofs.NoOption.{denies, ends_denied}
+use Rattle.packet_walk.proofs.OneWay.{read_once, one_way, over_beginning, one_cut}
 
 pub walks_end_in_one_way : (plan : PlanState) (hops : List Hop) (packet : PacketIn) (versions : List ℕ) (end end' : End) (out out' : List ℕ) → IsWalkOf plan hops packet versions end out
     → IsWalkOf plan hops packet versions end' out' → (end ≡ end') × (out ≡ out')
@@ -14,3 +22,18 @@ walks_end_in_one_way = one_way
 pub walks_agree_on_a_beginning : (plan : PlanState) (hops : List Hop) (packet : PacketIn) (versions : List ℕ) (end : End) (out : List ℕ) (m : ℕ) → All (λ v. v ≤ m) versions
     → IsWalkOf (record plan { steps = take m plan.steps }) hops packet versions end out → IsWalkOf plan hops packet versions end out
 walks_agree_on_a_beginning = over_beginning
+
+pub walks_are_cut_in_one_way : (plan : PlanState) (hops : List Hop) (packet : PacketIn) (a b r s : List ℕ) (end end' : End) (out out' : List ℕ) → a ++ r ≡ b ++ s
+    → IsWalkOf plan hops packet a end out → IsWalkOf plan hops packet b end' out' → a ≡ b
+walks_are_cut_in_one_way = one_cut
+
+pub hops_read_in_one_way : (coming : Coming) (a b : Result (ParsedPacket Wire) CarryFault) → IsReadFrom coming a → IsReadFrom coming b → a ≡ b
+hops_read_in_one_way = read_once
+
+pub hops_without_an_option_deny : (network : List TableState) (hop : Hop) (octets : List ℕ) (read : Result (ParsedPacket Wire) CarryFault) (why : Denial) → HopHasNoOption network hop octets read why
+    → hop_verdict network hop octets read ≡ Err why
+hops_without_an_option_deny = denies
+
+pub walks_without_an_option_end_denied : (plan : PlanState) (hops : List Hop) (packet : PacketIn) (versions : List ℕ) (end : End) (out : List ℕ) (at : ℕ) (why : Denial) → IsWalkOf plan hops packet versions end out
+    → MeetsNoOption plan hops packet versions at why → (end ≡ the_end.Denied at why) × (out ≡ [])
+walks_without_an_option_end_denied = ends_denied

@@ -1,4 +1,5 @@
 pub mod Lengths
 pub mod Walks
 pub mod OneWay
+pub mod NoOption
 pub mod Law

@@ -1,5 +1,5 @@
 -- A walk under given versions ends in one way, and knows no more of a plan than its steps up to them.
-use Rattle.std.proofs.Common.{◌≡◌, ℕ, suc, ◌+◌, ◌≤◌, Bool, true, false, List, [], ◌∷◌, take, arith, MatchBool, Result, Ok, Err, sym, ◌∙◌, subst, All}
+use Rattle.std.proofs.Common.{◌≡◌, ℕ, suc, ◌+◌, ◌≤◌, Bool, true, false, List, [], ◌∷◌, ◌++◌, take, arith, MatchBool, Result, Ok, Err, sym, ◌∙◌, subst, All}
 use Rattle.ip_headers.specs.Packet.{ParsedPacket}
 use Rattle.ip_headers.specs.Written.{packet_octets, hides_payload}
 use Rattle.packet_label.specs.declared.denial.Denial.{Denial}
@@ -21,12 +21,12 @@ next_once : (hides : Bool) (octets : List ℕ) (next a b : Result (ParsedPacket 
 next_once true octets next a b x y = one_read octets a b x y
 next_once false octets next a b x y = x ∙ sym y
 
-read_once : (coming : Coming) (a b : Result (ParsedPacket Wire) CarryFault) → IsReadFrom coming a → IsReadFrom coming b → a ≡ b
+pub read_once : (coming : Coming) (a b : Result (ParsedPacket Wire) CarryFault) → IsReadFrom coming a → IsReadFrom coming b → a ≡ b
 read_once (from_outside octets) a b x y = one_read octets a b x y
 read_once (from_hop carrier p) a b x y = next_once (hides_payload p.version (written p)) (packet_octets (written p)) (Ok (settled_packet p)) a b x y
 
 -- where the walk goes behind a hop's verdict
-abbrev Behind : PlanState → ℕ → List Hop → Coming → List ℕ → End → List ℕ → Result Passage Denial → Type 0
+abbrev pub Behind : PlanState → ℕ → List Hop → Coming → List ℕ → End → List ℕ → Result Passage Denial → Type 0
 Behind plan k hops coming versions end out (Err why) = Ends versions end out (the_end.Denied k why) []
 Behind plan k hops coming versions end out (Ok (goes_on carrier packet)) = IsWalk plan (k + 1) hops (from_hop carrier packet) versions end out
 Behind plan k hops coming versions end out (Ok (arrives delivered)) = Ends versions end out (the_end.Delivered delivered.label delivered.receiver) (octets_in coming)
@@ -43,7 +43,7 @@ behind_once plan k hops coming versions end end' out out' more (Ok (arrives deli
     end_once versions (the_end.Delivered delivered.label delivered.receiver) (octets_in coming) end end' out out' x y
 
 -- the walk goes on behind the verdict on what is read
-abbrev Judged : PlanState → ℕ → Hop → List Hop → Coming → ℕ → List ℕ → End → List ℕ → Result (ParsedPacket Wire) CarryFault → Type 0
+abbrev pub Judged : PlanState → ℕ → Hop → List Hop → Coming → ℕ → List ℕ → End → List ℕ → Result (ParsedPacket Wire) CarryFault → Type 0
 Judged plan k hop hops coming version versions end out read = Behind plan k hops coming versions end out (hop_verdict (network_after plan version) hop (octets_in coming) read)
 
 -- where the walk goes, as its definition says it
@@ -68,7 +68,7 @@ of_behind plan k hops coming versions end out (Err why) h = h
 of_behind plan k hops coming versions end out (Ok (goes_on carrier packet)) h = h
 of_behind plan k hops coming versions end out (Ok (arrives delivered)) h = h
 
-as_judged : (plan : PlanState) (k : ℕ) (hop : Hop) (hops : List Hop) (coming : Coming) (version : ℕ) (versions : List ℕ) (end : End) (out : List ℕ) → IsWalk plan k (hop ∷ hops) coming (version ∷ versions) end out
+pub as_judged : (plan : PlanState) (k : ℕ) (hop : Hop) (hops : List Hop) (coming : Coming) (version : ℕ) (versions : List ℕ) (end : End) (out : List ℕ) → IsWalk plan k (hop ∷ hops) coming (version ∷ versions) end out
     → (read : Result (ParsedPacket Wire) CarryFault) × IsReadFrom coming read × Judged plan k hop hops coming version versions end out read
 as_judged plan k hop hops coming version versions end out x =
     (x.0, x.1, behind_of plan k hops coming versions end out (hop_verdict (network_after plan version) hop (octets_in coming) x.0) x.2)
@@ -134,3 +134,49 @@ of_over false plan m hops octets versions end out low x = x
 pub over_beginning : (plan : PlanState) (hops : List Hop) (packet : PacketIn) (versions : List ℕ) (end : End) (out : List ℕ) (m : ℕ) → All (λ v. v ≤ m) versions
     → IsWalkOf (record plan { steps = take m plan.steps }) hops packet versions end out → IsWalkOf plan hops packet versions end out
 over_beginning plan hops packet versions end out m low x = of_over packet.is_ip plan m hops packet.bytes versions end out low x
+
+-- ---- no walk's versions begin those of another walk of the same packet
+
+first_version : {a b : ℕ} {xs ys : List ℕ} → a ∷ xs ≡ b ∷ ys → a ≡ b
+first_version {a} {b} {xs} {ys} is = cc
+
+later_versions : {a b : ℕ} {xs ys : List ℕ} → a ∷ xs ≡ b ∷ ys → xs ≡ ys
+later_versions {a} {b} {xs} {ys} is = cc
+
+both_versions : {a b : ℕ} {xs ys : List ℕ} → a ≡ b → xs ≡ ys → a ∷ xs ≡ b ∷ ys
+both_versions {a} {b} {xs} {ys} p q = cc
+
+behind_cut : (plan : PlanState) (k : ℕ) (hops : List Hop) (coming : Coming) (a b : List ℕ) (end end' : End) (out out' : List ℕ)
+    → ((next : Coming) → IsWalk plan (k + 1) hops next a end out → IsWalk plan (k + 1) hops next b end' out' → a ≡ b)
+    → (verdict : Result Passage Denial) → Behind plan k hops coming a end out verdict → Behind plan k hops coming b end' out' verdict → a ≡ b
+behind_cut plan k hops coming a b end end' out out' more (Err why) x y = x.0 ∙ sym y.0
+behind_cut plan k hops coming a b end end' out out' more (Ok (goes_on carrier packet)) x y = more (from_hop carrier packet) x y
+behind_cut plan k hops coming a b end end' out out' more (Ok (arrives delivered)) x y = x.0 ∙ sym y.0
+
+walk_cut : (plan : PlanState) (k : ℕ) (hops : List Hop) (coming : Coming) (a b r s : List ℕ) (end end' : End) (out out' : List ℕ) → a ++ r ≡ b ++ s
+    → IsWalk plan k hops coming a end out → IsWalk plan k hops coming b end' out' → a ≡ b
+walk_cut plan k [] coming a b r s end end' out out' is x y = x.0 ∙ sym y.0
+walk_cut plan k (hop ∷ hops) coming [] b r s end end' out out' is x y = absurd x
+walk_cut plan k (hop ∷ hops) coming (v ∷ a) [] r s end end' out out' is x y = absurd y
+walk_cut plan k (hop ∷ hops) coming (v ∷ a) (w ∷ b) r s end end' out out' is x y =
+    let first : v ≡ w = first_version is in
+    let rest : a ++ r ≡ b ++ s = later_versions is in
+    let p = as_judged plan k hop hops coming v a end out x in
+    let q = as_judged plan k hop hops coming w b end' out' y in
+    let same : q.0 ≡ p.0 = read_once coming q.0 p.0 q.1 p.1 in
+    let there = subst (Judged plan k hop hops coming w b end' out') same q.2 in
+    let now = subst (λ (n : ℕ). Judged plan k hop hops coming n b end' out' p.0) (sym first) there in
+    both_versions first
+    (behind_cut plan k hops coming a b end end' out out'
+    (λ next c d. walk_cut plan (k + 1) hops next a b r s end end' out out' rest c d)
+    (hop_verdict (network_after plan v) hop (octets_in coming) p.0) p.2 now)
+
+of_cut : (ip : Bool) (plan : PlanState) (hops : List Hop) (octets a b r s : List ℕ) (end end' : End) (out out' : List ℕ) → a ++ r ≡ b ++ s
+    → MatchBool ip (IsWalk plan 1 hops (from_outside octets) a end out) (Ends a end out (the_end.Denied 0 NotIp) [])
+    → MatchBool ip (IsWalk plan 1 hops (from_outside octets) b end' out') (Ends b end' out' (the_end.Denied 0 NotIp) []) → a ≡ b
+of_cut true plan hops octets a b r s end end' out out' is x y = walk_cut plan 1 hops (from_outside octets) a b r s end end' out out' is x y
+of_cut false plan hops octets a b r s end end' out out' is x y = x.0 ∙ sym y.0
+
+pub one_cut : (plan : PlanState) (hops : List Hop) (packet : PacketIn) (a b r s : List ℕ) (end end' : End) (out out' : List ℕ) → a ++ r ≡ b ++ s
+    → IsWalkOf plan hops packet a end out → IsWalkOf plan hops packet b end' out' → a ≡ b
+one_cut plan hops packet a b r s end end' out out' is x y = of_cut packet.is_ip plan hops packet.bytes a b r s end end' out out' is x y

@@ -4,9 +4,11 @@
 
 pub mod laws;
 mod reply;
+mod whole;
 
 pub use mls_label::OutOfMemory;
 pub use reply::write_reply;
+pub use whole::all_or_nothing;
 
 #[cfg(test)]
 mod tests;

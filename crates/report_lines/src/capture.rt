@@ -1,25 +1,38 @@
 //! Lines of captures that are broken.
 
-ghost use Rattle.std.specs.Prelude.{◌≡◌, ◌++◌, OnOk};
+ghost use Rattle.std.specs.Prelude.{◌≡◌, ◌++◌, OnOk, OnErr};
 ghost use Rattle.report_lines.specs.Capture.{kind_name, capture_line};
+ghost use Rattle.report_lines.specs.inside.Extends.{Extends};
 
-use crate::denial::write_octet;
+use crate::denial::append_octet;
 use decimal_text::write_decimal;
 use mls_label::OutOfMemory;
 use pcap_frames::{CaptureFault, CaptureKind};
+use reply_lines::all_or_nothing;
 
-/// Appends the line of a capture that is broken, by the capture's number.
-#[tactic(auto, unfolding(crate::specs::Capture::capture_line))]
+/// Appends the line of a capture that is broken, by the capture's number. After an error `line` is as it was.
 pub fn write_capture(
     number: u64,
     fault: CaptureFault,
     line: &mut Vec<u8>,
 ) -> Result<(), OutOfMemory>
-    ensures { OnOk result (line.new.items ≡ line.old.items ++ capture_line number fault) }
+    ensures ok { OnOk result (line.new.items ≡ line.old.items ++ capture_line number fault) }
+    ensures err { OnErr result (line.new.items ≡ line.old.items) }
+{
+    let before = line.len();
+    let written = append_capture(number, fault, line);
+    all_or_nothing(written, before, line)
+}
+
+/// Appends it, or a part of it where memory runs out.
+#[tactic(auto, unfolding(crate::specs::Capture::capture_line))]
+fn append_capture(number: u64, fault: CaptureFault, line: &mut Vec<u8>) -> Result<(), OutOfMemory>
+    ensures ok { OnOk result (line.new.items ≡ line.old.items ++ capture_line number fault) }
+    ensures err { OnErr result (Extends line.old.items line.new.items) }
 {
     line.extend_from_slice(b"capture ")?;
     write_decimal(number, line)?;
-    write_octet(fault.octet, line)?;
+    append_octet(fault.octet, line)?;
     line.extend_from_slice(b" ")?;
     line.extend_from_slice(kind_name(fault.kind).as_bytes())?;
     line.push(b'\n')?;

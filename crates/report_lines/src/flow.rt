@@ -1,22 +1,35 @@
 //! Lines of flows and of their packets.
 
-ghost use Rattle.std.specs.Prelude.{◌≡◌, ◌++◌, OnOk};
+ghost use Rattle.std.specs.Prelude.{◌≡◌, ◌++◌, OnOk, OnErr};
 ghost use Rattle.flow_lines.specs.Hop.{node_of};
 ghost use Rattle.report_lines.specs.Flow.{flow_line, carrier_text, hop_node, versions_text, end_text, walked_line, flow_end_line};
 ghost use Rattle.report_lines.specs.inside.Versions.{versions_behind};
+ghost use Rattle.report_lines.specs.inside.Extends.{Extends};
 
-use crate::denial::{write_delivered, write_denied};
+use crate::denial::{append_delivered, append_denied};
 use address_text::{Name, write_address};
 use decimal_text::write_decimal;
 use flow_lines::{FileName, Hop};
 use mls_label::OutOfMemory;
 use packet_label::Carrier;
 use packet_walk::{End, Walked};
+use reply_lines::all_or_nothing;
 
-/// Appends the line with which the flow of this number begins, with the capture that it reads.
-#[tactic(auto, unfolding(crate::specs::Flow::flow_line))]
+/// Appends the line with which the flow of this number begins, with the capture that it reads. After an error `line` is as it was.
 pub fn write_flow(flow: u64, input: &FileName, line: &mut Vec<u8>) -> Result<(), OutOfMemory>
-    ensures { OnOk result (line.new.items ≡ line.old.items ++ flow_line flow input.now) }
+    ensures ok { OnOk result (line.new.items ≡ line.old.items ++ flow_line flow input.now) }
+    ensures err { OnErr result (line.new.items ≡ line.old.items) }
+{
+    let before = line.len();
+    let written = append_flow(flow, input, line);
+    all_or_nothing(written, before, line)
+}
+
+/// Appends it, or a part of it where memory runs out.
+#[tactic(auto, unfolding(crate::specs::Flow::flow_line))]
+fn append_flow(flow: u64, input: &FileName, line: &mut Vec<u8>) -> Result<(), OutOfMemory>
+    ensures ok { OnOk result (line.new.items ≡ line.old.items ++ flow_line flow input.now) }
+    ensures err { OnErr result (Extends line.old.items line.new.items) }
 {
     line.extend_from_slice(b"flow ")?;
     write_decimal(flow, line)?;
@@ -27,7 +40,7 @@ pub fn write_flow(flow: u64, input: &FileName, line: &mut Vec<u8>) -> Result<(),
 }
 
 /// Appends the line that tells what became of a packet of a flow, over these hops of the nodes of these names.
-#[tactic(auto, unfolding(crate::specs::Flow::walked_line))]
+/// After an error `line` is as it was.
 pub fn write_walked(
     flow: u64,
     number: u64,
@@ -36,47 +49,73 @@ pub fn write_walked(
     walked: &Walked,
     line: &mut Vec<u8>,
 ) -> Result<(), OutOfMemory>
-    ensures { OnOk result (line.new.items ≡ line.old.items ++ walked_line flow number names.now hops.now walked.now) }
+    ensures ok { OnOk result (line.new.items ≡ line.old.items ++ walked_line flow number names.now hops.now walked.now) }
+    ensures err { OnErr result (line.new.items ≡ line.old.items) }
+{
+    let before = line.len();
+    let written = append_walked(flow, number, names, hops, walked, line);
+    all_or_nothing(written, before, line)
+}
+
+/// Appends it, or a part of it where memory runs out.
+#[tactic(auto, unfolding(crate::specs::Flow::walked_line))]
+fn append_walked(
+    flow: u64,
+    number: u64,
+    names: &[Name],
+    hops: &[Hop],
+    walked: &Walked,
+    line: &mut Vec<u8>,
+) -> Result<(), OutOfMemory>
+    ensures ok { OnOk result (line.new.items ≡ line.old.items ++ walked_line flow number names.now hops.now walked.now) }
+    ensures err { OnErr result (Extends line.old.items line.new.items) }
 {
     line.extend_from_slice(b"packet ")?;
     write_decimal(flow, line)?;
     line.extend_from_slice(b".")?;
     write_decimal(number, line)?;
     line.extend_from_slice(b" ")?;
-    write_end(names, hops, &walked.end, line)?;
+    append_end(names, hops, &walked.end, line)?;
     line.extend_from_slice(b" versions ")?;
-    write_versions(walked.versions.as_slice(), line)?;
+    append_versions(walked.versions.as_slice(), line)?;
     line.push(b'\n')?;
     Ok(())
 }
 
 /// Appends how a walk ended.
-fn write_end(names: &[Name], hops: &[Hop], end: &End, line: &mut Vec<u8>) -> Result<(), OutOfMemory>
-    ensures { OnOk result (line.new.items ≡ line.old.items ++ end_text names.now hops.now end.now) }
+fn append_end(
+    names: &[Name],
+    hops: &[Hop],
+    end: &End,
+    line: &mut Vec<u8>,
+) -> Result<(), OutOfMemory>
+    ensures ok { OnOk result (line.new.items ≡ line.old.items ++ end_text names.now hops.now end.now) }
+    ensures err { OnErr result (Extends line.old.items line.new.items) }
 {
     match end {
         End::Delivered { label, receiver } => {
-            write_delivered(label, line)?;
+            append_delivered(label, line)?;
             line.extend_from_slice(b" to ")?;
             write_address(receiver, line)
         }
         End::Sent { carrier } => {
             line.extend_from_slice(b"sent ")?;
-            write_carrier(*carrier, line)
+            append_carrier(*carrier, line)
         }
         End::Denied { hop, denial } => {
-            write_denied(denial, line)?;
+            append_denied(denial, line)?;
             line.extend_from_slice(b" hop ")?;
             write_decimal(u64::from(*hop), line)?;
             line.extend_from_slice(b" node ")?;
-            write_hop_node(names, hops, *hop, line)
+            append_hop_node(names, hops, *hop, line)
         }
     }
 }
 
 /// Appends what carries a label.
-fn write_carrier(carrier: Carrier, line: &mut Vec<u8>) -> Result<(), OutOfMemory>
-    ensures { OnOk result (line.new.items ≡ line.old.items ++ carrier_text carrier) }
+fn append_carrier(carrier: Carrier, line: &mut Vec<u8>) -> Result<(), OutOfMemory>
+    ensures ok { OnOk result (line.new.items ≡ line.old.items ++ carrier_text carrier) }
+    ensures err { OnErr result (Extends line.old.items line.new.items) }
 {
     match carrier {
         Carrier::Unlabelled => line.extend_from_slice(b"unlbl")?,
@@ -93,13 +132,14 @@ fn write_carrier(carrier: Carrier, line: &mut Vec<u8>) -> Result<(), OutOfMemory
 }
 
 /// Appends the name of the node that judges at a hop, counted from 1; `-` at hop 0.
-fn write_hop_node(
+fn append_hop_node(
     names: &[Name],
     hops: &[Hop],
     hop: u32,
     line: &mut Vec<u8>,
 ) -> Result<(), OutOfMemory>
-    ensures { OnOk result (line.new.items ≡ line.old.items ++ hop_node names.now hops.now hop) }
+    ensures ok { OnOk result (line.new.items ≡ line.old.items ++ hop_node names.now hops.now hop) }
+    ensures err { OnErr result (Extends line.old.items line.new.items) }
 {
     if hop == 0 {
         line.extend_from_slice(b"-")?;
@@ -125,20 +165,22 @@ fn node_of(hop: &Hop) -> usize
 }
 
 /// Appends versions, joined by commas; `-` for none.
-pub(crate) fn write_versions(versions: &[u32], line: &mut Vec<u8>) -> Result<(), OutOfMemory>
-    ensures { OnOk result (line.new.items ≡ line.old.items ++ versions_text versions.now) }
+pub(crate) fn append_versions(versions: &[u32], line: &mut Vec<u8>) -> Result<(), OutOfMemory>
+    ensures ok { OnOk result (line.new.items ≡ line.old.items ++ versions_text versions.now) }
+    ensures err { OnErr result (Extends line.old.items line.new.items) }
 {
     let [first, behind @ ..] = versions else {
         line.extend_from_slice(b"-")?;
         return Ok(());
     };
     write_decimal(u64::from(*first), line)?;
-    write_behind(behind, line)
+    append_behind(behind, line)
 }
 
 /// Appends versions, each behind a comma.
-fn write_behind(versions: &[u32], line: &mut Vec<u8>) -> Result<(), OutOfMemory>
-    ensures { OnOk result (line.new.items ≡ line.old.items ++ versions_behind versions.now) }
+fn append_behind(versions: &[u32], line: &mut Vec<u8>) -> Result<(), OutOfMemory>
+    ensures ok { OnOk result (line.new.items ≡ line.old.items ++ versions_behind versions.now) }
+    ensures err { OnErr result (Extends line.old.items line.new.items) }
 {
     let mut rest = versions;
     while let [version, behind @ ..] = rest {
@@ -150,7 +192,7 @@ fn write_behind(versions: &[u32], line: &mut Vec<u8>) -> Result<(), OutOfMemory>
 }
 
 /// Appends the line behind a flow: how many packets it had, how many of them were delivered or sent, and how many denied.
-#[tactic(auto, unfolding(crate::specs::Flow::flow_end_line))]
+/// After an error `line` is as it was.
 pub fn write_flow_end(
     flow: u64,
     packets: u64,
@@ -158,7 +200,25 @@ pub fn write_flow_end(
     denied: u64,
     line: &mut Vec<u8>,
 ) -> Result<(), OutOfMemory>
-    ensures { OnOk result (line.new.items ≡ line.old.items ++ flow_end_line flow packets passed denied) }
+    ensures ok { OnOk result (line.new.items ≡ line.old.items ++ flow_end_line flow packets passed denied) }
+    ensures err { OnErr result (line.new.items ≡ line.old.items) }
+{
+    let before = line.len();
+    let written = append_flow_end(flow, packets, passed, denied, line);
+    all_or_nothing(written, before, line)
+}
+
+/// Appends it, or a part of it where memory runs out.
+#[tactic(auto, unfolding(crate::specs::Flow::flow_end_line))]
+fn append_flow_end(
+    flow: u64,
+    packets: u64,
+    passed: u64,
+    denied: u64,
+    line: &mut Vec<u8>,
+) -> Result<(), OutOfMemory>
+    ensures ok { OnOk result (line.new.items ≡ line.old.items ++ flow_end_line flow packets passed denied) }
+    ensures err { OnErr result (Extends line.old.items line.new.items) }
 {
     line.extend_from_slice(b"end ")?;
     write_decimal(flow, line)?;

@@ -1,38 +1,53 @@
 //! Lines of scripts: how much a script has, its first fault, or a limit that it passes.
 
-ghost use Rattle.std.specs.Prelude.{◌≡◌, ◌++◌, [], ◌∷◌, codes, OnOk};
+ghost use Rattle.std.specs.Prelude.{◌≡◌, ◌++◌, [], ◌∷◌, codes, OnOk, OnErr};
 ghost use Rattle.report_lines.specs.Script.{script_kind_name, script_line, limit_name, limit_line, script_stop_line, ok_line};
+ghost use Rattle.report_lines.specs.inside.Extends.{Extends};
 
-use crate::denial::write_octet;
+use crate::denial::append_octet;
 use decimal_text::write_decimal;
 use label_commands::{LimitName, ScriptFault, ScriptKind, ScriptStop};
 use mls_label::OutOfMemory;
+use reply_lines::all_or_nothing;
 
-/// Appends the line that tells why a text is no script; nothing for want of memory.
+/// Appends the line that tells why a text is no script; nothing for want of memory. After an error `line` is as it was.
 pub fn write_script_stop(stop: ScriptStop, line: &mut Vec<u8>) -> Result<(), OutOfMemory>
-    ensures { OnOk result (line.new.items ≡ line.old.items ++ script_stop_line stop) }
+    ensures ok { OnOk result (line.new.items ≡ line.old.items ++ script_stop_line stop) }
+    ensures err { OnErr result (line.new.items ≡ line.old.items) }
+{
+    let before = line.len();
+    let written = append_script_stop(stop, line);
+    all_or_nothing(written, before, line)
+}
+
+/// Appends it, or a part of it where memory runs out.
+fn append_script_stop(stop: ScriptStop, line: &mut Vec<u8>) -> Result<(), OutOfMemory>
+    ensures ok { OnOk result (line.new.items ≡ line.old.items ++ script_stop_line stop) }
+    ensures err { OnErr result (Extends line.old.items line.new.items) }
 {
     match stop {
-        ScriptStop::Fault(fault) => write_script_fault(fault, line),
-        ScriptStop::Limit { what, number } => write_limit(what, number, line),
+        ScriptStop::Fault(fault) => append_script_fault(fault, line),
+        ScriptStop::Limit { what, number } => append_limit(what, number, line),
         ScriptStop::OutOfMemory => Ok(()),
     }
 }
 
 /// Appends the line of a script's first fault.
 #[tactic(auto, unfolding(crate::specs::Script::script_line))]
-fn write_script_fault(fault: ScriptFault, line: &mut Vec<u8>) -> Result<(), OutOfMemory>
-    ensures { OnOk result (line.new.items ≡ line.old.items ++ script_line fault) }
+fn append_script_fault(fault: ScriptFault, line: &mut Vec<u8>) -> Result<(), OutOfMemory>
+    ensures ok { OnOk result (line.new.items ≡ line.old.items ++ script_line fault) }
+    ensures err { OnErr result (Extends line.old.items line.new.items) }
 {
     line.extend_from_slice(b"script line ")?;
     write_decimal(u64::from(fault.line), line)?;
-    write_octet(fault.octet as u64, line)?;
-    write_last(script_kind_name(fault.kind), line)
+    append_octet(fault.octet as u64, line)?;
+    append_last(script_kind_name(fault.kind), line)
 }
 
 /// Appends the last word of a line.
-fn write_last(word: &str, line: &mut Vec<u8>) -> Result<(), OutOfMemory>
-    ensures { OnOk result (line.new.items ≡ line.old.items ++ (codes " " ++ word.now ++ 10 ∷ [])) }
+fn append_last(word: &str, line: &mut Vec<u8>) -> Result<(), OutOfMemory>
+    ensures ok { OnOk result (line.new.items ≡ line.old.items ++ (codes " " ++ word.now ++ 10 ∷ [])) }
+    ensures err { OnErr result (Extends line.old.items line.new.items) }
 {
     line.extend_from_slice(b" ")?;
     line.extend_from_slice(word.as_bytes())?;
@@ -62,8 +77,9 @@ fn script_kind_name(kind: ScriptKind) -> &'static str
 
 /// Appends the line of a limit that is passed, and its number.
 #[tactic(auto, unfolding(crate::specs::Script::limit_line))]
-fn write_limit(what: LimitName, number: u32, line: &mut Vec<u8>) -> Result<(), OutOfMemory>
-    ensures { OnOk result (line.new.items ≡ line.old.items ++ limit_line what number) }
+fn append_limit(what: LimitName, number: u32, line: &mut Vec<u8>) -> Result<(), OutOfMemory>
+    ensures ok { OnOk result (line.new.items ≡ line.old.items ++ limit_line what number) }
+    ensures err { OnErr result (Extends line.old.items line.new.items) }
 {
     line.extend_from_slice(b"limit ")?;
     line.extend_from_slice(limit_name(what).as_bytes())?;
@@ -86,15 +102,31 @@ fn limit_name(what: LimitName) -> &'static str
     }
 }
 
-/// Appends the line behind all replies: how much the script has.
-#[tactic(auto, unfolding(crate::specs::Script::ok_line))]
+/// Appends the line behind all replies: how much the script has. After an error `line` is as it was.
 pub fn write_ok(
     nodes: usize,
     commands: usize,
     flows: usize,
     line: &mut Vec<u8>,
 ) -> Result<(), OutOfMemory>
-    ensures { OnOk result (line.new.items ≡ line.old.items ++ ok_line nodes commands flows) }
+    ensures ok { OnOk result (line.new.items ≡ line.old.items ++ ok_line nodes commands flows) }
+    ensures err { OnErr result (line.new.items ≡ line.old.items) }
+{
+    let before = line.len();
+    let written = append_ok(nodes, commands, flows, line);
+    all_or_nothing(written, before, line)
+}
+
+/// Appends it, or a part of it where memory runs out.
+#[tactic(auto, unfolding(crate::specs::Script::ok_line))]
+fn append_ok(
+    nodes: usize,
+    commands: usize,
+    flows: usize,
+    line: &mut Vec<u8>,
+) -> Result<(), OutOfMemory>
+    ensures ok { OnOk result (line.new.items ≡ line.old.items ++ ok_line nodes commands flows) }
+    ensures err { OnErr result (Extends line.old.items line.new.items) }
 {
     line.extend_from_slice(b"ok ")?;
     write_decimal(nodes as u64, line)?;

@@ -1,7 +1,7 @@
 //! Worked lines.
 
 use super::*;
-use crate::flow::write_versions;
+use crate::flow::append_versions;
 use address_text::{Address, read_name};
 use flow_lines::{Hop, read_file_name};
 use ip_headers::Cause;
@@ -157,7 +157,7 @@ fn prints_flows(rt: HostRuntime) {
         write_walked(1, 1, &names, &hops, &walked(end), &mut line).expect(&rt, "there is memory");
     }
     write_flow_end(1, 6, 4, 2, &mut line).expect(&rt, "there is memory");
-    write_versions(&[15, 15, 16, 4294967295], &mut line).expect(&rt, "there is memory");
+    append_versions(&[15, 15, 16, 4294967295], &mut line).expect(&rt, "there is memory");
     assert_eq!(rt;
         line.as_slice(),
         b"flow 1 one.pcap\npacket 1.1 delivered s2:c7,c8 to 10.0.0.2 versions -\npacket 1.1 sent calipso,9 versions -\npacket 1.1 sent cipsov4,16 versions -\npacket 1.1 sent unlbl versions -\npacket 1.1 denied 22 NotIp hop 0 node - versions -\npacket 1.1 denied 10 NoReceiver hop 1 node r versions -\nend 1 packets 6 passed 4 denied 2\n15,15,16,4294967295".as_slice()

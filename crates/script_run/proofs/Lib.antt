@@ -6,4 +6,6 @@ pub mod Underway
 pub mod Turning
 pub mod Starting
 pub mod Statuses
+pub mod Inputs
 pub mod Law
+pub mod Forced

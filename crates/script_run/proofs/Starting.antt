@@ -1,10 +1,10 @@
 -- How the flows of a script begin, and how the call ends in front of a flow or behind the last one.
-use Rattle.std.proofs.Common.{◌≡◌, ◌<◌, ◌≤◌, ℕ, Bool, true, cond, List, [], ◌++◌, get_or, length, Some, None, refl, sym, ap, subst, ◌∙◌, arith, append_assoc, inl}
+use Rattle.std.proofs.Common.{◌≡◌, ◌<◌, ◌≤◌, ℕ, ◌-◌, Bool, true, cond, List, [], ◌++◌, get_or, length, take, Some, None, refl, sym, ap, subst, ◌∙◌, arith, append_assoc, inl}
 use Rattle.std.specs.Prelude.{◌&&◌, ◌==◌, All, slice_get, unwrap_or, option_map}
 use Rattle.std.specs.List.{list_all}
 use Rattle.std.proofs.lemmas.Bool.{eq-eqb}
 use Rattle.std.proofs.lemmas.Option.{slice_get_read}
-use Rattle.std.proofs.lemmas.List.Elements.{All-nil, All-weaker}
+use Rattle.std.proofs.lemmas.List.Elements.{All-nil, All-take, All-weaker}
 use Rattle.net_io.specs.Faults.{Rose}
 use Rattle.net_io.specs.Sink.{SinkState}
 use Rattle.label_commands.specs.declared.script.Script.{Script}
@@ -23,7 +23,7 @@ use Rattle.script_run.specs.Report.{first_replies, runs_outputs}
 use Rattle.script_run.specs.Ends.{flow_in_hand, IsCauseOf, ScriptEnds}
 use Rattle.script_run.proofs.Handing.{printed_more, printed_on_the_way, ends_done}
 use Rattle.script_run.proofs.Runs.{as_many_runs, turns_text, of_each_output}
-use Rattle.script_run.proofs.Underway.{HaveRun, AreUnderWay, short_of_memory, made_has_begun, printed_further}
+use Rattle.script_run.proofs.Underway.{HaveRun, AreUnderWay, HasMadeAll, short_of_memory, made_has_begun, printed_further}
 
 -- the call ends before any flow
 pub ends_first : (script : Script) (workers : ℕ) (start after : Outside) (status : Status) → after.folder ≡ start.folder → Printed (first_replies script) [] OutOfMemory status start.stream after.stream
@@ -38,6 +38,7 @@ ends_first script workers start after status same printed = record {
     is_due = tt;
     printed = printed_more (first_replies script) (cond (is_done script []) done_line []) status start.stream after.stream printed;
     begun = All-nil (λ (o : Output). IsBegun o start.folder.held after.folder.held);
+    earlier = All-nil (λ (o : Output). IsMade o start.folder.held after.folder.held);
     made = λ finished. absurd finished;
     others = λ name all. ap (λ f. f.held name) same;
   };
@@ -62,6 +63,11 @@ module _ (script : Script) (workers : ℕ) (start now : Outside) (waits : List �
   all_made : (have : HaveRun script workers start now waits seen) → All (λ (o : Output). IsMade o start.folder.held now.folder.held) (runs_outputs have.runs)
   all_made have = of_each_output (λ (o : Output). IsMade o start.folder.held now.folder.held) have.runs have.made
 
+  -- so are those of all but the last one
+  earlier_made : (have : HaveRun script workers start now waits seen) → All (λ (o : Output). IsMade o start.folder.held now.folder.held) (runs_outputs (take (length seen - 1) have.runs))
+  earlier_made have = of_each_output (λ (o : Output). IsMade o start.folder.held now.folder.held) (take (length seen - 1) have.runs)
+      (All-take (HasMadeAll start.folder.held now.folder.held) (length seen - 1) have.runs have.made)
+
   all_begun : (have : HaveRun script workers start now waits seen) → All (λ (o : Output). IsBegun o start.folder.held now.folder.held) (runs_outputs have.runs)
   all_begun have = All-weaker (λ (o : Output). IsMade o start.folder.held now.folder.held) (λ (o : Output). IsBegun o start.folder.held now.folder.held)
       (λ o made. made_has_begun start.folder.held now.folder.held o made) (runs_outputs have.runs) (all_made have)
@@ -81,6 +87,7 @@ module _ (script : Script) (workers : ℕ) (start now : Outside) (waits : List �
           printed = subst (λ (t : List ℕ). Printed t [] OutOfMemory OutOfMemory start.stream now.stream) (append_assoc (first_replies script) (turns_text script have.runs) (rest_of have.runs))
               (printed_on_the_way (first_replies script ++ turns_text script have.runs) waits (rest_of have.runs) OutOfMemory start.stream now.stream have.way);
           begun = all_begun have;
+          earlier = earlier_made have;
           made = λ finished. absurd finished;
           others = have.others;
         };
@@ -113,6 +120,7 @@ module _ (script : Script) (workers : ℕ) (start now : Outside) (waits : List �
               printed = subst (λ (t : List ℕ). Printed (first_replies script ++ (turns_text script have.runs ++ t)) [] Done status start.stream c) (ap (λ b. cond b done_line []) (sym done))
                   (printed_further script have.runs waits done_line start.stream now.stream c have.way [] Done status printed);
               begun = all_begun have;
+              earlier = earlier_made have;
               made = λ finished. all_made have;
               others = have.others;
             };

@@ -30,7 +30,7 @@ same_parts a b number flow input pairs =
     ∙ ap (λ i. of_parts b.number b.flow i a.pairs) input
     ∙ ap (λ p. of_parts b.number b.flow b.input p) pairs
 
-one_run : (plan : PlanState) (a b : FlowRun) (lists : List (List ℕ)) → a.number ≡ b.number → a.flow ≡ b.flow → a.input ≡ b.input → IsRun plan a lists → IsRun plan b lists → a ≡ b
+pub one_run : (plan : PlanState) (a b : FlowRun) (lists : List (List ℕ)) → a.number ≡ b.number → a.flow ≡ b.flow → a.input ≡ b.input → IsRun plan a lists → IsRun plan b lists → a ≡ b
 one_run plan a b lists number flow input is is' =
     let hops : AreWalked plan a.flow.hops (packets_in a.input) b.pairs =
     subst (λ (i : FlowInput). AreWalked plan a.flow.hops (packets_in i) b.pairs) (sym input) (subst (λ (f : FlowLine). AreWalked plan f.hops (packets_in b.input) b.pairs) (sym flow) is'.walked) in
@@ -72,7 +72,7 @@ went_on run on =
       not_true true e = absurd (false≢true e)
       not_true false e = refl
 
-judged_event : (run : FlowRun) (event : Event) → last_event (run ∷ []) ≡ Some event → run.input.event ≡ Some event
+pub judged_event : (run : FlowRun) (event : Event) → last_event (run ∷ []) ≡ Some event → run.input.event ≡ Some event
 judged_event run event is = by_test (is_judged run) is where
   by_test : (b : Bool) → cond b run.input.event None ≡ Some event → run.input.event ≡ Some event
   by_test true e = e

@@ -41,7 +41,7 @@ use Rattle.script_run.specs.Runs.{plan_of, is_done, last_event}
 use Rattle.script_run.specs.Report.{first_replies, replies_behind, turn_text, runs_report}
 use Rattle.script_run.specs.Ends.{IsCauseOf, InputRose, OutputRose, ScriptEnds}
 use Rattle.script_run.specs.inside.Turn.{IsTurnEnd}
-use Rattle.script_run.proofs.Handing.{way_of, printed_behind, printed_failing, printed_broken, printed_in_part, printed_more, in_parts, ends_so}
+use Rattle.script_run.proofs.Handing.{way_of, printed_behind, printed_failing, printed_broken, printed_in_part, printed_more, in_parts, ends_so, ends_done}
 use Rattle.script_run.proofs.Runs.{turns_text, turns_behind, pause_behind, turn_on, turn_off, not_done, event_stops, last_event_behind}
 use Rattle.script_run.proofs.Underway.{HaveRun, AreUnderWay, short_of_memory, goes_on_so, ends_here}
 
@@ -224,7 +224,9 @@ module _
   read_failed : (c : SinkState) (status : Status) → Ran (Stopped stop.Read) → Printed waits' [] ReadFault status mid.stream c → ScriptEnds script workers start (after c) (seen ++ lists ∷ []) status
   read_failed c status ran printed =
       ends_here own script sound workers start now mid waits waits' left k seen under count flow at lists (Stopped stop.Read) ran c ReadFault status (λ e. absurd e) printed.told
-      (ends_so (λ s. IsCauseOf (Some flow) s start (after c)) waits' [] ReadFault status mid.stream c printed (input_rose c ran.cause.0) (λ same. (unwritten_over c ran.cause.1 same, inr (input_rose c ran.cause.0))) (λ rose. inl (rose_over c ran.faults rose)))
+      (ends_done (λ s. IsCauseOf (Some flow) s start (after c)) waits' ReadFault status mid.stream c printed
+      (λ same. (unwritten_over c ran.cause.1 same, input_rose c ran.cause.0))
+      (λ same. (unwritten_over c ran.cause.1 same, inr (input_rose c ran.cause.0))) (λ rose. inl (rose_over c ran.faults rose)))
       (λ have ir. record {
         part = run_text script.nodes ir.run;
         printed = printed_behind (run_text script.nodes ir.run) waits waits' [] tt ReadFault status now.stream mid.stream c ir.printed printed;
@@ -236,7 +238,8 @@ module _
   create_failed c status ran printed =
       let rose_of = create_rose c ran.cause.0 ran.cause.1 ran.cause.2 in
       ends_here own script sound workers start now mid waits waits' left k seen under count flow at lists (Stopped stop.Create) ran c ReadFault status (λ e. absurd e) printed.told
-      (ends_so (λ s. IsCauseOf (Some flow) s start (after c)) waits' [] ReadFault status mid.stream c printed rose_of (λ same. (unwritten_over c ran.cause.3 same, inr rose_of)) (λ rose. inl (rose_over c ran.faults rose)))
+      (ends_done (λ s. IsCauseOf (Some flow) s start (after c)) waits' ReadFault status mid.stream c printed (λ same. (unwritten_over c ran.cause.3 same, rose_of))
+      (λ same. (unwritten_over c ran.cause.3 same, inr rose_of)) (λ rose. inl (rose_over c ran.faults rose)))
       (λ have ir. record {
         part = run_text script.nodes ir.run;
         printed = printed_behind (run_text script.nodes ir.run) waits waits' [] tt ReadFault status now.stream mid.stream c ir.printed printed;

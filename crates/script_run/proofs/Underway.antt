@@ -2,7 +2,7 @@
 use Rattle.std.proofs.Common.{◌≡◌, ◌≢◌, ◌≤◌, ℕ, suc, ◌+◌, ◌-◌, true, List, [], ◌∷◌, ◌++◌, get_or, length, take, Option, Some, None, refl, sym, ap, subst, ◌∙◌, arith, append_assoc, length-append, inl, inr}
 use Rattle.std.specs.Prelude.{All, IsTrue, slice_get}
 use Rattle.std.specs.List.{list_all}
-use Rattle.std.proofs.lemmas.List.{append-nil, take_all, length-map}
+use Rattle.std.proofs.lemmas.List.{append-nil, take_all, take_at, length-map}
 use Rattle.std.proofs.lemmas.List.Elements.{All-nil, All-cons, All-head, All-tail, All-push, All-weaker}
 use Rattle.std.proofs.lemmas.Option.{slice_get_within}
 use Rattle.net_io.specs.Sink.{SinkState}
@@ -25,11 +25,11 @@ use Rattle.flow_run.specs.Input.{flow_input, packets_in}
 use Rattle.flow_run.specs.Run.{FlowRun, goes_on, run_output}
 use Rattle.flow_run.specs.Ends.{FlowEnds, IsRunOf, HasEnded}
 use Rattle.script_run.specs.Runs.{plan_of, AreRuns, IsLawfulRun}
-use Rattle.script_run.specs.Report.{first_replies, turn_text}
+use Rattle.script_run.specs.Report.{first_replies, turn_text, runs_outputs}
 use Rattle.script_run.specs.Ends.{last_of, flow_in_hand, IsCauseOf, IsDue, due_body, due_line, IsPrintedSo, HasFinished, ScriptEnds}
 use Rattle.script_run.proofs.Handing.{ways_join}
 use Rattle.script_run.proofs.Names.{input_is_kept, output_is_kept}
-use Rattle.script_run.proofs.Runs.{left_after, left_behind, of_each_flow, one_more_run, all_on_behind, turns_text, turns_behind, in_hand, of_flow_in_hand, of_each_output, output_named}
+use Rattle.script_run.proofs.Runs.{left_after, left_behind, as_many_runs, of_each_flow, one_more_run, all_on_behind, turns_text, turns_behind, in_hand, of_flow_in_hand, of_each_output, output_named}
 
 all_front : {X : Type 0} (P : X → Type 0) (xs : List X) (x : X) → All P (xs ++ x ∷ []) → All P xs
 all_front P [] x all = All-nil P
@@ -210,6 +210,13 @@ module _
         let other : ir.run.flow.output ≢ Some output.name = λ same. kept_names i d within output.name (output_named r output is) (ap (λ (f : FlowLine). f.output) (sym ir.flow_is) ∙ same) in
         made_kept start.folder.held start.folder.held now.folder.held mid.folder.held output refl (ir.made.others output.name other) (have.made i d within output is)
 
+    -- so it is there of all but the last one
+    pub earlier_made : All (λ (o : Output). IsMade o start.folder.held mid.folder.held) (runs_outputs (take (length (seen ++ lists ∷ []) - 1) (have.runs ++ ir.run ∷ [])))
+    earlier_made =
+        let many : length have.runs ≡ length (seen ++ lists ∷ []) - 1 = omega (arith, one_longer, count, as_many_runs (plan_of script) start.folder.held 1 packets_limit script.flows seen have.runs have.are) in
+        subst (λ (rs : List FlowRun). All (λ (o : Output). IsMade o start.folder.held mid.folder.held) (runs_outputs rs)) (sym (take_at have.runs (ir.run ∷ []) (length (seen ++ lists ∷ []) - 1) many))
+        (of_each_output (λ (o : Output). IsMade o start.folder.held mid.folder.held) have.runs still_made)
+
     pub more_begun : All (HasBegun start.folder.held mid.folder.held) (have.runs ++ ir.run ∷ [])
     more_begun =
         All-push (HasBegun start.folder.held mid.folder.held) have.runs ir.run
@@ -280,6 +287,7 @@ module _
           printed = subst (λ (t : List ℕ). IsPrintedSo t (due_line script (have.runs ++ ir.run ∷ []) due) due status start.stream c) e.body
               (so_further script have.runs waits e.part start.stream now.stream c have.way (due_line script (have.runs ++ ir.run ∷ []) due) due status e.printed);
           begun = of_each_output (λ (o : Output). IsBegun o start.folder.held mid.folder.held) (have.runs ++ ir.run ∷ []) (more_begun have ir);
+          earlier = earlier_made have ir;
           made = λ finished. of_each_output (λ (o : Output). IsMade o start.folder.held mid.folder.held) (have.runs ++ ir.run ∷ []) (more_made have ir (ended finished));
           others = more_others have ir;
         };

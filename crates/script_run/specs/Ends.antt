@@ -1,5 +1,5 @@
 -- How the flows of a script end, with what was printed, what was made, and what was left as it was.
-use Rattle.std.specs.Prelude.{ℕ, ◌≡◌, ◌≢◌, ◌≤◌, ◌⊎◌, IsTrue, IsSome, List, [], ◌∷◌, length, take, All, Option, Some, None}
+use Rattle.std.specs.Prelude.{ℕ, ◌≡◌, ◌≢◌, ◌≤◌, ◌⊎◌, ◌-◌, IsTrue, IsSome, List, [], ◌∷◌, length, take, All, Option, Some, None}
 use Rattle.net_io.specs.Sink.{SinkState}
 use Rattle.net_io.specs.Faults.{Rose, SameCounts}
 use Rattle.label_commands.specs.declared.script.Script.{Script}
@@ -39,13 +39,13 @@ pub record OutputRose (flow : Option FlowLine) (before after : Outside) : Type 0
   pub makes : of.output ≡ Some name
   pub rose : Rose (before.folder.appends name) (after.folder.appends name)
 
--- What moved where the call ends with this status. For want of memory no write and no append has failed, and nothing else, unless memory ran out
--- while what stands in front of a read or a making that failed was printed.
+-- What moved where the call ends with this status. A read or a making that failed decides only where no write and no append has failed. For want of memory
+-- none of these has failed either, and nothing else, unless a read or a making failed.
 abbrev pub IsCauseOf : Option FlowLine → Status → Outside → Outside → Type 0
 IsCauseOf flow Done before after = NoneFailed before after
 IsCauseOf flow NoForm before after = ⊥
 IsCauseOf flow WrongScript before after = ⊥
-IsCauseOf flow ReadFault before after = InputRose flow before after
+IsCauseOf flow ReadFault before after = NoWriteFailed before after × InputRose flow before after
 IsCauseOf flow WriteFault before after = Rose before.stream.faults after.stream.faults ⊎ OutputRose flow before after
 IsCauseOf flow WrongCapture before after = IsSome flow
 IsCauseOf flow OutOfMemory before after = NoWriteFailed before after × (NoneFailed before after ⊎ InputRose flow before after)
@@ -100,6 +100,8 @@ pub record HasRuns (script : Script) (workers : ℕ) (before after : Outside) (s
   pub is_due : IsDue script runs (flow_in_hand script seen) before after due
   pub printed : IsPrintedSo (due_body script runs due) (due_line script runs due) due status before.stream after.stream
   pub begun : All (λ output. IsBegun output before.folder.held after.folder.held) (runs_outputs runs)
+  -- with every status those of the flows in front of the one in hand hold all that they are to hold
+  pub earlier : All (λ output. IsMade output before.folder.held after.folder.held) (runs_outputs (take (length seen - 1) runs))
   pub made : HasFinished due → All (λ output. IsMade output before.folder.held after.folder.held) (runs_outputs runs)
   pub others : (name : List ℕ) → All (λ run. run.flow.output ≢ Some name) runs → after.folder.held name ≡ before.folder.held name
 

@@ -3,7 +3,7 @@ use Rattle.std.specs.Prelude.{ℕ, ◌≡◌, ◌+◌, ◌-◌, ◌<◌, ◌⊎�
 use Rattle.std.specs.List.{list_all}
 use Rattle.pcap_frames.specs.declared.header.CaptureHeader.{CaptureHeader}
 use Rattle.label_commands.specs.declared.script.Script.{Script}
-use Rattle.label_commands.specs.Script.{before}
+use Rattle.label_commands.specs.Script.{before, after}
 use Rattle.flow_lines.specs.declared.flow.FlowLine.{FlowLine}
 use Rattle.shared_tables.specs.Plan.{PlanState}
 use Rattle.label_flow.specs.Schedule.{AreLawful, versions_in}
@@ -45,6 +45,10 @@ pub record AreWholeRuns (script : Script) (runs : List FlowRun) : Type 0 where
 abbrev pub IsLawfulRun : Script → ℕ → FlowRun → Type 0
 IsLawfulRun script workers run =
     AreLawful (plan_of script) run.flow.hops workers run.flow.before (before script run.number) (take (length run.pairs) (packets_in run.input)) (versions_in run.pairs)
+
+-- No step stands beside a flow: in front of the next one, or in all where it is the last one, are as many as above it.
+abbrev pub HasNoneBeside : Script → Type 0
+HasNoneBeside script = (flow : ℕ) → flow < length script.flows → after script flow ≡ before script flow
 
 -- the status of an event, or else, behind an input that could be begun, what comes then; none where it is absent
 abbrev pub StatusOr : Option Event → Option CaptureHeader → Type 0 → ℕ → Type 0

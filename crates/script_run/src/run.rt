@@ -36,7 +36,7 @@ const PACKETS_LIMIT: u64 = 1_048_576;
 ///
 /// A read of an input, or the making of an output, that fails is `ReadFault`; an append to an output, or a write to the stream,
 /// `WriteFault`. All that stands in front of a call of the folder that fails is printed. Without memory the output ends somewhere: no write
-/// and no append has failed then, and an append that failed before keeps its status.
+/// and no append has failed then, and nothing else, unless a read or a making failed. An append that failed before keeps its status.
 pub fn run_script<D: Depot + Send, S: Sink + Send, G: Gate + Sync, R: Threads + Wait + Sync>(
     rt: &R,
     alloc: Global,

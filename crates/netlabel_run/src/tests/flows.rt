@@ -205,6 +205,81 @@ packet 6.1 denied 15 Inexpressible hop 1 node a versions 10
 end 6 packets 1 passed 0 denied 1
 done
 
+run s
+node a
+cipsov4 add pass doi:16 tags:1,2,5
+map add default protocol:cipsov4,16
+receiver add address:10.0.0.2 domain:sink_t level:s2:c1-s2:c0.c5
+node b
+cipsov4 add pass doi:16 tags:1,2,5
+map add default protocol:cipsov4,16
+receiver add address:10.0.0.2 domain:sink_t level:s2:c2-s2:c0.c5
+node c
+cipsov4 add pass doi:16 tags:1,2,5
+map add default protocol:cipsov4,16
+receiver add address:10.0.0.2 domain:sink_t level:s3-s3:c0.c5
+node d
+cipsov4 add pass doi:16 tags:1,2,5
+map add default protocol:cipsov4,16
+receiver add address:10.0.0.2 domain:sink_t level:s2:c2-s2:c2
+node e
+unlbl accept on
+unlbl add default address:0.0.0.0/0 label:s0-s1:c2
+map add default protocol:unlbl
+receiver add address:10.0.0.2 domain:sink_t level:s1-s1:c2
+node f
+unlbl accept on
+unlbl add default address:0.0.0.0/0 label:s0-s1:c2
+map add default protocol:unlbl
+receiver add address:10.0.0.2 domain:sink_t level:s1:c2
+flow p.pcap - receive:a,eth0
+flow p.pcap - receive:b,eth0
+flow p.pcap - receive:c,eth0
+flow p.pcap - receive:d,eth0
+flow one.pcap - receive:e,eth0
+flow one.pcap - receive:f,eth0
+--
+0
+command 1 a done
+command 2 a done
+command 3 a done
+command 4 b done
+command 5 b done
+command 6 b done
+command 7 c done
+command 8 c done
+command 9 c done
+command 10 d done
+command 11 d done
+command 12 d done
+command 13 e done
+command 14 e done
+command 15 e done
+command 16 e done
+command 17 f done
+command 18 f done
+command 19 f done
+command 20 f done
+flow 1 p.pcap
+packet 1.1 delivered s2:c1,c3 to 10.0.0.2 versions 20
+end 1 packets 1 passed 1 denied 0
+flow 2 p.pcap
+packet 2.1 denied 23 BelowRange hop 1 node b versions 20
+end 2 packets 1 passed 0 denied 1
+flow 3 p.pcap
+packet 3.1 denied 23 BelowRange hop 1 node c versions 20
+end 3 packets 1 passed 0 denied 1
+flow 4 p.pcap
+packet 4.1 denied 12 NotDominated hop 1 node d versions 20
+end 4 packets 1 passed 0 denied 1
+flow 5 one.pcap
+packet 5.1 denied 23 BelowRange hop 1 node e versions 20
+end 5 packets 1 passed 0 denied 1
+flow 6 one.pcap
+packet 6.1 delivered s1:c2 to 10.0.0.2 versions 20
+end 6 packets 1 passed 1 denied 0
+done
+
 run s -w 1
 node r
 unlbl accept on

@@ -210,6 +210,40 @@ fn batches_keep_the_order_of_packets(rt: HostRuntime) {
     }
 }
 
+/// Which workers have looked, a bit for each.
+#[derive(Drop)]
+struct Looked {
+    workers: AtomicU64,
+}
+
+impl Gate for Looked {
+    fn before_look(&self, worker: u32, _packet: u64, _hop: u32) {
+        if worker < 64 {
+            self.workers.fetch_or(1 << worker, Ordering::SeqCst);
+        }
+    }
+
+    fn before_step(&self, _version: u32) {}
+
+    fn after_step(&self, _version: u32) {}
+}
+
+#[test]
+fn each_worker_has_packets(rt: HostRuntime) {
+    let alloc = rt.alloc();
+    let script = with_line(&rt, alloc, "flow one.pcap - receive:r,eth0");
+    let gate = Looked {
+        workers: AtomicU64::new(0),
+    };
+    let mut depot = folder(&rt, alloc, script.as_str(), 0);
+    depot
+        .put("one.pcap", &repeated(&rt, alloc, 16))
+        .expect(&rt, "there is memory");
+    let ran = call(&rt, alloc, "run s -w 16", depot, 0, &gate);
+    assert_eq!(rt; ran.status, 0);
+    assert_eq!(rt; gate.workers.load(Ordering::SeqCst), 65_535);
+}
+
 /// A receiver that goes between two flows.
 const GOES: &str = "flow one.pcap - receive:r,eth0
 flow one.pcap - receive:r,eth0

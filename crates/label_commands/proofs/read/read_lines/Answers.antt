@@ -14,5 +14,5 @@ loop-line-preserved c =
       so = line_goes with_translations own c.loop-line.draft c.loop-line.number line c.loop-line.rest.now c.in-Some.behind.now c.in-Some.ensures.line c.read_line.new.self said
           ∙ c.loop-line.invariant.so;
       few = omega (arith, adds.0);
-      steps = omega (arith, steps_grow own c.loop-line.draft c.read_line.new.self adds.1, c.loop-line.invariant.steps);
+      steps = omega (arith, steps_grow with_translations own c.loop-line.draft c.read_line.new.self adds.1, c.loop-line.invariant.steps);
     }

@@ -1,0 +1,71 @@
+-- The laws of src/laws.rt under their names, for the crates above.
+use Rattle.std.proofs.Common.{◌≡◌, ℕ, false, List, [], ◌∷◌, Result, Ok}
+use Rattle.std.specs.Prelude.{All, IsSome}
+use Rattle.std.proofs.lemmas.List.Elements.{All-weaker}
+use Rattle.mls_label.specs.declared.label.Label.{Label}
+use Rattle.ip_headers.specs.Packet.{ParsedPacket}
+use Rattle.packet_label.specs.declared.denial.Carrier.{Carrier}
+use Rattle.packet_label.specs.declared.fault.CarryFault.{CarryFault}
+use Rattle.packet_label.specs.declared.packet.Wire.{Wire}
+use Rattle.packet_label.specs.Written.{IsLabel, IsNext}
+use Rattle.domain_map.specs.declared.protocol.Protocol.{Protocol}
+use Rattle.line_forms.specs.Form.{Edition}
+use Rattle.flow_lines.specs.declared.hop.Hop.{Hop}
+use Rattle.flow_lines.specs.declared.flow.FlowLine.{FlowLine}
+use Rattle.flow_lines.specs.Hop.{is_send, node_of}
+use Rattle.node_readings.specs.Reading.{NamedMeanings}
+use Rattle.node_readings.specs.Meaning.{meaning_of}
+use Rattle.node_tables.specs.Tables.{TableState}
+use Rattle.node_tables.specs.Valid.{AreValid}
+use Rattle.node_agreement.specs.Agreement.{Agree}
+use Rattle.label_send.specs.Outgoing.{outgoing}
+use Rattle.label_commands.specs.declared.script.Script.{Script}
+use Rattle.label_commands.specs.Script.{IsScript}
+use Rattle.shared_tables.specs.Plan.{PlanState}
+use Rattle.packet_walk.specs.declared.packet.PacketIn.{PacketIn}
+use Rattle.packet_walk.specs.declared.walked.End.{End}
+use Rattle.packet_walk.specs.Walk.{goes_on, tables_of, hop_verdict, IsWalkOf}
+use Rattle.label_flow.specs.Pair.{PairState}
+use Rattle.label_flow.specs.Walked.{AreWalked}
+use Rattle.flow_access.specs.Access.{HaveAccess}
+use Rattle.flow_access.specs.Labels.{hop_label}
+use Rattle.flow_access.specs.Kept.{LabelIsKept}
+use Rattle.flow_access.specs.Sound.{IsSound}
+use Rattle.flow_access.specs.Valid.{IsValidFlow}
+use Rattle.flow_access.proofs.Hops.{says_label}
+use Rattle.flow_access.proofs.Links.{labelled}
+use Rattle.flow_access.proofs.Scripts.{its_plan, script_flows_valid}
+use Rattle.flow_access.proofs.Walks.{sound}
+-- terms over any relation between meanings, or any property of labels, which no clause can state
+pub use Rattle.flow_access.proofs.Origins.{high_found}
+pub use Rattle.flow_access.proofs.Along.{GoesWell, DeliversWell, ArrivesWell, arrives_well}
+
+pub hops_say_their_label : (network : List TableState) (hop : Hop) (octets : List ℕ) (read : Result (ParsedPacket Wire) CarryFault) (carrier : Carrier) (packet : ParsedPacket Wire) (x : Label)
+    → hop_verdict network hop octets read ≡ Ok (goes_on carrier packet) → hop_label (tables_of network (node_of hop)) hop read ≡ Ok x
+    → (protocol : Protocol) × (outgoing (tables_of network (node_of hop)).definitions protocol x ≡ Ok packet.label)
+hops_say_their_label = says_label
+
+pub options_keep_meanings : (a b : TableState) (a_named b_named : NamedMeanings) (protocol : Protocol) (packet : ParsedPacket Wire) (next : Hop) (later : Result (ParsedPacket Wire) CarryFault) (x y : Label)
+    → AreValid a → AreValid b → Agree a b a_named b_named → IsLabel x → outgoing a.definitions protocol x ≡ Ok packet.label → IsSome packet.label → is_send next ≡ false → IsNext packet later → hop_label b next later ≡ Ok y
+    → (meaning_of b_named y ≡ meaning_of a_named x) × IsLabel y
+options_keep_meanings = labelled
+
+pub kept_is_sound : (plan : PlanState) (readings : List NamedMeanings) (hops : List Hop) (packet : PacketIn) (versions : List ℕ) (end : End) (out : List ℕ) → IsValidFlow plan readings hops → IsWalkOf plan hops packet versions end out
+    → LabelIsKept plan readings hops packet.bytes versions → IsSound plan readings hops packet.bytes versions end
+kept_is_sound = sound
+
+pub walked_packets_have_access : (plan : PlanState) (readings : List NamedMeanings) (hops : List Hop) (packets : List PacketIn) (pairs : List PairState) → IsValidFlow plan readings hops → AreWalked plan hops packets pairs
+    → HaveAccess plan readings hops packets pairs
+walked_packets_have_access plan readings hops packets [] valid walked = tt
+walked_packets_have_access plan readings hops [] (pair ∷ pairs) valid walked = absurd walked
+walked_packets_have_access plan readings hops (packet ∷ packets) (pair ∷ pairs) valid walked =
+    (sound plan readings hops packet pair.walked.versions pair.walked.end pair.octets valid walked.0, walked_packets_have_access plan readings hops packets pairs valid walked.1)
+
+pub flows_of_scripts_are_valid : (edition : Edition) (own text : List ℕ) (script : Script) → IsScript edition own text script → All (λ (flow : FlowLine). IsValidFlow (its_plan script) script.readings flow.hops) script.flows
+flows_of_scripts_are_valid = script_flows_valid
+
+pub packets_of_scripts_have_access : (edition : Edition) (own text : List ℕ) (script : Script) (packets : List PacketIn) (pairs : List PairState) → IsScript edition own text script
+    → All (λ (flow : FlowLine). AreWalked (its_plan script) flow.hops packets pairs → HaveAccess (its_plan script) script.readings flow.hops packets pairs) script.flows
+packets_of_scripts_have_access edition own text script packets pairs is =
+    All-weaker (λ (flow : FlowLine). IsValidFlow (its_plan script) script.readings flow.hops) (λ (flow : FlowLine). AreWalked (its_plan script) flow.hops packets pairs → HaveAccess (its_plan script) script.readings flow.hops packets pairs)
+    (λ flow valid. walked_packets_have_access (its_plan script) script.readings flow.hops packets pairs valid) script.flows (script_flows_valid edition own text script is)

@@ -1,0 +1,9 @@
+pub mod Crossing
+pub mod Reading
+pub mod Hops
+pub mod Origins
+pub mod Links
+pub mod Along
+pub mod Walks
+pub mod Scripts
+pub mod Law

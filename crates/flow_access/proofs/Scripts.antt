@@ -1,0 +1,54 @@
+-- The flows of a script that is read are valid.
+use Rattle.std.proofs.Common.{◌≡◌, ℕ, List, [], length, get_or, Option, Some, None, slice_get, refl, subst}
+use Rattle.std.specs.Prelude.{All, unwrap_or}
+use Rattle.std.proofs.lemmas.List.Elements.{All-nil, All-head}
+use Rattle.std.proofs.lemmas.Option.{slice_get_within, get_or_from_slice_get}
+use Rattle.line_forms.specs.Form.{Edition}
+use Rattle.flow_lines.specs.declared.hop.Hop.{Hop}
+use Rattle.flow_lines.specs.declared.flow.FlowLine.{FlowLine}
+use Rattle.flow_lines.specs.Hop.{node_of, IsRoute}
+use Rattle.node_readings.specs.Reading.{IsReading}
+use Rattle.node_tables.specs.Tables.{fresh}
+use Rattle.node_tables.specs.Valid.{AreValid}
+use Rattle.node_tables.proofs.Law.{nodes_begin_fresh, tables_are_valid_after_steps}
+use Rattle.label_commands.specs.declared.script.Script.{Script}
+use Rattle.label_commands.specs.Script.{no_meanings, IsScript}
+use Rattle.label_commands.specs.Bounded.{IsBoundedStep, IsBoundedFlow, IsBoundedScript}
+use Rattle.label_commands.proofs.Law.{scripts_are_sound, numbers_of_scripts_are_bounded, no_meanings_are_a_reading}
+use Rattle.shared_tables.specs.Plan.{PlanState, network_after}
+use Rattle.flow_access.specs.Labels.{hop_tables}
+use Rattle.flow_access.specs.Valid.{IsValidFlow}
+
+-- its nodes, and its steps in order
+abbrev pub its_plan : Script → PlanState
+its_plan script = record { nodes = length script.nodes; steps = script.steps }
+
+-- that of a place, or the one that stands for what isn't there
+one_or : {X : Type 0} (P : X → Type 0) (xs : List X) (i : ℕ) (other : X) → All P xs → P other → P (unwrap_or (slice_get xs i) other)
+one_or {X} P xs i other all is = by_place (slice_get xs i) refl where
+  by_place : (o : Option X) → slice_get xs i ≡ o → P (unwrap_or o other)
+  by_place (Some x) at = subst P (get_or_from_slice_get xs i x x at) (all i x (slice_get_within xs i x at))
+  by_place None at = is
+
+-- those of one node, before the first step
+fresh_valid : AreValid fresh
+fresh_valid = All-head AreValid fresh [] (subst (All AreValid) (nodes_begin_fresh 1 []) (tables_are_valid_after_steps 1 [] 0 (All-nil IsBoundedStep)))
+
+module _ (script : Script) (bounded : IsBoundedScript script) where
+  tables_valid : (version : ℕ) (hop : Hop) → AreValid (hop_tables (its_plan script) version hop)
+  tables_valid version hop =
+      one_or AreValid (network_after (its_plan script) version) (node_of hop) fresh (tables_are_valid_after_steps (length script.nodes) script.steps version bounded.steps) fresh_valid
+
+  flow_valid : (flow : FlowLine) → IsBoundedFlow flow → IsRoute flow.hops → IsValidFlow (its_plan script) script.readings flow.hops
+  flow_valid flow labels route = record {
+    tables = tables_valid;
+    named = λ hop. one_or IsReading script.readings (node_of hop) no_meanings bounded.readings no_meanings_are_a_reading;
+    labels = labels;
+    ordered = route.ordered;
+  }
+
+pub script_flows_valid : (edition : Edition) (own text : List ℕ) (script : Script) → IsScript edition own text script → All (λ flow. IsValidFlow (its_plan script) script.readings flow.hops) script.flows
+script_flows_valid edition own text script e =
+    let bounded = numbers_of_scripts_are_bounded edition own text script e in
+    let sound = scripts_are_sound edition own text script e in
+    λ i d lt. flow_valid script bounded (get_or script.flows i d) (bounded.flows i d lt) (sound.routes i d lt)

@@ -1,0 +1,16 @@
+-- What the values keep that come from a script: every number is within its bounds.
+use Rattle.std.specs.Prelude.{ℕ, List, All}
+use Rattle.flow_lines.specs.declared.hop.Hop.{Hop}
+use Rattle.flow_lines.specs.Hop.{AreOrdered}
+use Rattle.node_readings.specs.Reading.{NamedMeanings, IsReading}
+use Rattle.node_tables.specs.Valid.{AreValid}
+use Rattle.label_commands.specs.Bounded.{IsBoundedHop}
+use Rattle.shared_tables.specs.Plan.{PlanState}
+use Rattle.flow_access.specs.Labels.{hop_tables, reading_at}
+
+-- hops in order, of which one that sends names a label, at nodes whose tables and readings are valid after any number of steps
+pub record IsValidFlow (plan : PlanState) (readings : List NamedMeanings) (hops : List Hop) : Type 0 where
+  pub tables : (version : ℕ) (hop : Hop) → AreValid (hop_tables plan version hop)
+  pub named : (hop : Hop) → IsReading (reading_at readings hop)
+  pub labels : All IsBoundedHop hops
+  pub ordered : AreOrdered hops

@@ -1,0 +1,27 @@
+-- What the numbers of every script keep that is read.
+use Rattle.std.specs.Prelude.{All}
+use Rattle.packet_label.specs.Written.{IsLabel}
+use Rattle.node_readings.specs.Reading.{IsReading}
+use Rattle.command_forms.specs.declared.command.Step.{Step}
+use Rattle.command_forms.specs.Bounded.{IsBounded}
+use Rattle.flow_lines.specs.declared.hop.Hop.{Hop}
+use Rattle.flow_lines.specs.declared.hop.Hop.TheVariants.{Send}
+use Rattle.flow_lines.specs.declared.flow.FlowLine.{FlowLine}
+use Rattle.label_commands.specs.declared.script.Script.{Script}
+
+-- a hop that sends names a label within the bounds
+abbrev pub IsBoundedHop : Hop → Type 0
+IsBoundedHop (Send node domain interface label) = IsLabel label
+IsBoundedHop hop = Unit {0}
+
+abbrev pub IsBoundedStep : Step → Type 0
+IsBoundedStep step = IsBounded step.command
+
+abbrev pub IsBoundedFlow : FlowLine → Type 0
+IsBoundedFlow flow = All IsBoundedHop flow.hops
+
+-- its commands' numbers and its flows' labels are within their bounds, and each node's reading is one
+pub record IsBoundedScript (script : Script) : Type 0 where
+  pub steps : All IsBoundedStep script.steps
+  pub flows : All IsBoundedFlow script.flows
+  pub readings : All IsReading script.readings

@@ -1,0 +1,12 @@
+use Rattle.std.proofs.Common.{refl}
+use Rattle.net_io.proofs.Listed.{counts_for_all}
+use Rattle.net_io.proofs.real_depot.RealDepotDepot.create.Goals as goal
+
+pub returns-in-Err-clause-frame : goal.returns-in-Err-clause-frame
+returns-in-Err-clause-frame g c = record {
+  told = refl;
+  reads = λ _. refl;
+  creates = counts_for_all c.counted.result c.args.name.now c.args.self.now.create_faults c.counted.new.faults
+      c.counted.ensures.no_less c.counted.ensures.failed c.counted.ensures.out_of_memory;
+  appends = λ _. refl;
+}

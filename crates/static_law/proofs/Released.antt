@@ -1,0 +1,71 @@
+-- The label of a packet that goes on is within the range of the interface at which it goes out.
+use Rattle.std.proofs.Common.{◌≡◌, ℕ, false, List, Result, Ok, Err, refl, sym, ap, subst, ◌∙◌}
+use Rattle.mls_label.specs.declared.label.Label.{Label}
+use Rattle.ip_headers.specs.Packet.{ParsedPacket}
+use Rattle.packet_label.specs.declared.denial.Carrier.{Carrier}
+use Rattle.packet_label.specs.declared.denial.Denial.{Denial}
+use Rattle.packet_label.specs.declared.fault.CarryFault.{CarryFault}
+use Rattle.packet_label.specs.declared.packet.Wire.{Wire}
+use Rattle.flow_lines.specs.declared.hop.Hop.{Hop}
+use Rattle.flow_lines.specs.declared.hop.Hop.TheVariants.{Send, Forward, Receive}
+use Rattle.flow_lines.specs.Hop.{node_of}
+use Rattle.node_tables.specs.Tables.{TableState}
+use Rattle.label_receive.specs.declared.receiving.Delivered.{Delivered}
+use Rattle.label_receive.specs.Incoming.{label_of}
+use Rattle.label_receive.specs.Judged.{judged_by}
+use Rattle.label_receive.specs.Range.{is_outside}
+use Rattle.label_receive.specs.Receive.{receive_of}
+use Rattle.label_send.specs.Send.{Sent, send_octets}
+use Rattle.label_send.proofs.Law.{sent_packets_may_go_out}
+use Rattle.label_gateway.specs.Forward.{Forwarded, forward_of}
+use Rattle.label_gateway.proofs.Law.{forwarded_packets_may_go_on}
+use Rattle.packet_walk.specs.Walk.{Passage, goes_on, arrives, passes, sending, forwarding, tables_of, hop_verdict}
+use Rattle.flow_access.specs.Labels.{high_of, hop_label}
+use Rattle.static_law.specs.Covered.{interface_out}
+
+-- the range of the interface, if there is one, holds it together with some low label
+pub record IsReleased (t : TableState) (out : List ℕ) (x : Label) : Type 0 where
+  pub low : Label
+  pub inside : is_outside t.ranges out low x ≡ false
+
+-- ---- where a hop sends
+
+by_sent : (t : TableState) (domain interface octets : List ℕ) (x : Label) (passage : Passage) (r : Result Sent Denial) → send_octets t domain interface x octets ≡ r → passes sending r ≡ Ok passage → IsReleased t interface x
+by_sent t domain interface octets x passage (Err why) s e = absurd (cc)
+by_sent t domain interface octets x passage (Ok sent) s e = record { low = x; inside = (sent_packets_may_go_out t domain interface x octets sent s).released }
+
+-- ---- where it forwards
+
+module _ (t : TableState) (from to domain : List ℕ) (p : ParsedPacket Wire) (x : Label) (takes : high_of (label_of t from p) ≡ Ok x) where
+  by_forwarded : (f : Forwarded) → forward_of t from to domain p ≡ Ok f → IsReleased t to x
+  by_forwarded f s =
+      let g = forwarded_packets_may_go_on t from to domain p f s in
+      let both : Ok g.incoming.high ≡ Ok x = sym (ap high_of g.labels) ∙ takes in
+      let same : g.incoming.high ≡ x = cc in
+      record { low = g.incoming.low; inside = subst (λ l. is_outside t.ranges to g.incoming.low l ≡ false) same g.released }
+
+  by_result : (passage : Passage) (r : Result Forwarded Denial) → forward_of t from to domain p ≡ r → passes forwarding r ≡ Ok passage → IsReleased t to x
+  by_result passage (Err why) s e = absurd (cc)
+  by_result passage (Ok f) s e = by_forwarded f s
+
+-- ---- where it receives
+
+-- nothing goes on
+module _ {P : Type 0} (t : TableState) (interface : List ℕ) (carrier : Carrier) (packet : ParsedPacket Wire) where
+  by_delivered : (r : Result Delivered Denial) → passes arrives r ≡ Ok (goes_on carrier packet) → P
+  by_delivered (Err why) e = absurd (cc)
+  by_delivered (Ok delivered) e = let other : arrives delivered ≡ goes_on carrier packet = cc in absurd (cc)
+
+  pub never_on : (read : Result (ParsedPacket Wire) CarryFault) → passes arrives (judged_by (receive_of t interface) read) ≡ Ok (goes_on carrier packet) → P
+  never_on read e = by_delivered (judged_by (receive_of t interface) read) e
+
+pub released : (network : List TableState) (hop : Hop) (octets : List ℕ) (read : Result (ParsedPacket Wire) CarryFault) (carrier : Carrier) (packet : ParsedPacket Wire) (x : Label)
+    → hop_verdict network hop octets read ≡ Ok (goes_on carrier packet) → hop_label (tables_of network (node_of hop)) hop read ≡ Ok x → IsReleased (tables_of network (node_of hop)) (interface_out hop) x
+released network (Send node domain interface label) octets read carrier packet x e takes =
+    let same : label ≡ x = cc in
+    subst (IsReleased (tables_of network node) interface) same
+    (by_sent (tables_of network node) domain interface octets label (goes_on carrier packet) (send_octets (tables_of network node) domain interface label octets) refl e)
+released network (Forward node from to domain) octets (Err fault) carrier packet x e takes = absurd (cc)
+released network (Forward node from to domain) octets (Ok p) carrier packet x e takes =
+    by_result (tables_of network node) from to domain p x takes (goes_on carrier packet) (forward_of (tables_of network node) from to domain p) refl e
+released network (Receive node interface) octets read carrier packet x e takes = never_on (tables_of network node) interface carrier packet read e

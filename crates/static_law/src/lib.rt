@@ -1,0 +1,16 @@
+//! Unlabelled hops under static labels. Where two neighbouring nodes agree, and the static labels that the second one gives to what comes in
+//! without a label mean at least as much as all that the first one lets out there, no walk ends below the label at which it began, and the
+//! receiver's level is above both. It is decided from the tables alone, for every packet.
+#![tactic(auto)]
+
+mod entries;
+pub mod laws;
+mod link;
+mod meaning;
+mod uncovered;
+
+pub use link::covers;
+pub use uncovered::Uncovered;
+
+#[cfg(test)]
+mod tests;

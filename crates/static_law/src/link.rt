@@ -1,0 +1,52 @@
+//! Whether one hop covers the next.
+
+ghost use Rattle.std.specs.Prelude.{IfNone, IfSome};
+ghost use Rattle.static_law.specs.Covered.{Covered};
+ghost use Rattle.static_law.specs.Uncovered.{IsUncovered};
+
+use crate::entries::{counting, first_low, has_entries};
+use crate::uncovered::Uncovered;
+use address_text::Name;
+use node_agreement::agrees;
+use node_readings::Reading;
+use node_tables::Tables;
+
+/// `None` where what goes from one node to the next over these interfaces, without a label, gets one that means at least as much: the nodes
+/// agree and the right one accepts nothing without a label, or sets no label for it at this interface, or the left one has a range for its
+/// interface and each entry in question means at least as much as the range's high end. Else the first reason. It takes no memory.
+pub fn covers(
+    left: &Tables,
+    out_interface: &Name,
+    right: &Tables,
+    in_interface: &Name,
+    left_reading: &Reading,
+    right_reading: &Reading,
+) -> Option<Uncovered>
+    ensures covered { IfNone result (Covered left.now out_interface.now right.now in_interface.now left_reading.now right_reading.now) }
+    ensures reason { IfSome result (IsUncovered left.now out_interface.now right.now in_interface.now left_reading.now right_reading.now) }
+{
+    if let Some(difference) = agrees(left, right, left_reading, right_reading) {
+        return Some(Uncovered::Differ(difference));
+    }
+    if !right.accepts() {
+        return None;
+    }
+    let statics = right.statics();
+    let interface = counting(statics, in_interface);
+    if !has_entries(statics, &interface) {
+        return None;
+    }
+    let Some(range) = left.find_range(out_interface) else {
+        return Some(Uncovered::NoRange);
+    };
+    match first_low(
+        statics,
+        &interface,
+        right_reading,
+        range.high(),
+        left_reading,
+    ) {
+        Some(index) => Some(Uncovered::Entry { index }),
+        None => None,
+    }
+}
