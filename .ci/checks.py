@@ -1,12 +1,13 @@
-"""The repository's own checks: links, citations, rows of docs/proved.md, trusted text, and the examples' reports (not with --pages: no program is built then)."""
+"""The repository's own checks: links, citations, rows of docs/proved.md and docs/promises.md, trusted text, and calls of the proved program (not with
+--pages: none is built then)."""
 import pathlib
 import re
-import shutil
 import subprocess
 import sys
 import tempfile
 
 sys.dont_write_bytecode = True
+import calls
 import trusted
 
 top = pathlib.Path(__file__).resolve().parent.parent
@@ -34,10 +35,30 @@ for name, text in texts.items():
                 failures.append(f"{name}: broken link: {target}")
 
 # Each crate has its row.
-crates = [line.split(":")[0].split()[0] for line in texts["crates.txt"].splitlines() if ":" in line and not line.startswith("#")]
+uses = {line.split(":")[0].split()[0]: line.split(":")[1].split() for line in texts["crates.txt"].splitlines() if ":" in line and not line.startswith("#")}
+crates = list(uses)
 for crate in crates:
     if not re.search(rf"^## `{crate}`", texts["docs/proved.md"], re.M):
         failures.append(f"docs/proved.md: no part on `{crate}`")
+
+# A crate's files name no crate of the repository but those that its line of crates.txt has: a check finds that only once all below is proved.
+for name, text in texts.items():
+    if found := re.match(r"crates/(\w+)/.*\.(?:rt|antt)$", name):
+        named = set(re.findall(r"^\s*(?:ghost )?use Rattle\.(\w+)\.", text, re.M)) & set(crates)
+        lacking = named - {found.group(1), *uses[found.group(1)]}
+        failures += [f"{name}: names {crate}, which its crate's line of crates.txt lacks" for crate in sorted(lacking)]
+
+# docs/promises.md goes through what the one call ensures: each field of `CallEnds` stands in a row, those of its records one by one, and no row names another.
+ends = texts["crates/netlabel_run/specs/CallEnds.antt"]
+fields = {record: dict(re.findall(r"^  pub (\w+) : (.+)$", body, re.M)) for record, body in re.findall(r"^pub record (\w+)[^\n]* where\n((?:  .*\n)+)", ends, re.M)}
+promised = set()
+for field, said in fields["CallEnds"].items():
+    parts = [part for word in said.split() for part in fields.get(word, [])]
+    promised |= {f"{field}.{part}" for part in parts} or {field}
+rows = [line.strip("|").split("|") for line in texts["docs/promises.md"].splitlines() if line.startswith("|")]
+said_of = {field for row in rows if len(row) == 3 for field in re.findall(r"`([\w.]+)`", row[2])}
+failures += [f"docs/promises.md: no row has `{field}` of CallEnds" for field in sorted(promised - said_of)]
+failures += [f"docs/promises.md: CallEnds has no `{field}`" for field in sorted(said_of - promised)]
 
 # Trusted text stands apart.
 trusted_run = subprocess.run([sys.executable, top / ".ci/trusted.py"], capture_output=True, text=True)
@@ -76,26 +97,28 @@ for path in sorted(set(re.findall(r"`(\w+/(?:src|proofs|specs)/[\w/]+\.(?:rt|ant
         failures.append(f"a page names crates/{path}, which isn't there")
 
 
-def held(folder):
-    """What each file of a folder holds."""
-    return {path.relative_to(folder).as_posix(): path.read_bytes() for path in folder.rglob("*") if path.is_file()}
-
-
-# Each example prints its report and leaves its files as they are, beside the captures that it makes, which are those of `wanted/`. It
-# runs in a copy of its folder. `words` has one word a line; the status is 0 unless a file says otherwise.
-for words in [] if "--pages" in sys.argv else sorted(top.glob("examples/*/words")):
-    folder = words.parent
+# The examples, and what is promised of names of files, each in a folder of its own, by the proved program.
+def proved(call):
+    """What is wrong with what a call gives."""
     with tempfile.TemporaryDirectory() as made:
-        copy = shutil.copytree(folder, pathlib.Path(made) / folder.name)
-        run = subprocess.run([top / "netlabel", *words.read_text().splitlines()], cwd=copy, capture_output=True)
-        left = held(copy)
-    wanted_status = int((folder / "status").read_text()) if (folder / "status").exists() else 0
-    if run.stdout != (folder / "report").read_bytes() or run.returncode != wanted_status:
-        failures.append(f"{folder.relative_to(top)}: printed {run.stdout!r} with status {run.returncode}")
-    wanted = held(folder) | held(folder / "wanted")
-    for name in sorted(wanted | left):
-        if wanted.get(name) != left.get(name):
-            failures.append(f"{folder.relative_to(top)}: {name} holds {left[name].hex(' ')}" if name in left else f"{folder.relative_to(top)}: there is no {name}")
+        folder = pathlib.Path(made)
+        call.prepare(folder)
+        before = calls.held(folder)
+        try:
+            with (folder / calls.PRINTED).open("wb") as printed:
+                run = subprocess.run([top / "netlabel", *call.words], cwd=folder, stdin=subprocess.DEVNULL, stdout=printed, stderr=subprocess.PIPE, timeout=60)
+        except subprocess.TimeoutExpired:
+            return [f"{call.name}: it hadn't ended after a minute"]
+        unproved = [f"{call.name}: netlabel said {run.stderr!r}"] if run.stderr else []
+        after = calls.held(folder)
+        return unproved + calls.faults(call, run.returncode, after.pop(calls.PRINTED), before, after)
+
+
+if "--pages" not in sys.argv:
+    if subprocess.run([top / "prove"]).returncode:
+        failures.append("the program isn't proved and built, so none of its calls was made")
+    else:
+        failures += [fault for call in [*calls.examples(), *calls.kernel_captures(), *calls.NAMES, *calls.OF_REPORT] for fault in proved(call)]
 
 print("\n".join(failures) or "the repository's own checks passed")
 sys.exit(1 if failures else 0)

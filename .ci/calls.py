@@ -1,0 +1,188 @@
+"""Calls of the program with what each has to print, its status, and what it has to leave: the examples, captures that a Linux kernel labelled, and
+what is promised of names of files.
+
+Each call is made in a folder of its own. `.ci/checks.py` makes the examples' calls by the built program, and `.ci/tests.py` all of them before any proof.
+"""
+import os
+import pathlib
+import shutil
+import struct
+from typing import Callable, Dict, List, NamedTuple, Optional
+
+import kernel
+
+TOP = pathlib.Path(__file__).resolve().parent.parent
+# The call has no answer before a proof, and leaves each file as it was: `netlabel` ends with this status.
+NO_ANSWER = 125
+
+
+class Call(NamedTuple):
+    """A call, in a folder that `prepare` fills. `left` has what it makes or changes there; `report` is None where it isn't compared."""
+
+    name: str
+    prepare: Callable[[pathlib.Path], None]
+    words: List[bytes]
+    status: int = 0
+    report: Optional[bytes] = b""
+    left: Dict[str, bytes] = {}
+
+
+def held(folder):
+    """What each file of a folder holds; of other things there, what they are."""
+    found = {}
+    for path in folder.rglob("*"):
+        if path.is_file():
+            found[path.relative_to(folder).as_posix()] = path.read_bytes()
+        elif not path.is_dir() or path.is_symlink():
+            found[path.relative_to(folder).as_posix()] = b"no regular file"
+    return found
+
+
+def faults(call, status, report, before, after):
+    """What is wrong with what a call gave, by its name."""
+    found = []
+    if status != call.status or call.report not in (None, report):
+        found.append(f"{call.name}: printed {report[:2000]!r} with status {status}")
+    wanted = {**before, **call.left}
+    for name in sorted(wanted.keys() | after.keys()):
+        if wanted.get(name) != after.get(name):
+            found.append(f"{call.name}: {name} holds {after[name][:200].hex(' ')}" if name in after else f"{call.name}: there is no {name}")
+    return found
+
+
+def some(folder, pattern):
+    """The files with such names, of which there has to be one: nothing is tested by none."""
+    found = sorted(folder.glob(pattern))
+    if not found:
+        raise FileNotFoundError(f"{folder} has no {pattern}")
+    return found
+
+
+# --- examples ---------------------------------------------------------------------------------------------------------------------------------
+
+
+def example(words):
+    """An example: `words` has one word a line; the status is 0 unless a file says otherwise; `wanted/` has the captures that it makes."""
+    folder = words.parent
+    status = folder / "status"
+    return Call(
+        name=folder.relative_to(TOP).as_posix(),
+        prepare=lambda made: shutil.copytree(folder, made, dirs_exist_ok=True),
+        words=[os.fsencode(word) for word in words.read_text().splitlines()],
+        status=int(status.read_text()) if status.exists() else 0,
+        report=(folder / "report").read_bytes(),
+        left=held(folder / "wanted"),
+    )
+
+
+def examples():
+    return [example(words) for words in some(TOP, "examples/*/words")]
+
+
+# --- captures of a Linux kernel ----------------------------------------------------------------------------------------------------------------
+
+
+def of_kernel(path):
+    """`show` of a capture: each packet has the label that its sender said."""
+    lines = kernel.report_of(kernel.rows_of(path))
+    return Call(
+        name=path.relative_to(TOP).as_posix(),
+        prepare=lambda made: shutil.copy(path, made),
+        words=[b"show", os.fsencode(path.name)],
+        report="".join(f"{line}\n" for line in lines).encode(),
+    )
+
+
+def kernel_captures():
+    return [of_kernel(path) for path in some(kernel.FOLDER, "*.pcap")]
+
+
+# --- names of files ---------------------------------------------------------------------------------------------------------------------------
+
+
+def capture(frames, link=1):
+    """A capture of these frames, all at second 1; the link type is Ethernet's, if no other is said."""
+    records = [struct.pack("<IIII", 1, 0, len(frame), len(frame)) + frame for frame in frames]
+    return struct.pack("<IHHiIII", 0xA1B2C3D4, 2, 4, 0, 0, 262144, link) + b"".join(records)
+
+
+ARP = b"\xff" * 6 + b"\x02" * 6 + b"\x08\x06" + bytes(28)
+# An output without a packet, of IP alone.
+EMPTY = capture([], link=101)
+FLOW_OF_ONE = b"packet %d.1 denied 22 NotIp hop 0 node - versions -\nend %d packets 1 passed 0 denied 1\n"
+WHOLE = b"flow 1 b.pcap\n" + FLOW_OF_ONE % (1, 1)
+
+
+def script(*flows):
+    return ("node fw\n" + "".join(f"flow {names} receive:fw,eth0\n" for names in flows)).encode()
+
+
+def names(name, flows, *, status, report, own="s", words=None, more=lambda folder: None, left={}):
+    """A call of `run` on a script with these flows, beside `b.pcap` and `c.pcap`, captures of one frame without IP, and what `more` makes."""
+
+    def prepare(folder):
+        for pcap in ("b.pcap", "c.pcap"):
+            (folder / pcap).write_bytes(capture([ARP]))
+        (folder / "folder").mkdir()
+        (folder / "s").write_bytes(script(*flows))
+        more(folder)
+
+    return Call(name, prepare, words or [b"run", own.encode()], status, report, left)
+
+
+def many(folder):
+    """A capture whose report has more than 1 MiB."""
+    (folder / "b.pcap").write_bytes(capture([ARP] * 24000))
+    (folder / "o.pcap").write_bytes(b"kept")
+
+
+MADE = {"o.pcap": EMPTY}
+BEGUN = b"flow 1 b.pcap\n"
+NAMES = [
+    names("the input by another spelling", ["b.pcap ./b.pcap"], status=3, report=BEGUN),
+    names("the input by a link", ["b.pcap l"], status=3, report=BEGUN, more=lambda at: (at / "l").symlink_to("b.pcap")),
+    names("the input by a second name", ["b.pcap h"], status=3, report=BEGUN, more=lambda at: os.link(at / "b.pcap", at / "h")),
+    names("the input through a folder", ["b.pcap folder/../b.pcap"], status=3, report=BEGUN),
+    names("the script by another spelling", ["b.pcap ./s"], status=3, report=BEGUN),
+    names("the script by its own name", ["b.pcap s"], status=2, report=b"script line 2 octet 12 NameTwice\n"),
+    names("the script by its own long name", ["b.pcap folder/../s"], own="folder/../s", status=2, report=b"script line 2 octet 12 NameTwice\n"),
+    names("a later flow's input", ["b.pcap ./c.pcap", "c.pcap -"], status=3, report=BEGUN),
+    names("a later flow's input, not there yet", ["b.pcap ./d.pcap", "d.pcap -"], status=3, report=BEGUN),
+    names("an earlier flow's output", ["b.pcap o.pcap", "b.pcap ./o.pcap"], status=3, report=WHOLE + b"flow 2 b.pcap\n", left=MADE),
+    names("a folder", ["b.pcap folder"], status=3, report=BEGUN),
+    names("a pipe", ["b.pcap pipe"], status=3, report=BEGUN, more=lambda at: os.mkfifo(at / "pipe")),
+    names("a device", ["b.pcap null"], status=3, report=BEGUN, more=lambda at: (at / "null").symlink_to("/dev/null")),
+    names("a link that leads nowhere", ["b.pcap l"], status=3, report=BEGUN, more=lambda at: (at / "l").symlink_to("nowhere")),
+    names("in a folder that isn't there", ["b.pcap no/o.pcap"], status=3, report=BEGUN),
+    names("an input that isn't there", ["b.pcap o.pcap", "no.pcap -"], status=3, report=WHOLE + b"flow 2 no.pcap\n", left=MADE),
+    names("a broken input", ["s o.pcap"], status=5, report=b"flow 1 s\ncapture 1 octet 0 Magic\n", more=lambda at: (at / "o.pcap").write_bytes(b"kept")),
+    names("a new output", ["b.pcap o.pcap"], status=0, report=WHOLE + b"done\n", left=MADE),
+    names("in a folder", ["./b.pcap folder/o.pcap"], status=0, report=WHOLE.replace(b"b.pcap", b"./b.pcap") + b"done\n", left={"folder/o.pcap": EMPTY}),
+    names("an old output, with its second name", ["b.pcap o.pcap"], status=0, report=WHOLE + b"done\n", left={**MADE, "h": EMPTY},
+          more=lambda at: ((at / "o.pcap").write_bytes(b"old"), os.link(at / "o.pcap", at / "h"))),
+    names("absolute names", [], status=0, report=None, left=MADE,
+          more=lambda at: (at / "s").write_bytes(script(f"{at}/b.pcap {at}/o.pcap", "b.pcap -"))),
+    names("with two workers", ["b.pcap o.pcap"], words=[b"run", b"s", b"-w", b"2"], status=0, report=WHOLE + b"done\n", left=MADE),
+    names("with no worker", ["b.pcap o.pcap"], words=[b"run", b"s", b"-w", b"0"], status=1, report=None),
+    names("with two words in one", ["b.pcap o.pcap"], words=[b"run", b"s", b"-w\n2"], status=1, report=None),
+    names("with a CR behind a number", ["b.pcap o.pcap"], words=[b"run", b"s", b"-w", b"2\r"], status=1, report=None),
+    names("an empty word at the end", ["b.pcap o.pcap"], words=[b"run", b"s", b""], status=1, report=None),
+    names("names with braces", ["b.pcap {}.pcap"], own="{}", status=0, report=WHOLE + b"done\n", left={"{}.pcap": EMPTY},
+          more=lambda at: (at / "s").rename(at / "{}")),
+    names("a word that isn't UTF-8", [], words=[b"judge", b"\xff", b"s2", b"b.pcap"], status=1, report=None),
+    names("no script", ["b.pcap o.pcap"], own="absent", status=3, report=b""),
+    names("a folder as a script", ["b.pcap o.pcap"], own="folder", status=3, report=b""),
+    names("a fault below a flow", ["b.pcap o.pcap", "b.pcap o.pcap"], status=2, report=b"script line 3 octet 12 NameTwice\n"),
+    names("a flow too many", ["b.pcap -"] * 257, status=7, report=b"limit flows 256\n"),
+    names("no words", [], words=[b"help"], status=1, report=None),
+    names("a file of the program's own folder", [], words=[b"show", b"README.md"], status=3, report=b""),
+    names("a capture by another spelling", [], words=[b"show", b"./b.pcap"], status=0, report=b"packet 1 NotIp\nend packets 1\n"),
+]
+# The report goes to a file of the folder with this name.
+PRINTED = "printed"
+OF_REPORT = [
+    names("the report's file", ["b.pcap printed"], status=3, report=BEGUN),
+    names("standard output", ["b.pcap /dev/stdout"], status=3, report=BEGUN),
+]
+# What `rt try` can't answer.
+UNANSWERED = [names("a report of more than 1 MiB", ["b.pcap o.pcap"], status=NO_ANSWER, report=b"", more=many)]

@@ -1,0 +1,214 @@
+"""Runs all tests within minutes, before any proof: see `WHAT`. Ends with a line `N passed, M failed`, and with 0 where nothing failed.
+
+    python3 .ci/tests.py [--jobs N] [--only WORD] [--proved]
+"""
+import argparse
+import concurrent.futures
+import contextlib
+import os
+import pathlib
+import re
+import subprocess
+import sys
+import tempfile
+import time
+from typing import Callable, List, NamedTuple
+
+sys.dont_write_bytecode = True
+TOP = pathlib.Path(__file__).resolve().parent.parent
+sys.path.insert(0, str(TOP / "lib"))
+import calls
+import unproved
+
+WHAT = """Runs every crate's tests, every example, the captures of a Linux kernel and the promises on names of files, compiled with checks by
+`rt try`; and the checks of the pages and of the trusted text. It proves nothing, tries no must-fail edit, and runs no proved program: `.ci/run` does
+that."""
+
+# The repository's own checks: scripts with an exit status, each with its words.
+SCRIPTS = {
+    "pages and trusted text": ["checks.py", "--pages"],
+    "installing": ["install_test.py"],
+    "netlabel and prove with a stand-in for rt": ["scripts_test.py"],
+}
+SECONDS = 600
+
+
+class Result(NamedTuple):
+    passed: int
+    failures: List[str]
+    untested: List[str] = []
+
+
+class Check(NamedTuple):
+    name: str
+    run: Callable[[], Result]
+
+
+def called(words, cwd=TOP, **how):
+    return subprocess.run(words, cwd=cwd, stdin=subprocess.DEVNULL, stdout=subprocess.PIPE, stderr=subprocess.PIPE, **how)
+
+
+def without_hints(folder):
+    """The environment for tests of crates. Beside each try rt starts, by `sh`, a check whose one answer is a hint on names, which `rt check` gives
+    as well. That would take a third of the time of all, so `sh` does nothing there."""
+    (pathlib.Path(folder) / "sh").symlink_to("/bin/false")
+    return {**os.environ, "PATH": f"{folder}:{os.environ['PATH']}"}
+
+
+@contextlib.contextmanager
+def inside(folder):
+    """In this folder, as a call of the program is. The threads of this process share it, so everything else here has an absolute name."""
+    os.chdir(folder)
+    try:
+        yield
+    finally:
+        os.chdir(TOP)
+
+
+def of_calls(found):
+    """The result of calls, from what is wrong with each."""
+    return Result(sum(not wrong for wrong in found), [fault for wrong in found for fault in wrong])
+
+
+# --- crates -----------------------------------------------------------------------------------------------------------------------------------
+
+
+def crates_with_tests():
+    lines = (TOP / "crates.txt").read_text().splitlines()
+    names = [re.split(r"[ :]", line)[0] for line in lines if re.match(r"[a-z]", line)]
+    return [name for name in names if any("#[test]" in file.read_text() for file in (TOP / "crates" / name / "src").rglob("*.rt"))]
+
+
+def crate_tests(name, environment):
+    ran = called(["rt", "try", "--test", "--steps", "1", "--seconds", str(SECONDS)], cwd=TOP / "crates" / name, env=environment)
+    text = (ran.stdout + ran.stderr).decode(errors="replace")
+    counts = re.search(r"^test result: ok\. (\d+) passed; 0 failed", text, re.M)
+    if counts and re.search(r"^run=ended status=0 ", text, re.M):
+        return Result(int(counts[1]), [])
+    return Result(0, [f"{name}: its tests fail or give no answer:\n  " + "\n  ".join(text.splitlines()[-12:])])
+
+
+# --- calls of the program ---------------------------------------------------------------------------------------------------------------------
+
+
+def all_calls():
+    """Each call in a folder of its own; the program is compiled once for all of them."""
+    unproved.say = lambda text: None
+    made = [*calls.examples(), *calls.kernel_captures(), *calls.NAMES, *calls.UNANSWERED]
+    with unproved.private_folder() as folder:
+        trial = unproved.Trial(pathlib.Path(folder) / "cases", SECONDS)
+        trial.folder.mkdir()
+        begun = [begin(trial, pathlib.Path(folder) / str(number), call) for number, call in enumerate(made)]
+        trial.run()
+        if not trial.printed:
+            return Result(0, [f"examples: rt try gave no answer:\n{trial.told[-2000:]}"])
+        return of_calls([end(*call) for call in begun])
+
+
+def begin(trial, folder, call):
+    private = folder.with_suffix(".private")
+    folder.mkdir()
+    private.mkdir()
+    call.prepare(folder)
+    before = calls.held(folder)
+    with inside(folder):
+        finish = unproved.asking(trial, private, call.words)
+    return call, folder, before, finish
+
+
+def end(call, folder, before, finish):
+    with inside(folder):
+        try:
+            status, report = finish()
+        except unproved.NoAnswer:
+            status, report = calls.NO_ANSWER, b""
+    return calls.faults(call, status, report, before, calls.held(folder))
+
+
+def through_a_link():
+    """`netlabel` itself, by a link to it, from another folder whose name has a space."""
+    call = calls.example(TOP / "examples/crossing/words")
+    with tempfile.TemporaryDirectory(prefix="a folder ") as made:
+        folder, link = pathlib.Path(made) / "of captures", pathlib.Path(made) / "netlabel"
+        folder.mkdir()
+        link.symlink_to(TOP / "netlabel")
+        call.prepare(folder)
+        before = calls.held(folder)
+        ran = called(["../netlabel", *call.words], cwd=folder)
+        wrong = calls.faults(call, ran.returncode, ran.stdout, before, calls.held(folder))
+    if ran.stderr and b"unproved" not in ran.stderr:
+        wrong.append(f"netlabel says {ran.stderr!r}")
+    return of_calls([wrong])
+
+
+def without_what_it_needs():
+    """`netlabel` says what is missing: the repository round it, or `rt`."""
+    found = []
+    with tempfile.TemporaryDirectory() as made:
+        folder = pathlib.Path(made)
+        (folder / "readlink").symlink_to(subprocess.check_output(["which", "readlink"], text=True).strip())
+        (folder / "netlabel").write_bytes((TOP / "netlabel").read_bytes())
+        for missing in ("isn't the netlabel repository", "rt isn't on the path"):
+            ran = called(["/bin/sh", folder / "netlabel", "show", "x"], env={"PATH": made})
+            is_told = ran.returncode == calls.NO_ANSWER and not ran.stdout and missing in ran.stderr.decode()
+            found.append([] if is_told else [f"netlabel doesn't say what is missing ({missing}): {ran}"])
+            (folder / "lib").symlink_to(TOP / "lib") if not (folder / "lib").exists() else None
+    return of_calls(found)
+
+
+def script(words):
+    ran = called([sys.executable, TOP / ".ci" / words[0], *words[1:]])
+    text = (ran.stdout + ran.stderr).decode(errors="replace")
+    if ran.returncode:
+        return Result(0, [f"{' '.join(words)}:\n{text.rstrip()}"])
+    return Result(1, [], [line for line in text.splitlines() if "not tested" in line])
+
+
+# --- all of them ------------------------------------------------------------------------------------------------------------------------------
+
+
+def checks(with_proved, environment):
+    """What takes long comes first."""
+    if with_proved:
+        yield Check("calls of the proved program", lambda: script(["checks.py"]))
+    yield Check("examples, captures of a kernel, names of files", all_calls)
+    yield Check("netlabel by a link", through_a_link)
+    for name in reversed(crates_with_tests()):
+        yield Check(name, lambda name=name: crate_tests(name, environment))
+    yield Check("netlabel without what it needs", without_what_it_needs)
+    for name, words in SCRIPTS.items():
+        yield Check(name, lambda words=words: script(words))
+
+
+def timed(check):
+    start = time.monotonic()
+    try:
+        result = check.run()
+    except Exception as error:
+        result = Result(0, [f"{check.name}: {error!r}"])
+    return result, time.monotonic() - start
+
+
+def main():
+    form = argparse.ArgumentParser(description=WHAT)
+    form.add_argument("--jobs", type=int, default=len(os.sched_getaffinity(0)), help="so many at a time; as many as processors, if left out")
+    form.add_argument("--proved", action="store_true", help="the calls of the proved program too, which is proved and built where it isn't")
+    form.add_argument("--only", default="", metavar="WORD", help="those with this word in their names")
+    words = form.parse_args()
+    print(WHAT, flush=True)
+    passed, failures = 0, []
+    with tempfile.TemporaryDirectory() as folder, concurrent.futures.ThreadPoolExecutor(words.jobs) as pool:
+        wanted = [check for check in checks(words.proved, without_hints(folder)) if words.only in check.name]
+        begun = {pool.submit(timed, check): check for check in wanted}
+        for done in concurrent.futures.as_completed(begun):
+            result, seconds = done.result()
+            passed += result.passed
+            failures += result.failures
+            summary = f"{begun[done].name}: {result.passed} passed, {len(result.failures)} failed, {seconds:.0f} s"
+            print(summary, *result.untested, *result.failures, sep="\n", flush=True)
+    print(f"{passed} passed, {len(failures)} failed")
+    return 1 if failures or not passed else 0
+
+
+if __name__ == "__main__":
+    sys.exit(main())

@@ -1,0 +1,34 @@
+# Completion of netlabel(1) for bash.
+
+# File names as the program takes them: printable ASCII without blanks, neither '-' nor '#' in front. Folders lead on to files.
+_netlabel_files() {
+    local name
+    compopt -o filenames 2>/dev/null
+    while IFS= read -r name; do
+        [[ $name == *[!\!-~]* || $name == [-#]* ]] || COMPREPLY+=("$name")
+    done < <(LC_ALL=C compgen -f -- "$1")
+}
+
+_netlabel() {
+    # the line is split at blanks alone: bash itself splits labels at their colons
+    local line=${COMP_LINE:0:COMP_POINT} current=
+    local -a words
+    read -ra words <<<"$line"
+    [[ $line == *[[:blank:]] ]] || current=${words[-1]}
+    [[ $line == *[[:blank:]] ]] && words+=("")
+    COMPREPLY=()
+    case ${words[1]},$((${#words[@]} - 1)) in
+    *,1) mapfile -t COMPREPLY < <(compgen -W 'run judge check show' -- "$current") ;;
+    run,2 | check,2 | show,2 | judge,4) _netlabel_files "$current" ;;
+    run,3) mapfile -t COMPREPLY < <(compgen -W '-w' -- "$current") ;;
+    run,4) [[ ${words[3]} != -w ]] || mapfile -t COMPREPLY < <(compgen -W '{1..16}' -- "$current") ;;
+    esac
+    # bash replaces what stands behind the last colon alone
+    local behind=${current##*:} at
+    [[ $current == *:* ]] || return 0
+    for at in "${!COMPREPLY[@]}"; do
+        COMPREPLY[at]=${COMPREPLY[at]#"${current%"$behind"}"}
+    done
+}
+
+complete -F _netlabel netlabel

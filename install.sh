@@ -1,0 +1,115 @@
+#!/bin/sh
+# Installs the proved program with its man page, completions and pages below PREFIX, or takes them away again. It builds nothing.
+
+# Whoever installs, everybody may read what is installed.
+umask 022
+
+usage() {
+    echo "usage: install.sh [--uninstall] [PREFIX]"
+    echo "PREFIX is an absolute folder, /usr/local if left out. With DESTDIR set, the files go below \$DESTDIR\$PREFIX."
+}
+
+refuse() {
+    echo "install.sh: $1" >&2
+    shift
+    for line; do
+        echo "$line" >&2
+    done
+    echo "Nothing was changed." >&2
+    exit 1
+}
+
+# The examples' files. Where one is run in place its captures lie beside those that it reads: each has the name of one in `wanted`.
+examples() {
+    find examples -type f | while read -r file; do
+        [ -e "${file%/*}/wanted/${file##*/}" ] || echo "$file"
+    done
+}
+
+# Each file as a line: its mode, where it lies in the repository, and its name below PREFIX.
+files() {
+    echo "755 ${program#"$here/"} bin/netlabel"
+    echo "644 docs/netlabel.1 share/man/man1/netlabel.1"
+    echo "644 completions/netlabel.bash share/bash-completion/completions/netlabel"
+    echo "644 completions/netlabel.zsh share/zsh/site-functions/_netlabel"
+    (cd "$here" && printf "%s\n" LICENSE* VERSION README.md CHANGELOG.md CONTRIBUTING.md docs/*.md && examples) | LC_ALL=C sort | while read -r page; do
+        echo "644 $page share/doc/netlabel/$page"
+    done
+}
+
+# The first folder of a path that is there.
+standing() {
+    folder=$1
+    while [ ! -e "$folder" ]; do
+        folder=$(dirname -- "$folder")
+    done
+    echo "$folder"
+}
+
+# Every file can be written, before any is: its folder, or the first one above it that is there.
+can_write() {
+    files | while read -r _mode _source target; do
+        folder=$(standing "$(dirname -- "$root/$target")")
+        if [ ! -d "$folder" ] || [ ! -w "$folder" ] || [ -d "$root/$target" ]; then
+            echo "$folder"
+            break
+        fi
+    done
+}
+
+# A file is put in place whole: whoever runs the old program meanwhile goes on with it.
+put() {
+    mkdir -p -- "$(dirname -- "$3")" || return 1
+    case $2 in
+    *.1) sed "s/@VERSION@/$version/" "$2" >"$3.new" ;;
+    *) cp -- "$2" "$3.new" ;;
+    esac && chmod "$1" "$3.new" && mv -f -- "$3.new" "$3"
+}
+
+install_all() {
+    is_current || refuse "the proved program isn't built yet, or a source is newer than it." \
+        "Run $here/prove first: it proves and builds it, which takes 36 minutes on four processors from nothing."
+    closed=$(can_write)
+    [ -z "$closed" ] || refuse "$closed can't be written: run this as somebody who may, or give another PREFIX."
+    version=$(cat "$here/VERSION")
+    files | while read -r mode source target; do
+        put "$mode" "$here/$source" "$root/$target" || exit 1
+        case $target in
+        share/doc/*) ;;
+        *) echo "$root/$target" ;;
+        esac
+    done || {
+        echo "install.sh: the file that is named above couldn't be written; those before it are in place" >&2
+        exit 1
+    }
+    echo "$root/share/doc/netlabel: the pages, licences and examples"
+    echo "netlabel $version is installed."
+}
+
+uninstall_all() {
+    files | while read -r _mode _source target; do
+        [ ! -e "$root/$target" ] || rm -- "$root/$target" || exit 1
+    done || exit 1
+    [ ! -d "$root/share/doc/netlabel" ] || find "$root/share/doc/netlabel" -depth -type d -exec rmdir -- {} + 2>/dev/null
+    if [ -d "$root/share/doc/netlabel" ]; then
+        echo "install.sh: left what it didn't install in $root/share/doc/netlabel" >&2
+    fi
+    echo "netlabel is taken away from $root."
+}
+
+self=$(readlink -f -- "$0") && here=${self%/*}
+[ -r "$here/lib/program.sh" ] || refuse "$here isn't the netlabel repository: call the script there by its name."
+# shellcheck source=lib/program.sh
+. "$here/lib/program.sh"
+
+work=install_all
+case ${1-} in
+--uninstall) work=uninstall_all && shift ;;
+esac
+case $#,${1-/usr/local} in
+0,* | 1,/*) prefix=${1-/usr/local} ;;
+1,--help | 1,-h) usage && exit ;;
+*) usage >&2 && exit 2 ;;
+esac
+root=${DESTDIR-}${prefix%/}
+$work
