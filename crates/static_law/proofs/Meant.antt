@@ -23,12 +23,12 @@ record Stands (pairs : List (ℕ × ℕ)) (n : ℕ) : Type 0 where
 
 stands : (pairs : List (ℕ × ℕ)) (n m : ℕ) → number_by pairs n ≡ Some m → Stands pairs n
 stands [] n m e = absurd (cc)
-stands (p ∷ pairs) n m e = by_test (nat_eq n p.0) refl e
+stands (p ∷ pairs) n m e = by_test (nat_eq n p.0) refl (λ h. stands pairs n m h) e
   where
-    by_test : (b : Bool) → nat_eq n p.0 ≡ b → cond b (Some p.1) (number_by pairs n) ≡ Some m → Stands (p ∷ pairs) n
-    by_test true is h = record { place = 0; pair = p; within = omega arith; there = refl; number = sym (eqb-true n p.0 is) }
-    by_test false is h =
-        let rest = stands pairs n m h in
+    by_test : (b : Bool) → nat_eq n p.0 ≡ b → (number_by pairs n ≡ Some m → Stands pairs n) → cond b (Some p.1) (number_by pairs n) ≡ Some m → Stands (p ∷ pairs) n
+    by_test true is _ h = record { place = 0; pair = p; within = omega arith; there = refl; number = sym (eqb-true n p.0 is) }
+    by_test false is further h =
+        let rest = further h in
         record { place = suc rest.place; pair = rest.pair; within = omega (arith, rest.within); there = rest.there; number = rest.number }
 
 module _ (cats : List ℕ) (named : NamedMeanings) (m : ℕ) (is_cats : IsCats cats) where
