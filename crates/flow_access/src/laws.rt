@@ -34,16 +34,19 @@ ghost use Rattle.flow_access.specs.Valid.{IsValidFlow};
 
 /// What a hop lets go on has the option by which some protocol says the label under which the hop judged it, or none, as under `unlbl`.
 pub fn hops_say_their_label()
-    ensures { (network : List TableState) (hop : Hop) (octets : List ℕ) (read : Result (ParsedPacket Wire) CarryFault)
+    ensures { (network : List TableState) (hop : Hop) (octets : List ℕ)
+        (read : Result (ParsedPacket Wire) CarryFault)
         (carrier : Carrier) (packet : ParsedPacket Wire) (x : Label)
         → hop_verdict network hop octets read ≡ Ok (goes_on carrier packet)
         → hop_label (tables_of network (node_of hop)) hop read ≡ Ok x
-        → (protocol : Protocol) × (outgoing (tables_of network (node_of hop)).definitions protocol x ≡ Ok packet.label) }
+        → (protocol : Protocol)
+        × (outgoing (tables_of network (node_of hop)).definitions protocol x ≡ Ok packet.label) }
 {}
 
 /// A label that goes out in an option means the same to the next hop, where both nodes agree.
 pub fn options_keep_meanings()
-    ensures { (a b : TableState) (a_named b_named : NamedMeanings) (protocol : Protocol) (packet : ParsedPacket Wire)
+    ensures { (a b : TableState) (a_named b_named : NamedMeanings) (protocol : Protocol)
+        (packet : ParsedPacket Wire)
         (next : Hop) (later : Result (ParsedPacket Wire) CarryFault) (x y : Label)
         → AreValid a → AreValid b → Agree a b a_named b_named
         → IsLabel x → outgoing a.definitions protocol x ≡ Ok packet.label → IsSome packet.label
@@ -53,27 +56,38 @@ pub fn options_keep_meanings()
 
 /// A walk along which the label is kept is sound, over any number of hops.
 pub fn kept_is_sound()
-    ensures { (plan : PlanState) (readings : List NamedMeanings) (hops : List Hop) (packet : PacketIn) (versions : List ℕ) (end : End) (out : List ℕ)
+    ensures { (plan : PlanState) (readings : List NamedMeanings) (hops : List Hop)
+        (packet : PacketIn) (versions : List ℕ) (end : End) (out : List ℕ)
         → IsValidFlow plan readings hops → IsWalkOf plan hops packet versions end out
-        → LabelIsKept plan readings hops packet.bytes versions → IsSound plan readings hops packet.bytes versions end }
+        → LabelIsKept plan readings hops packet.bytes versions
+        → IsSound plan readings hops packet.bytes versions end }
 {}
 
 /// So it is for each packet of a flow, under any order of publications and looks.
 pub fn walked_packets_have_access()
-    ensures { (plan : PlanState) (readings : List NamedMeanings) (hops : List Hop) (packets : List PacketIn) (pairs : List PairState)
-        → IsValidFlow plan readings hops → AreWalked plan hops packets pairs → HaveAccess plan readings hops packets pairs }
+    ensures { (plan : PlanState) (readings : List NamedMeanings) (hops : List Hop)
+        (packets : List PacketIn) (pairs : List PairState)
+        → IsValidFlow plan readings hops → AreWalked plan hops packets pairs
+        → HaveAccess plan readings hops packets pairs }
 {}
 
 /// Each flow of a script that is read is valid.
 pub fn flows_of_scripts_are_valid()
-    ensures { (edition : Edition) (own text : List ℕ) (script : Script) → IsScript edition own text script
-        → All (λ (flow : FlowLine). IsValidFlow (record { nodes = length script.nodes; steps = script.steps }) script.readings flow.hops) script.flows }
+    ensures { (edition : Edition) (own text : List ℕ) (script : Script)
+        → IsScript edition own text script
+        → All (λ (flow : FlowLine). IsValidFlow
+        (record { nodes = length script.nodes; steps = script.steps })
+        script.readings flow.hops) script.flows }
 {}
 
 /// So the packets of its flows have access, under any order of publications and looks.
 pub fn packets_of_scripts_have_access()
-    ensures { (edition : Edition) (own text : List ℕ) (script : Script) (packets : List PacketIn) (pairs : List PairState)
+    ensures { (edition : Edition) (own text : List ℕ) (script : Script) (packets : List PacketIn)
+        (pairs : List PairState)
         → IsScript edition own text script
-        → All (λ (flow : FlowLine). AreWalked (record { nodes = length script.nodes; steps = script.steps }) flow.hops packets pairs
-        → HaveAccess (record { nodes = length script.nodes; steps = script.steps }) script.readings flow.hops packets pairs) script.flows }
+        → All (λ (flow : FlowLine). AreWalked
+        (record { nodes = length script.nodes; steps = script.steps }) flow.hops packets pairs
+        → HaveAccess
+        (record { nodes = length script.nodes; steps = script.steps })
+        script.readings flow.hops packets pairs) script.flows }
 {}

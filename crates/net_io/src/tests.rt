@@ -1,6 +1,6 @@
 //! What no clause says: that calls succeed with ample memory, and the real edge once each way.
 use super::*;
-use std::alloc::Global;
+use std::alloc::{Alloc, Global};
 use std::fs;
 use std::os::unix;
 use std::process::Abort;
@@ -132,39 +132,46 @@ fn within(rt: &impl Abort, alloc: Global, folder: &str, name: &str) -> String {
     format!(in alloc; "{folder}/{name}").expect(rt, "memory")
 }
 
-#[test]
-fn guarded_files(rt: HostRuntime) {
-    let id = std::process::id(rt.process());
-    let alloc = rt.alloc();
-    let folder = format!(in alloc; "/tmp/net_io-{id}-guarded").expect(&rt, "memory");
-    fs::create_dir_all(&rt, &within(&rt, alloc, &folder, "sub")).expect(&rt, "folders");
-    let [kept, made] = ["in", "made"].map(|name| within(&rt, alloc, &folder, name));
-    fs::write(&rt, &kept, "kept").expect(&rt, "written");
-    fs::write(&rt, &within(&rt, alloc, &folder, "old"), "old").expect(&rt, "written");
-    fs::hard_link(&rt, &kept, &within(&rt, alloc, &folder, "hard")).expect(&rt, "linked");
+// Two files, a link that leads to each name, and a second name of the first file.
+fn set_up<R: Abort + Alloc + fs::Files>(rt: &R, alloc: Global, folder: &str) {
+    fs::create_dir_all(rt, &within(rt, alloc, folder, "sub")).expect(rt, "folders");
+    for (file, octets) in [("in", "kept"), ("old", "old")] {
+        fs::write(rt, &within(rt, alloc, folder, file), octets).expect(rt, "written");
+    }
+    let [kept, hard] = ["in", "hard"].map(|name| within(rt, alloc, folder, name));
+    fs::hard_link(rt, &kept, &hard).expect(rt, "linked");
     for (file, link) in [
         ("in", "link"),
         ("later", "to_later"),
         ("none", "nowhere"),
         ("made", "of_made"),
     ] {
-        unix::fs::symlink(&rt, file, &within(&rt, alloc, &folder, link)).expect(&rt, "linked");
+        unix::fs::symlink(rt, file, &within(rt, alloc, folder, link)).expect(rt, "linked");
     }
+}
+
+#[test]
+fn guarded_files(rt: HostRuntime) {
+    let id = std::process::id(rt.process());
+    let alloc = rt.alloc();
+    let folder = format!(in alloc; "/tmp/net_io-{id}-guarded").expect(&rt, "memory");
+    set_up(&rt, alloc, &folder);
     let mut depot = RealDepot::new(&rt, alloc).expect(&rt, "memory");
-    depot.protect(&kept).expect(&rt, "memory");
-    depot
-        .protect(&within(&rt, alloc, &folder, "to_later"))
-        .expect(&rt, "memory");
-    depot.create(&made).expect(&rt, "made");
+    for name in ["in", "to_later"] {
+        depot
+            .protect(&within(&rt, alloc, &folder, name))
+            .expect(&rt, "memory");
+    }
+    for name in ["old", "new", "made"] {
+        depot
+            .create(&within(&rt, alloc, &folder, name))
+            .expect(&rt, "made");
+    }
+    let made = within(&rt, alloc, &folder, "made");
     append_all(&mut depot, &made, b"abc").expect(&rt, "appended");
     for name in REFUSED {
         let refused = depot.create(&within(&rt, alloc, &folder, name));
         assert_eq!(rt; refused, Err(IoFault::Failed), "of {name}");
-    }
-    for name in ["old", "new"] {
-        depot
-            .create(&within(&rt, alloc, &folder, name))
-            .expect(&rt, "made");
     }
     for (name, want) in AFTERWARDS {
         let held = fs::read_to_string(&rt, &within(&rt, alloc, &folder, name)).ok();

@@ -28,7 +28,8 @@ pub fn counting(statics: &StaticMap, interface: &Name) -> Option<Name>
 pub fn has_entries(statics: &StaticMap, interface: &Option<Name>) -> bool
     ensures { MatchBool result
         ((place : ℕ) × (entry : StaticEntry) × IsEntryAt statics.now interface.now place entry)
-        ((place : ℕ) (entry : StaticEntry) → slice_get statics.now place ≡ Some entry → same_domain interface.now entry.interface ≡ false) }
+        ((place : ℕ) (entry : StaticEntry) → slice_get statics.now place ≡ Some entry
+        → same_domain interface.now entry.interface ≡ false) }
 {
     for place in 0..statics.count() {
         if is_of(statics, place, interface) {
@@ -47,8 +48,10 @@ pub fn first_low(
     least_reading: &Reading,
 ) -> Option<usize>
     ensures { MatchOption result
-        ((place : ℕ) (entry : StaticEntry) → IsEntryAt statics.now interface.now place entry → MeansMore reading.now (meaning_of least_reading.now least.now) entry)
-        (IsFirstLow statics.now interface.now reading.now (meaning_of least_reading.now least.now)) }
+        ((place : ℕ) (entry : StaticEntry) → IsEntryAt statics.now interface.now place entry
+        → MeansMore reading.now (meaning_of least_reading.now least.now) entry)
+        (IsFirstLow statics.now interface.now reading.now
+        (meaning_of least_reading.now least.now)) }
 {
     for place in 0..statics.count() {
         if is_low(statics, place, interface, reading, least, least_reading) {
@@ -61,7 +64,8 @@ pub fn first_low(
 // Whether the entry at a place is of the interface.
 fn is_of(statics: &StaticMap, place: usize, interface: &Option<Name>) -> bool
     requires { place < length statics.now }
-    ensures { (entry : StaticEntry) × (slice_get statics.now place ≡ Some entry) × (result ≡ same_domain interface.now entry.interface) }
+    ensures { (entry : StaticEntry) × (slice_get statics.now place ≡ Some entry)
+        × (result ≡ same_domain interface.now entry.interface) }
 {
     let (own, _, _, _) = statics.entry(place);
     match (interface, own) {
@@ -82,8 +86,10 @@ fn is_low(
 ) -> bool
     requires { place < length statics.now }
     ensures { MatchBool result
-        ((entry : StaticEntry) × IsEntryAt statics.now interface.now place entry × (MeansMore reading.now (meaning_of least_reading.now least.now) entry → ⊥))
-        ((entry : StaticEntry) → IsEntryAt statics.now interface.now place entry → MeansMore reading.now (meaning_of least_reading.now least.now) entry) }
+        ((entry : StaticEntry) × IsEntryAt statics.now interface.now place entry
+        × (MeansMore reading.now (meaning_of least_reading.now least.now) entry → ⊥))
+        ((entry : StaticEntry) → IsEntryAt statics.now interface.now place entry
+        → MeansMore reading.now (meaning_of least_reading.now least.now) entry) }
 {
     if !is_of(statics, place, interface) {
         return false;

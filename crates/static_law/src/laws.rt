@@ -23,22 +23,30 @@ ghost use Rattle.static_law.specs.Climbed.{HaveClimbed};
 
 /// A walk over hops of which each covers the next climbs, whatever octets came in, over any number of hops.
 pub fn covered_walks_climb()
-    ensures { (plan : PlanState) (readings : List NamedMeanings) (hops : List Hop) (packet : PacketIn) (versions : List ℕ) (end : End) (out : List ℕ)
+    ensures { (plan : PlanState) (readings : List NamedMeanings) (hops : List Hop)
+        (packet : PacketIn) (versions : List ℕ) (end : End) (out : List ℕ)
         → IsValidFlow plan readings hops → IsWalkOf plan hops packet versions end out
-        → NeighboursCovered plan readings hops versions → Climbs plan readings hops packet.bytes versions end }
+        → NeighboursCovered plan readings hops versions
+        → Climbs plan readings hops packet.bytes versions end }
 {}
 
 /// So does each packet of a flow of a script that is read, under any order of publications and looks, where each two neighbouring hops were
 /// covered under the versions that it was judged by.
 pub fn packets_of_scripts_climb()
-    ensures { (edition : Edition) (own text : List ℕ) (script : Script) (packets : List PacketIn) (pairs : List PairState)
+    ensures { (edition : Edition) (own text : List ℕ) (script : Script) (packets : List PacketIn)
+        (pairs : List PairState)
         → IsScript edition own text script
-        → All (λ (flow : FlowLine). AreWalked (record { nodes = length script.nodes; steps = script.steps }) flow.hops packets pairs
-        → HaveClimbed (record { nodes = length script.nodes; steps = script.steps }) script.readings flow.hops packets pairs) script.flows }
+        → All (λ (flow : FlowLine). AreWalked
+        (record { nodes = length script.nodes; steps = script.steps }) flow.hops packets pairs
+        → HaveClimbed
+        (record { nodes = length script.nodes; steps = script.steps })
+        script.readings flow.hops packets pairs) script.flows }
 {}
 
 /// A link for which there is a reason isn't covered.
 pub fn reasons_uncover()
-    ensures { (left right : TableState) (out into : List ℕ) (left_named right_named : NamedMeanings) (why : Uncovered)
-        → IsUncovered left out right into left_named right_named why → Covered left out right into left_named right_named → ⊥ }
+    ensures { (left right : TableState) (out into : List ℕ) (left_named right_named : NamedMeanings)
+        (why : Uncovered)
+        → IsUncovered left out right into left_named right_named why
+        → Covered left out right into left_named right_named → ⊥ }
 {}

@@ -22,8 +22,12 @@ pub fn covers(
     left_reading: &Reading,
     right_reading: &Reading,
 ) -> Option<Uncovered>
-    ensures covered { IfNone result (Covered left.now out_interface.now right.now in_interface.now left_reading.now right_reading.now) }
-    ensures reason { IfSome result (IsUncovered left.now out_interface.now right.now in_interface.now left_reading.now right_reading.now) }
+    ensures covered { IfNone result
+        (Covered left.now out_interface.now right.now in_interface.now
+        left_reading.now right_reading.now) }
+    ensures reason { IfSome result
+        (IsUncovered left.now out_interface.now right.now in_interface.now
+        left_reading.now right_reading.now) }
 {
     if let Some(difference) = agrees(left, right, left_reading, right_reading) {
         return Some(Uncovered::Differ(difference));

@@ -13,7 +13,8 @@ use node_readings::Reading;
 pub fn means_more(label: &Label, reading: &Reading, least: &Label, least_reading: &Reading) -> bool
     ensures { MatchBool result
         (MeansDominates (meaning_of reading.now label.now) (meaning_of least_reading.now least.now))
-        (MeansDominates (meaning_of reading.now label.now) (meaning_of least_reading.now least.now) → ⊥) }
+        (MeansDominates (meaning_of reading.now label.now) (meaning_of least_reading.now least.now)
+        → ⊥) }
 {
     if reading.level(label.level) < least_reading.level(least.level) {
         return false;
@@ -48,8 +49,10 @@ fn is_unmeant(
     requires category { category < 65535 }
     requires cats { IsCats cats.now }
     ensures { MatchBool result
-        (IsTrue (has least.now category) × (IsMeant cats.now reading.now.cats (meaning_in least_reading.now.cats category) → ⊥))
-        (IsTrue (has least.now category) → IsMeant cats.now reading.now.cats (meaning_in least_reading.now.cats category)) }
+        (IsTrue (has least.now category)
+        × (IsMeant cats.now reading.now.cats (meaning_in least_reading.now.cats category) → ⊥))
+        (IsTrue (has least.now category)
+        → IsMeant cats.now reading.now.cats (meaning_in least_reading.now.cats category)) }
 {
     if !least.contains(category) {
         return false;
@@ -60,7 +63,8 @@ fn is_unmeant(
 // Whether one of the categories means this.
 fn is_meant(cats: &CatSet, reading: &Reading, meaning: u32) -> bool
     requires { IsCats cats.now }
-    ensures { MatchBool result (IsMeant cats.now reading.now.cats meaning) (IsMeant cats.now reading.now.cats meaning → ⊥) }
+    ensures { MatchBool result (IsMeant cats.now reading.now.cats meaning)
+        (IsMeant cats.now reading.now.cats meaning → ⊥) }
 {
     for i in 0..reading.named_categories() {
         let (named, _) = reading.named_category(i);
@@ -73,8 +77,10 @@ fn is_meant(cats: &CatSet, reading: &Reading, meaning: u32) -> bool
 
 // Whether the number is one of the categories and means itself.
 fn means_itself(cats: &CatSet, reading: &Reading, meaning: u32) -> bool
-    ensures { MatchBool result (IsTrue (has cats.now meaning) × (meaning_in reading.now.cats meaning ≡ meaning))
-        (meaning < 65535 → meaning_in reading.now.cats meaning ≡ meaning → has cats.now meaning ≡ false) }
+    ensures { MatchBool result
+        (IsTrue (has cats.now meaning) × (meaning_in reading.now.cats meaning ≡ meaning))
+        (meaning < 65535 → meaning_in reading.now.cats meaning ≡ meaning
+        → has cats.now meaning ≡ false) }
 {
     if meaning >= 65535 {
         return false;
