@@ -105,7 +105,7 @@ class Module:
         for number, (whole, line) in enumerate(zip(text.split("\n"), without(ANTT_NOISE, text).split("\n")), 1):
             if line.strip() and not line.startswith("  "):
                 block = line if re.match(r"module\s", line) else ""
-            elif block:
+            elif block and whole.startswith("  "):
                 whole, line = whole[2:], line[2:]
             if opened or USE.match(line):
                 opened += " " + line

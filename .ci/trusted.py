@@ -132,7 +132,7 @@ def forbidden(house, crate):
             other, what = match.groups()
             is_shared = what == "proofs.Law" or (what.startswith("proofs") and other in SHARED_LEMMAS)
             if other in house.crates.keys() - {crate.name} and not is_shared:
-                yield f"{path.relative_to(house.repo)}:{line_at(text, match.start())}: `{match[0]}`: {crate.name} cites what {other} keeps to itself"
+                yield f"{path.relative_to(house.repo)}:{line_at(text, match.start())}: `{match[0].rstrip('.')}`: {crate.name} cites what {other} keeps to itself"
 
 
 def ambiguous(house, wanted, reached):

@@ -1,0 +1,94 @@
+"""The tables of docs/headline.md, by what `.ci/trusted.py --from netlabel` counts.
+
+    python3 .ci/headline.py [--write]
+
+Prints each line of the page's tables that is false and each that it lacks, and fails where there is one; `--write` puts the page right. In the table under
+the heading of a part, a row has the crates that it speaks of, what to look for in them, and how many definitions and lines they add. A crate that comes to a
+part gets a row of its own, in which somebody has to say what to look for.
+"""
+import pathlib
+import re
+import sys
+
+sys.dont_write_bytecode = True
+import trusted
+
+TOP = pathlib.Path(__file__).resolve().parent.parent
+PAGE = "docs/headline.md"
+FUNCTION = "netlabel"
+
+
+def cells_of(line):
+    return [cell.strip() for cell in line.strip().strip("|").split("|")]
+
+
+def line_of(*cells):
+    return f"| {' | '.join(map(str, cells))} |"
+
+
+def summary(parts):
+    """A row for each part, and one for all."""
+    for part, files in parts.items():
+        yield line_of(f"[{part}](#{part})", *trusted.counts(files))
+    yield line_of("all", *trusted.counts(*parts.values()))
+
+
+def by_crate(files):
+    crates = {}
+    for file, definitions in files.items():
+        crates.setdefault(file.split("/")[1], {})[file] = definitions
+    return crates
+
+
+def part_rows(rows, files):
+    """The rows of a part: of those there are, the crates that the part has and what is said of them, and one for each crate that has none."""
+    crates = by_crate(files)
+    said = [(re.findall(r"`(\w+)`", cells_of(row)[0]), cells_of(row)[1]) for row in rows]
+    said += [([name], "") for name in crates if not any(name in names for names, _text in said)]
+    kept = [([name for name in crates if name in names], text) for names, text in said]
+    for names, text in sorted(filter(lambda row: row[0], kept), key=lambda row: list(crates).index(row[0][0])):
+        definitions, _files, lines = trusted.counts(*(crates[name] for name in names))
+        named = (f"`{name}` {', '.join(re.sub(r'crates/\w+/(specs/)?|\.antt$', '', file) for file in crates[name])}" for name in names)
+        yield line_of("; ".join(named), text, definitions, lines)
+
+
+def written(page, parts):
+    """The page with its tables as they have to be."""
+
+    def table(match):
+        headings = re.findall(r"^## `?(\w+)", page[:match.start()], re.M)
+        head, rule, *rows = match[0].splitlines()
+        if cells_of(head)[0] == "Part":
+            rows = summary(parts)
+        elif headings and headings[-1].lower() in parts:
+            rows = part_rows(rows, parts[headings[-1].lower()])
+        return "\n".join([head, rule, *rows, ""])
+
+    return re.sub(r"^(?:\|.*\n)+", table, page, flags=re.M)
+
+
+def faults(page, parts):
+    """What is wrong with the page."""
+    wanted = written(page, parts).splitlines()
+    for number, line in enumerate(page.splitlines(), 1):
+        if line not in wanted:
+            yield f"{PAGE}:{number}: false: {line}"
+        elif line.startswith("|") and "" in cells_of(line):
+            yield f"{PAGE}:{number}: doesn't say what to look for: {line}"
+    yield from (f"{PAGE}: lacks: {line}" for line in wanted if line not in page.splitlines())
+    yield from (f"{PAGE}: no part on {part}" for part in parts if not re.search(rf"^## `?{part}\b", page, re.M | re.I))
+
+
+def main():
+    page = (TOP / PAGE).read_text(encoding="utf-8")
+    parts = trusted.Reading(trusted.House(TOP), FUNCTION).parts()
+    if "--write" in sys.argv:
+        page = written(page, parts)
+        (TOP / PAGE).write_text(page, encoding="utf-8")
+    found = list(faults(page, parts))
+    print("\n".join(found) or f"{PAGE} is as .ci/trusted.py counts")
+    return 1 if found else 0
+
+
+if __name__ == "__main__":
+    sys.exit(main())
