@@ -40,6 +40,11 @@ def by_crate(files):
     return crates
 
 
+def names_of(crate, files):
+    """The crate with its files, those of specs/ by their names alone."""
+    return f"`{crate}` {', '.join(file.split('/', 2)[2].replace('specs/', '', 1)[:-len('.antt')] for file in files)}"
+
+
 def part_rows(rows, files):
     """The rows of a part: of those there are, the crates that the part has and what is said of them, and one for each crate that has none."""
     crates = by_crate(files)
@@ -48,8 +53,7 @@ def part_rows(rows, files):
     kept = [([name for name in crates if name in names], text) for names, text in said]
     for names, text in sorted(filter(lambda row: row[0], kept), key=lambda row: list(crates).index(row[0][0])):
         definitions, _files, lines = trusted.counts(*(crates[name] for name in names))
-        named = (f"`{name}` {', '.join(re.sub(r'crates/\w+/(specs/)?|\.antt$', '', file) for file in crates[name])}" for name in names)
-        yield line_of("; ".join(named), text, definitions, lines)
+        yield line_of("; ".join(names_of(name, crates[name]) for name in names), text, definitions, lines)
 
 
 def written(page, parts):
