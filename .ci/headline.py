@@ -9,6 +9,7 @@ part gets a row of its own, in which somebody has to say what to look for.
 import pathlib
 import re
 import sys
+from typing import NamedTuple
 
 sys.dont_write_bytecode = True
 import trusted
@@ -23,14 +24,38 @@ def cells_of(line):
 
 
 def line_of(*cells):
-    return f"| {' | '.join(map(str, cells))} |"
+    return f"| {' | '.join(f'{cell:,}' if isinstance(cell, int) else cell for cell in cells)} |"
 
 
-def summary(parts):
+class Counts(NamedTuple):
+    """The parts of a reading, how many definitions each has with the frame alone, and what is named beside them."""
+
+    parts: dict
+    alone: dict
+    beside: tuple
+
+
+def counted(house, function=FUNCTION):
+    reading = trusted.Reading(house, function)
+    parts = reading.parts()
+    alone = {part: trusted.counts(*reading.parts(part).values())[0] for part in reading.commands}
+    return Counts(parts, alone, trusted.beside(house, parts))
+
+
+def summary(counts):
     """A row for each part, and one for all."""
-    for part, files in parts.items():
-        yield line_of(f"[{part}](#{part})", *trusted.counts(files))
-    yield line_of("all", *trusted.counts(*parts.values()))
+    for part, files in counts.parts.items():
+        definitions, files, lines = trusted.counts(files)
+        yield line_of(f"[{part}](#{part})", definitions, files, lines, counts.alone.get(part, definitions))
+    definitions, files, lines = trusted.counts(*counts.parts.values())
+    yield line_of("all", definitions, files, lines, definitions)
+
+
+def named_beside(types, words):
+    files = {where.split(":")[0] for where, _name in types}
+    yield line_of("types and constants of the code", f"{len(types)} in {len(files)} files")
+    for crate, own in words.items():
+        yield line_of(f"words of the kit's `{crate}`", len(own))
 
 
 def by_crate(files):
@@ -56,40 +81,42 @@ def part_rows(rows, files):
         yield line_of("; ".join(names_of(name, crates[name]) for name in names), text, definitions, lines)
 
 
-def written(page, parts):
+def written(page, counts):
     """The page with its tables as they have to be."""
 
     def table(match):
         headings = re.findall(r"^## `?(\w+)", page[:match.start()], re.M)
         head, rule, *rows = match[0].splitlines()
         if cells_of(head)[0] == "Part":
-            rows = summary(parts)
-        elif headings and headings[-1].lower() in parts:
-            rows = part_rows(rows, parts[headings[-1].lower()])
+            rows = summary(counts)
+        elif cells_of(head)[0] == "Named beside":
+            rows = named_beside(*counts.beside)
+        elif headings and headings[-1].lower() in counts.parts:
+            rows = part_rows(rows, counts.parts[headings[-1].lower()])
         return "\n".join([head, rule, *rows, ""])
 
     return re.sub(r"^(?:\|.*\n)+", table, page, flags=re.M)
 
 
-def faults(page, parts):
+def faults(page, counts):
     """What is wrong with the page."""
-    wanted = written(page, parts).splitlines()
+    wanted = written(page, counts).splitlines()
     for number, line in enumerate(page.splitlines(), 1):
         if line not in wanted:
             yield f"{PAGE}:{number}: false: {line}"
         elif line.startswith("|") and "" in cells_of(line):
             yield f"{PAGE}:{number}: doesn't say what to look for: {line}"
     yield from (f"{PAGE}: lacks: {line}" for line in wanted if line not in page.splitlines())
-    yield from (f"{PAGE}: no part on {part}" for part in parts if not re.search(rf"^## `?{part}\b", page, re.M | re.I))
+    yield from (f"{PAGE}: no part on {part}" for part in counts.parts if not re.search(rf"^## `?{part}\b", page, re.M | re.I))
 
 
 def main():
     page = (TOP / PAGE).read_text(encoding="utf-8")
-    parts = trusted.Reading(trusted.House(TOP), FUNCTION).parts()
+    counts = counted(trusted.House(TOP))
     if "--write" in sys.argv:
-        page = written(page, parts)
+        page = written(page, counts)
         (TOP / PAGE).write_text(page, encoding="utf-8")
-    found = list(faults(page, parts))
+    found = list(faults(page, counts))
     print("\n".join(found) or f"{PAGE} is as .ci/trusted.py counts")
     return 1 if found else 0
 

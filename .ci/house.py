@@ -335,6 +335,14 @@ class Crate:
             for inner in source.modules:
                 self.read(repo, folder / f"{inner}.rt", (*names, inner))
 
+    def declared(self, path):
+        """The place and the name of a type, or of a file's constants, that a path behind `specs.declared` leads to."""
+        for size in range(len(path) - 1, -1, -1):
+            if source := self.sources.get(path[:size]):
+                found = re.search(rf"\b(?:struct|enum)\s+{path[size]}\b", source.text)
+                return f"{source.file}:{line_at(source.text, found.start()) if found else 1}", path[size]
+        return None
+
     def exported(self, names=()):
         """The items of the crate that can be named from outside: those of public modules and what these export. All of a program counts."""
         source = self.sources.get(names)

@@ -1,7 +1,7 @@
 """What a reader has to believe: the definitions that public clauses cite, directly or through other definitions.
 
     python3 .ci/trusted.py [--repo DIR] [--why WORD] [--cited] [CRATE..]
-    python3 .ci/trusted.py [--repo DIR] --from FUNCTION [--command COMMAND] [--bare]
+    python3 .ci/trusted.py [--repo DIR] --from FUNCTION [--command COMMAND] [--bare] [--beside]
 
 Fails, with file, line and word,
 - where a cited definition stands in `specs/inside/` or in `proofs/`, and where one that no public clause cites stands in `specs/`;
@@ -15,7 +15,8 @@ lists the trusted definitions. Findings and lines are those of the crates named,
 walk from the clause comes to them, which goes to the end of what a definition cites before its next word, and in a file the definitions as they stand there.
 What belongs to one command stands apart: an equation whose pattern names the command's constructor, and the text behind it. What all commands share, the
 frame, comes first, then what each command adds to those before it. `--command` keeps to the frame and to one command, `--bare` to definitions without a
-comment, above them or inside. Lines are those of definitions, without comments, blank lines and imports.
+comment, above them or inside; `--beside` lists as well what they name that is no definition: types and constants of the code, and words of the kit. Lines are
+those of definitions, without comments, blank lines and imports.
 """
 import argparse
 import collections
@@ -62,12 +63,11 @@ class House:
                 if found := self.resolve(path) or self.resolve((*path, *behind)):
                     yield found, place
 
-    def cited_by(self, definition, is_kept=None):
-        """The definitions that a definition cites; only in those of its parts whose pattern is kept, where that is asked."""
+    def cited_by(self, definition):
+        """The definitions that a definition cites, part by part, each part with its pattern."""
         module = definition.module
         for pattern, text in definition.parts():
-            if not is_kept or is_kept(pattern, module.scope):
-                yield from (found for found, _place in self.cited(text, module.scope, module))
+            yield pattern, [found for found, _place in self.cited(text, module.scope, module)]
 
     def closure(self):
         """Each definition that public clauses cite, with who cites it first: a definition, or a clause with its place."""
@@ -79,7 +79,7 @@ class House:
         todo = collections.deque(reached)
         while todo:
             definition = todo.popleft()
-            for found in self.cited_by(definition):
+            for found in (found for _pattern, part in self.cited_by(definition) for found in part):
                 if found not in reached:
                     reached[found] = definition
                     todo.append(found)
@@ -164,25 +164,30 @@ class Reading:
     """What the public clauses of one function reach, in parts: the frame, and what each command adds."""
 
     def __init__(self, house, function):
-        self.house, self.clauses = house, []
+        self.house, self.clauses, self.known = house, [], {}
         for crate in house.crates.values():
-            found = [clause for clause in crate.public_clauses() if clause.what.startswith(f"{function},")]
-            if found:
+            if found := [clause for clause in crate.public_clauses() if clause.what.startswith(f"{function},")]:
                 self.clauses += found
                 self.variants = ("Rattle", crate.name, "specs", "declared", "command", "Command", "TheVariants")
-        named = {name for definition in self.walk() for pattern, _text in definition.parts() for name in self.commands_in(pattern, definition.module.scope)}
+        named = {name for definition in self.walk() for commands, _found in self.cases(definition) for name in commands}
         self.commands = [name for name in READING if name in named] + sorted(named - set(READING))
 
     def commands_in(self, pattern, scope):
         """The commands whose constructors a pattern names."""
         for parts, _place in tokens_of(pattern):
-            for path in scope.find(parts[0]):
-                if (*path, *parts[1:])[:-1] == self.variants:
-                    yield (*path, *parts[1:])[-1].lower()
+            for path in ((*path, *parts[1:]) for path in scope.find(parts[0])):
+                if path[:-1] == self.variants:
+                    yield path[-1].lower()
+
+    def cases(self, definition):
+        """What each part of a definition cites, with the commands that its pattern names."""
+        if definition not in self.known:
+            scope = definition.module.scope
+            self.known[definition] = [(set(self.commands_in(pattern, scope)), found) for pattern, found in self.house.cited_by(definition)]
+        return self.known[definition]
 
     def walk(self, commands=None):
-        """The definitions that the clauses reach, the first citation first and to its end, with the equations of these commands alone, or of all."""
-        is_kept = None if commands is None else lambda pattern, scope: commands.issuperset(self.commands_in(pattern, scope))
+        """The definitions that the clauses reach, the first citation first and to its end, with the cases of these commands alone, or of all."""
         reached, ways = {}, [iter([found for clause in self.clauses for found, _place in self.house.cited(clause.text, clause.scope)])]
         while ways:
             definition = next(ways[-1], None)
@@ -190,7 +195,7 @@ class Reading:
                 ways.pop()
             elif definition not in reached:
                 reached[definition] = None
-                ways.append(self.house.cited_by(definition, is_kept))
+                ways.append(iter([found for named, part in self.cases(definition) if commands is None or named <= commands for found in part]))
         return list(reached)
 
     def parts(self, command=None, is_wanted=lambda definition: True):
@@ -206,6 +211,20 @@ class Reading:
             for own in files.values():
                 own.sort(key=lambda definition: definition.line)
         return found
+
+
+def beside(house, parts):
+    """What the definitions name that is no definition of a crate: types and constants of the code, each with its place, and the words of the kit by crate."""
+    definitions = [definition for files in parts.values() for own in files.values() for definition in own]
+    types, words = set(), collections.defaultdict(set)
+    for definition in definitions:
+        for word, _place in (token for _pattern, text in definition.parts() for token in tokens_of(text)):
+            for path in definition.module.scope.find(word[0]):
+                if path[1] not in house.crates:
+                    words[path[1]].add(path[-1] if len(path) > 4 else word[-1])
+                elif path[3:4] == ("declared",):
+                    types.add(house.crates[path[1]].declared(path[4:]))
+    return sorted(types), words
 
 
 def counts(*parts):
@@ -226,6 +245,15 @@ def print_reading(parts):
     print(f"{'part':<10}{'definitions':>13}{'files':>7}{'lines':>7}")
     for part, files in [*((part, [files]) for part, files in parts.items()), ("all", parts.values())]:
         print("{:<10}{:>13}{:>7}{:>7}".format(part, *counts(*files)))
+
+
+def print_beside(types, words):
+    print("\ntypes and constants of the code:")
+    for where, name in types:
+        print(f"  {where}: {name}")
+    print("words of the kit:")
+    for crate, own in words.items():
+        print(f"  {crate}: {', '.join(sorted(own))}")
 
 
 # --- the command ----------------------------------------------------------------------------------------------------
@@ -252,6 +280,7 @@ def options():
     form.add_argument("--from", dest="start", metavar="FUNCTION")
     form.add_argument("--command", metavar="COMMAND")
     form.add_argument("--bare", action="store_true")
+    form.add_argument("--beside", action="store_true")
     form.add_argument("crates", nargs="*")
     return form.parse_args()
 
@@ -265,7 +294,10 @@ def main():
             sys.exit(f"no public clause of a function `{asked.start}`")
         if asked.command and asked.command not in reading.commands:
             sys.exit(f"no such command: {asked.command}, but {', '.join(reading.commands)}")
-        print_reading(reading.parts(asked.command, lambda definition: not (asked.bare and definition.comments)))
+        parts = reading.parts(asked.command, lambda definition: not (asked.bare and definition.comments))
+        print_reading(parts)
+        if asked.beside:
+            print_beside(*beside(house, parts))
         return 0
     wanted = set(asked.crates or house.crates)
     if unknown := wanted - set(house.crates):
