@@ -6,6 +6,7 @@ Prints each line of the page's tables that is false and each that it lacks, and 
 the heading of a part, a row has the crates that it speaks of, what to look for in them, and how many definitions and lines they add. A crate that comes to a
 part gets a row of its own, in which somebody has to say what to look for.
 """
+import collections
 import pathlib
 import re
 import sys
@@ -73,10 +74,12 @@ def names_of(crate, files):
 def part_rows(rows, files):
     """The rows of a part: of those there are, the crates that the part has and what is said of them, and one for each crate that has none."""
     crates = by_crate(files)
-    said = [(re.findall(r"`(\w+)`", cells_of(row)[0]), cells_of(row)[1]) for row in rows]
-    said += [([name], "") for name in crates if not any(name in names for names, _text in said)]
-    kept = [([name for name in crates if name in names], text) for names, text in said]
-    for names, text in sorted(filter(lambda row: row[0], kept), key=lambda row: list(crates).index(row[0][0])):
+    left, said = list(crates), []
+    for named, text in ((cells_of(row)[0], cells_of(row)[1]) for row in rows):
+        said.append(([name for name in left if f"`{name}`" in named], text))
+        left = [name for name in left if name not in said[-1][0]]
+    said += [([name], "") for name in left]
+    for names, text in sorted(filter(lambda row: row[0], said), key=lambda row: list(crates).index(row[0][0])):
         definitions, _files, lines = trusted.counts(*(crates[name] for name in names))
         yield line_of("; ".join(names_of(name, crates[name]) for name in names), text, definitions, lines)
 
@@ -100,13 +103,17 @@ def written(page, counts):
 
 def faults(page, counts):
     """What is wrong with the page."""
-    wanted = written(page, counts).splitlines()
-    for number, line in enumerate(page.splitlines(), 1):
-        if line not in wanted:
+    lines, wanted = page.splitlines(), written(page, counts).splitlines()
+    spare = collections.Counter(lines) - collections.Counter(wanted)
+    for number, line in enumerate(lines, 1):
+        if spare[line]:
+            spare[line] -= 1
             yield f"{PAGE}:{number}: false: {line}"
         elif line.startswith("|") and "" in cells_of(line):
             yield f"{PAGE}:{number}: doesn't say what to look for: {line}"
-    yield from (f"{PAGE}: lacks: {line}" for line in wanted if line not in page.splitlines())
+    yield from (f"{PAGE}: lacks: {line}" for line in collections.Counter(wanted) - collections.Counter(lines))
+    if sorted(lines) == sorted(wanted) and lines != wanted:
+        yield f"{PAGE}: its rows aren't in reading order"
     yield from (f"{PAGE}: no part on {part}" for part in counts.parts if not re.search(rf"^## `?{part}\b", page, re.M | re.I))
 
 

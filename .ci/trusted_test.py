@@ -1,5 +1,6 @@
 """Tests of `.ci/trusted.py` and `.ci/headline.py` over a small repository of their own: each finding, and what one clause reaches. Prints `N passed, M failed`."""
 import pathlib
+import re
 import subprocess
 import sys
 import tempfile
@@ -359,8 +360,11 @@ all                   5      3     10
 PAGE = """\
 # Page
 
-| Part | Definitions | Files | Lines |
-|---|---|---|---|
+| Part | Definitions | Files | Lines | With the frame alone |
+|---|---|---|---|---|
+
+| Named beside | Number |
+|---|---|
 
 ## Frame
 
@@ -376,6 +380,18 @@ PAGE = """\
 | `gone` Old | what was there | 1 | 1 |
 | `upper` Says | the record | 3 | 6 |
 
+## `check`
+
+| Files | What to look for | Definitions | Lines |
+|---|---|---|---|
+| `ground`, `upper` | the test | 0 | 0 |
+
+## `run`
+
+| Files | What to look for | Definitions | Lines |
+|---|---|---|---|
+| `ground`, `upper` | the way | 0 | 0 |
+
 ## Other
 
 | Crate | Number |
@@ -385,11 +401,18 @@ PAGE = """\
 WRITTEN = """\
 # Page
 
-| Part | Definitions | Files | Lines |
-|---|---|---|---|
-| [frame](#frame) | 8 | 5 | 24 |
-| [show](#show) | 3 | 1 | 6 |
-| all | 11 | 5 | 30 |
+| Part | Definitions | Files | Lines | With the frame alone |
+|---|---|---|---|---|
+| [frame](#frame) | 8 | 5 | 24 | 8 |
+| [show](#show) | 3 | 1 | 6 | 11 |
+| [check](#check) | 3 | 2 | 7 | 12 |
+| [run](#run) | 4 | 2 | 8 | 12 |
+| all | 18 | 5 | 45 | 18 |
+
+| Named beside | Number |
+|---|---|
+| types and constants of the code | 1 in 1 files |
+| words of the kit's `std` | 2 |
 
 ## Frame
 
@@ -403,6 +426,18 @@ WRITTEN = """\
 | Files | What to look for | Definitions | Lines |
 |---|---|---|---|
 | `upper` Says | the record | 3 | 6 |
+
+## `check`
+
+| Files | What to look for | Definitions | Lines |
+|---|---|---|---|
+| `ground` Text; `upper` Says | the test | 3 | 7 |
+
+## `run`
+
+| Files | What to look for | Definitions | Lines |
+|---|---|---|---|
+| `ground` Text; `upper` Says | the way | 4 | 8 |
 
 ## Other
 
@@ -441,6 +476,8 @@ def test_reading(repo):
     alone = CHECK.replace("definitions 1, lines 2\n    crates/upper/specs/Says.antt:17: check_says", "definitions 2, lines 4\n    crates/upper/specs/Says.antt:17: check_says\n    crates/upper/specs/Says.antt:27: known")
     tell("what it reaches of one command", called(repo, "--from", "answer", "--command", "check"), (0, FRAME + alone + CHECK_ALONE))
     tell("what has no comment", called(repo, "--from", "answer", "--command", "show", "--bare"), (0, BARE))
+    beside = "types and constants of the code:\n  crates/upper/src/command.rt:1: Command\nwords of the kit:\n  std: ℕ, ◌≡◌\n"
+    tell("what is named beside", called(repo, "--from", "answer", "--beside")[1].partition("\n\n" + ALL)[2].lstrip("\n"), beside)
     tell("a clause without commands", called(repo, "--from", "read")[1].splitlines()[-1].split(), ["all", "3", "3", "6"])
 
 
@@ -451,14 +488,23 @@ def test_refusals(repo):
 
 
 def test_page(repo):
-    reading = trusted.Reading(trusted.House(repo), "answer")
-    parts = reading.parts("show")
-    tell("the page's tables", headline.written(PAGE, parts), WRITTEN)
-    tell("a right page", list(headline.faults(WRITTEN, parts)), [])
-    tell("a false number", list(headline.faults(WRITTEN.replace("| the answer | 5 |", "| the answer | 4 |"), parts)),
-         ["docs/headline.md:13: false: | `upper` Answer, Says | the answer | 4 | 18 |", "docs/headline.md: lacks: | `upper` Answer, Says | the answer | 5 | 18 |"])
-    tell("nothing said of a crate", list(headline.faults(WRITTEN.replace("the record", ""), parts)), ["docs/headline.md:20: doesn't say what to look for: | `upper` Says |  | 3 | 6 |"])
-    tell("a part that isn't there", list(headline.faults(WRITTEN.replace("## `show`", "## Shown"), parts)), ["docs/headline.md: no part on show"])
+    counts = headline.counted(trusted.House(repo), "answer")
+    tell("the page's tables", headline.written(PAGE, counts), WRITTEN)
+    tell("a right page", faults_of(WRITTEN, counts), [])
+    row = "| `upper` Says | the record | 3 | 6 |"
+    tell("a false number", faults_of(WRITTEN.replace(row, row.replace("3", "4")), counts), [f"false: {row.replace('3', '4')}", f"lacks: {row}"])
+    tell("a row that is gone", faults_of(WRITTEN.replace(row + "\n", ""), counts), ["lacks: | `upper` Says |  | 3 | 6 |"])
+    tell("a crate that a part doesn't have", faults_of(WRITTEN.replace(row, row + "\n| `gone` Old | what was there | 1 | 1 |"), counts), ["false: | `gone` Old | what was there | 1 | 1 |"])
+    tell("a row twice", faults_of(WRITTEN.replace(row, row + "\n" + row), counts), [f"false: {row}"])
+    first, second = "| `upper` Answer, Says | the answer | 5 | 18 |", "| `ground` Text, inside/Hidden, proofs/Lemma | the ground | 3 | 6 |"
+    tell("rows out of order", faults_of(WRITTEN.replace(f"{first}\n{second}", f"{second}\n{first}"), counts), ["its rows aren't in reading order"])
+    tell("nothing said of a crate", faults_of(WRITTEN.replace("the record", ""), counts), ["doesn't say what to look for: | `upper` Says |  | 3 | 6 |"])
+    tell("a part that isn't there", faults_of(WRITTEN.replace("## `show`", "## Shown"), counts), ["no part on show"])
+
+
+def faults_of(page, counts):
+    """What is wrong with a page, without the places."""
+    return [re.sub(r"^docs/headline\.md(:\d+)?: ", "", fault) for fault in headline.faults(page, counts)]
 
 
 def main():
