@@ -36,7 +36,15 @@ pub fn law()
 {
 }
 """,
-    "crates/ground/src/tests.rt": "ghost use Rattle.ground.specs.inside.Hidden.{is_private};\n\npub fn helper()\n    ensures { is_private }\n{\n}\n",
+    "crates/ground/src/tests.rt": """impl Level {
+    ghost use Rattle.ground.specs.inside.Hidden.{is_private};
+
+    pub fn helper()
+        ensures { is_private }
+    {
+    }
+}
+""",
     "crates/ground/src/label.rt": """/// A label, seen as a number.
 pub struct Label {
     pub level: Level,
@@ -57,6 +65,7 @@ pub enum Level {
 
 impl Level {
     ghost use Rattle.ground.specs.Label.{IsLevel, has_rank};
+    ghost use Rattle.ground.specs.inside.Hidden.{is_private};
 
     pub fn rank(&self) -> u8
         requires { has_rank self.now }
@@ -66,7 +75,13 @@ impl Level {
     }
 
     fn hidden(&self) -> u8
-        ensures { is_private result }
+        ensures { is_private }
+    {
+        0
+    }
+
+    pub(crate) fn shared(&self) -> u8
+        ensures { is_private }
     {
         0
     }
@@ -125,7 +140,7 @@ pub record SinkState : Type 0 where
   -- all of it
   pub written : ℕ
 
-abbrev pub Takes : SinkState → Type 0
+abbrev pub Takes : ℕ → Type 0
 Takes state = ⊥
 """,
     "crates/ground/specs/Text.antt": """-- Texts.
@@ -152,8 +167,12 @@ IsShared n = ⊥
 abbrev pub IsAgreed : ℕ → Type 0
 IsAgreed n = ⊥
 
+-- the parameter
+abbrev pub Limit : Type 0
+Limit = ℕ
+
 -- what stands in a block has its parameter
-module _ (limit : ℕ) where
+module _ (limit : Limit) where
   abbrev pub is_short : ℕ → Type 0
   is_short n = IsShared n
 
@@ -188,7 +207,7 @@ pub fn answer() -> u8
 use Rattle.upper.specs.declared.command.Command.{Command}
 use Rattle.upper.specs.declared.command.Command.TheVariants.{Show, Check}
 use Rattle.upper.specs.declared.command.Command.TheVariants as asked
-use Rattle.upper.specs.Says.{Says, upper_says, shown}
+use Rattle.upper.specs.All.{Says, upper_says, shown}
 use Rattle.ground.specs.Text.{is_short, is_long}
 use Rattle.ground.specs.Text as text
 use Rattle.ground.specs.inside.Hidden.{is_private}
@@ -216,6 +235,7 @@ pub record IsAnswer (request : Option Command) (result : ℕ) : Type 0 where
   pub has : HasReport request result
   pub says : Says.status (upper_says request) ≡ result × (text.IsText [] result → ⊥)
 """,
+    "crates/upper/specs/All.antt": "pub use Rattle.upper.specs.Says.{Says, upper_says, shown}\n",
     "crates/upper/specs/Says.antt": """-- A record for each command, and one dispatcher.
 use Rattle.upper.specs.declared.command.Command.TheVariants as asked
 
@@ -268,11 +288,11 @@ FINDINGS = [
     "crates/upper/src/top.rt:3: `Rattle.octet_grammar.specs.inside.Own`: upper cites what octet_grammar keeps to itself",
     "`IsShared` means 2 things: crates/upper/specs/Answer.antt:11, crates/ground/specs/Text.antt:19",
 ]
-COUNTS = {"ground": "26 5 12", "octet_grammar": "0 0 0", "upper": "34 5 13", "all": "60 10 25"}
+COUNTS = {"ground": "28 6 13", "octet_grammar": "0 0 0", "upper": "34 5 13", "all": "62 11 26"}
 CITED = {
     "ground/proofs/Lemma.antt": "1 is_proved",
     "ground/specs/Label.antt": "2 LabelValue 5 IsLevel 8 has_rank 12 SinkState 17 Takes",
-    "ground/specs/Text.antt": "9 IsText 19 IsShared 22 IsAgreed 27 is_short 30 is_long",
+    "ground/specs/Text.antt": "9 IsText 19 IsShared 22 IsAgreed 26 Limit 31 is_short 34 is_long",
     "ground/specs/inside/Hidden.antt": "2 IsHidden",
     "upper/specs/Answer.antt": "11 IsShared 14 IsAgreed 18 HasReport 25 IsUsage 29 IsAnswer",
     "upper/specs/Says.antt": "4 Says 7 show_says 11 upper_says 17 check_says 20 Ran 23 run_says 27 known 30 shown",
@@ -305,9 +325,10 @@ show:
 """
 CHECK = """\
 check:
-  crates/ground/specs/Text.antt: definitions 2, lines 5
+  crates/ground/specs/Text.antt: definitions 3, lines 7
     crates/ground/specs/Text.antt:19: IsShared
-    crates/ground/specs/Text.antt:27: is_short
+    crates/ground/specs/Text.antt:26: Limit
+    crates/ground/specs/Text.antt:31: is_short
   crates/upper/specs/Says.antt: definitions 1, lines 2
     crates/upper/specs/Says.antt:17: check_says
 
@@ -316,7 +337,7 @@ RUN = """\
 run:
   crates/ground/specs/Text.antt: definitions 2, lines 4
     crates/ground/specs/Text.antt:22: IsAgreed
-    crates/ground/specs/Text.antt:30: is_long
+    crates/ground/specs/Text.antt:34: is_long
   crates/upper/specs/Says.antt: definitions 2, lines 4
     crates/upper/specs/Says.antt:20: Ran
     crates/upper/specs/Says.antt:23: run_says
@@ -326,16 +347,16 @@ ALL = """\
 part        definitions  files  lines
 frame                 8      5     24
 show                  3      1      6
-check                 3      2      7
+check                 4      2      9
 run                   4      2      8
-all                  18      5     45
+all                  19      5     47
 """
 # The same for `check` alone, and what has no comment for `show`.
 CHECK_ALONE = """\
 part        definitions  files  lines
 frame                 8      5     24
-check                 4      2      9
-all                  12      5     33
+check                 5      2     11
+all                  13      5     35
 """
 BARE = """\
 frame:
@@ -405,9 +426,9 @@ WRITTEN = """\
 |---|---|---|---|---|
 | [frame](#frame) | 8 | 5 | 24 | 8 |
 | [show](#show) | 3 | 1 | 6 | 11 |
-| [check](#check) | 3 | 2 | 7 | 12 |
-| [run](#run) | 4 | 2 | 8 | 12 |
-| all | 18 | 5 | 45 | 18 |
+| [check](#check) | 4 | 2 | 9 | 13 |
+| [run](#run) | 4 | 2 | 8 | 13 |
+| all | 19 | 5 | 47 | 19 |
 
 | Named beside | Number |
 |---|---|
@@ -431,7 +452,7 @@ WRITTEN = """\
 
 | Files | What to look for | Definitions | Lines |
 |---|---|---|---|
-| `ground` Text; `upper` Says | the test | 3 | 7 |
+| `ground` Text; `upper` Says | the test | 4 | 9 |
 
 ## `run`
 
