@@ -1,8 +1,8 @@
-"""The tables of docs/headline.md, by what `.ci/trusted.py --from netlabel` counts.
+"""The clause and the tables of docs/headline.md, by what `.ci/trusted.py --from netlabel` counts.
 
     python3 .ci/headline.py [--write]
 
-Prints each line of the page's tables that is false and each that it lacks, and fails where there is one; `--write` puts the page right. In the table under
+Prints each of these lines that is false and each that the page lacks, and fails where there is one; `--write` puts the page right. In the table under
 the heading of a part, a row has the crates that it speaks of, what to look for in them, and how many definitions and lines they add. A crate that comes to a
 part gets a row of its own, in which somebody has to say what to look for.
 """
@@ -29,8 +29,9 @@ def line_of(*cells):
 
 
 class Counts(NamedTuple):
-    """The parts of a reading, how many definitions each has with the frame alone, and what is named beside them."""
+    """The clause, the parts of its reading, how many definitions each has with the frame alone, and what is named beside them."""
 
+    clause: str
     parts: dict
     alone: dict
     beside: tuple
@@ -40,7 +41,7 @@ def counted(house, function=FUNCTION):
     reading = trusted.Reading(house, function)
     parts = reading.parts()
     alone = {part: trusted.counts(*reading.parts(part).values())[0] for part in reading.commands}
-    return Counts(parts, alone, trusted.beside(house, parts))
+    return Counts(f"    ensures {{{reading.clauses[-1].text}}}\n", parts, alone, trusted.beside(house, parts))
 
 
 def summary(counts):
@@ -85,7 +86,7 @@ def part_rows(rows, files):
 
 
 def written(page, counts):
-    """The page with its tables as they have to be."""
+    """The page with the clause and its tables as they have to be."""
 
     def table(match):
         headings = re.findall(r"^## `?(\w+)", page[:match.start()], re.M)
@@ -98,6 +99,7 @@ def written(page, counts):
             rows = part_rows(rows, counts.parts[headings[-1].lower()])
         return "\n".join([head, rule, *rows, ""])
 
+    page = re.sub(r"^    ensures \{.*\n(?:    .*\n)*", lambda match: counts.clause, page, count=1, flags=re.M)
     return re.sub(r"^(?:\|.*\n)+", table, page, flags=re.M)
 
 

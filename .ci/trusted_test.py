@@ -381,6 +381,11 @@ all                   5      3     10
 PAGE = """\
 # Page
 
+    ensures { old
+        text }
+
+    another block
+
 | Part | Definitions | Files | Lines | With the frame alone |
 |---|---|---|---|---|
 
@@ -421,6 +426,10 @@ PAGE = """\
 """
 WRITTEN = """\
 # Page
+
+    ensures { (asked : Option Asked) × IsAnswer asked result }
+
+    another block
 
 | Part | Definitions | Files | Lines | With the frame alone |
 |---|---|---|---|---|
@@ -514,6 +523,8 @@ def test_page(repo):
     tell("a right page", faults_of(WRITTEN, counts), [])
     row = "| `upper` Says | the record | 3 | 6 |"
     tell("a false number", faults_of(WRITTEN.replace(row, row.replace("3", "4")), counts), [f"false: {row.replace('3', '4')}", f"lacks: {row}"])
+    tell("another clause", faults_of(WRITTEN.replace("× IsAnswer", "× IsOther"), counts),
+         ["false:     ensures { (asked : Option Asked) × IsOther asked result }", "lacks:     ensures { (asked : Option Asked) × IsAnswer asked result }"])
     tell("a row that is gone", faults_of(WRITTEN.replace(row + "\n", ""), counts), ["lacks: | `upper` Says |  | 3 | 6 |"])
     tell("a crate that a part doesn't have", faults_of(WRITTEN.replace(row, row + "\n| `gone` Old | what was there | 1 | 1 |"), counts), ["false: | `gone` Old | what was there | 1 | 1 |"])
     tell("a row twice", faults_of(WRITTEN.replace(row, row + "\n" + row), counts), [f"false: {row}"])
