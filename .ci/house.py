@@ -1,5 +1,6 @@
 """The crates as `.ci/trusted.py` reads them: the definitions of `specs/` and `proofs/`, and the clauses of `src/` that other crates can rely on."""
 import collections
+import functools
 import re
 
 ANTT_NOISE = re.compile(r'--[^\n]*|"(?:\\.|[^"\\])*"')
@@ -356,6 +357,7 @@ class Crate:
             if is_public:
                 yield from self.exported((*names, inner))
 
+    @functools.cached_property
     def public_clauses(self):
         """The clauses that other crates can rely on: of what is exported, of each type that it names, and of what belongs to such a type."""
         by_name, by_owner = collections.defaultdict(list), collections.defaultdict(list)

@@ -73,7 +73,7 @@ class House:
         """Each definition that public clauses cite, with who cites it first: a definition, or a clause with its place."""
         reached = {}
         for crate in self.crates.values():
-            for clause in crate.public_clauses():
+            for clause in crate.public_clauses:
                 for found, place in self.cited(clause.text, clause.scope):
                     reached.setdefault(found, f"{clause.file}:{clause.line + line_at(clause.text, place) - 1} ({clause.what})")
         todo = collections.deque(reached)
@@ -87,7 +87,7 @@ class House:
 
     def cited_directly(self):
         """The definitions that public clauses themselves cite."""
-        return {found for crate in self.crates.values() for clause in crate.public_clauses() for found, _place in self.cited(clause.text, clause.scope)}
+        return {found for crate in self.crates.values() for clause in crate.public_clauses for found, _place in self.cited(clause.text, clause.scope)}
 
     def lines(self, reached, name):
         """The trusted lines of a crate, its comments apart, and how many definitions they are."""
@@ -166,7 +166,7 @@ class Reading:
     def __init__(self, house, function):
         self.house, self.clauses, self.known = house, [], {}
         for crate in house.crates.values():
-            if found := [clause for clause in crate.public_clauses() if clause.what.startswith(f"{function},")]:
+            if found := [clause for clause in crate.public_clauses if clause.what.startswith(f"{function},")]:
                 self.clauses += found
                 self.variants = ("Rattle", crate.name, "specs", "declared", "command", "Command", "TheVariants")
         named = {name for definition in self.walk() for commands, _found in self.cases(definition) for name in commands}
