@@ -270,6 +270,7 @@ class Source:
         self.read(start + 1, end - 1, Scope(scope), (names or [""])[-1 if is_path else 0], traits[-1] if traits else None)
 
     def read_ghost(self, place, scope, owner, trait):
+        """Reads what stands behind `ghost`: imports, a member of a trait, or what a type is seen as."""
         if match := re.compile(r"\s*use\b([^;]*);").match(self.text, place):
             scope.add(match[1])
             return match.end()
@@ -283,6 +284,7 @@ class Source:
         return self.skip_to(balanced(self.text, match.end() - 1), ";") + 1
 
     def read_function(self, place, name, is_public, is_test, scope, owner, trait):
+        """Reads a function's signature and its clauses; its body is passed over."""
         made = Item("function", name, owner, is_public)
         if isinstance(owner, Item):
             made.owner, made.is_public = owner.name, True

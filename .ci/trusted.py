@@ -164,11 +164,11 @@ class Reading:
     """What the public clauses of one function reach, in parts: the frame, and what each command adds."""
 
     def __init__(self, house, function):
-        self.house, self.clauses, self.known = house, [], {}
+        self.house, self.clauses, self.variants, self.known = house, [], set(), {}
         for crate in house.crates.values():
             if found := [clause for clause in crate.public_clauses if clause.what.startswith(f"{function},")]:
                 self.clauses += found
-                self.variants = ("Rattle", crate.name, "specs", "declared", "command", "Command", "TheVariants")
+                self.variants.add(("Rattle", crate.name, "specs", "declared", "command", "Command", "TheVariants"))
         named = {name for definition in self.walk() for commands, _found in self.cases(definition) for name in commands}
         self.commands = [name for name in READING if name in named] + sorted(named - set(READING))
 
@@ -176,7 +176,7 @@ class Reading:
         """The commands whose constructors a pattern names."""
         for parts, _place in tokens_of(pattern):
             for path in ((*path, *parts[1:]) for path in scope.find(parts[0])):
-                if path[:-1] == self.variants:
+                if path[:-1] in self.variants:
                     yield path[-1].lower()
 
     def cases(self, definition):
@@ -274,7 +274,7 @@ def print_why(house, word, reached):
 
 def options():
     form = argparse.ArgumentParser(description=__doc__, formatter_class=argparse.RawDescriptionHelpFormatter)
-    form.add_argument("--repo", type=pathlib.Path, default=pathlib.Path(__file__).parent.parent)
+    form.add_argument("--repo", type=pathlib.Path, default=pathlib.Path(__file__).resolve().parent.parent)
     form.add_argument("--why", metavar="WORD")
     form.add_argument("--cited", action="store_true")
     form.add_argument("--from", dest="start", metavar="FUNCTION")
