@@ -1,5 +1,5 @@
-"""The repository's own checks: links, citations, rows of docs/proved.md and docs/promises.md, trusted text, and calls of the proved program (not with
---pages: none is built then)."""
+"""The repository's own checks: links, citations, rows of docs/proved.md, docs/promises.md and docs/headline.md, trusted text, and calls of the proved
+program (not with --pages: none is built then)."""
 import pathlib
 import re
 import subprocess
@@ -8,6 +8,7 @@ import tempfile
 
 sys.dont_write_bytecode = True
 import calls
+import headline
 import trusted
 
 top = pathlib.Path(__file__).resolve().parent.parent
@@ -66,9 +67,12 @@ print(trusted_run.stdout.split("\n\n")[0])
 if trusted_run.returncode:
     failures += [line for line in (trusted_run.stdout.partition("\n\n")[2] + trusted_run.stderr).splitlines() if line]
 
+# docs/headline.md has what the clause of `netlabel` reaches, part by part, as it is counted.
+house = trusted.House(top)
+failures += headline.faults(texts["docs/headline.md"], headline.counted(house))
+
 # docs/model.md has each word that a public clause cites, in a row with its file; the words of a row stand in the row's files; and it
 # has the trusted lines of each crate.
-house = trusted.House(top)
 model = texts["docs/model.md"].splitlines()
 named = set()
 for number, line in enumerate(model, 1):
