@@ -69,7 +69,7 @@ fn add_packet<S: Sink>(
 ) -> Result<(), IoFault>
     ensures { (text : List ℕ) × IsShown link frame.now text
         × HandsOn (shown_line number text) report.old.waiting.items report.new.waiting.items
-            result (S.state out.old) (S.state out.new) }
+        result (S.state out.old) (S.state out.new) }
 {
     match write_packet(number, link, frame, label, &mut report.waiting) {
         Ok(()) => report.pass(out),
