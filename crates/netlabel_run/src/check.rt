@@ -61,9 +61,8 @@ fn print_script<S: Sink>(alloc: Global, script: &Script, out: &mut S) -> Status
 
 /// Ends the report of a script whose commands were all carried out, with how much it has.
 fn end_checked<S: Sink>(script: &Script, report: Report, out: &mut S) -> Status
-    ensures { Printed (report.waiting.items
-        ++ ok_line (length script.now.nodes) (length script.now.steps)
-        (length script.now.flows))
+    ensures { Printed (report.waiting.items ++ ok_line
+        (length script.now.nodes) (length script.now.steps) (length script.now.flows))
         [] Status.Done result (S.state out.old) (S.state out.new) }
 {
     let mut report = report;
