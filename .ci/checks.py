@@ -50,7 +50,7 @@ for name, text in texts.items():
         failures += [f"{name}: names {crate}, which its crate's line of crates.txt lacks" for crate in sorted(lacking)]
 
 # docs/promises.md goes through what the one call ensures: each field of `CallEnds` stands in a row, those of its records one by one, and no row names another.
-ends = texts["crates/netlabel_run/specs/CallEnds.antt"]
+ends = texts["crates/call_report/specs/CallEnds.antt"]
 fields = {record: dict(re.findall(r"^  pub (\w+) : (.+)$", body, re.M)) for record, body in re.findall(r"^pub record (\w+)[^\n]* where\n((?:  .*\n)+)", ends, re.M)}
 promised = set()
 for field, said in fields["CallEnds"].items():

@@ -5,4 +5,6 @@ pub mod Output
 pub mod Outside
 pub mod Numbers
 pub mod Printing
+pub mod Says
+pub mod CallEnds
 pub mod inside

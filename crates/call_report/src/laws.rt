@@ -13,24 +13,29 @@ ghost use Rattle.call_report.specs.Printing.{Breaks, HandsOn, IsUnderWay, Printe
 
 /// Two texts that were handed on one behind the other were handed on as one.
 pub fn texts_join<T, U>()
-    ensures { (first second waits mid still : List ℕ) (x : T) (result : Result U IoFault) (a b c : SinkState)
-        → HandsOn first waits mid (Ok x) a b → HandsOn second mid still result b c → HandsOn (first ++ second) waits still result a c }
+    ensures { (first second waits mid still : List ℕ) (x : T) (result : Result U IoFault)
+        (a b c : SinkState)
+        → HandsOn first waits mid (Ok x) a b → HandsOn second mid still result b c
+        → HandsOn (first ++ second) waits still result a c }
 {}
 
 /// A text that waits behind what waited: nothing is handed on.
 pub fn nothing_is_handed_on<T>()
-    ensures { (text waits : List ℕ) (x : T) (a : SinkState) → HandsOn text waits (waits ++ text) (Ok x) a a }
+    ensures { (text waits : List ℕ) (x : T) (a : SinkState)
+        → HandsOn text waits (waits ++ text) (Ok x) a a }
 {}
 
 /// What waits was handed on behind a text.
 pub fn a_text_is_handed_on<T>()
     ensures { (text waits held still : List ℕ) (result : Result T IoFault) (a b : SinkState)
-        → held ≡ waits ++ text → HandsOn [] held still result a b → HandsOn text waits still result a b }
+        → held ≡ waits ++ text → HandsOn [] held still result a b
+        → HandsOn text waits still result a b }
 {}
 
 /// Without memory for a text nothing is handed on.
 pub fn no_memory_for_a_line<T>()
-    ensures { (line waits still : List ℕ) (a : SinkState) → 0 < length line → HandsOn {T = T} line waits still (Err NoMemory) a a }
+    ensures { (line waits still : List ℕ) (a : SinkState)
+        → 0 < length line → HandsOn {T = T} line waits still (Err NoMemory) a a }
 {}
 
 /// A text fails where a part at its front does.
@@ -41,7 +46,8 @@ pub fn a_failing_part_is_a_failing_whole()
 /// The same of a text that is handed on.
 pub fn a_failing_text_fails_with_more<T, U>()
     ensures { (text more waits still : List ℕ) (fault : IoFault) (a b : SinkState)
-        → HandsOn {T = T} text waits still (Err fault) a b → HandsOn {T = U} (text ++ more) waits still (Err fault) a b }
+        → HandsOn {T = T} text waits still (Err fault) a b
+        → HandsOn {T = U} (text ++ more) waits still (Err fault) a b }
 {}
 
 /// A report begins with no text.
@@ -58,7 +64,8 @@ pub fn a_report_takes_a_text()
 /// A text is handed on behind what a report has handed on.
 pub fn a_report_goes_on<T>()
     ensures { (text waits : List ℕ) (a b : SinkState) → IsUnderWay text waits a b
-        → (line still : List ℕ) (x : T) (c : SinkState) → HandsOn line waits still (Ok x) b c → IsUnderWay (text ++ line) still a c }
+        → (line still : List ℕ) (x : T) (c : SinkState)
+        → HandsOn line waits still (Ok x) b c → IsUnderWay (text ++ line) still a c }
 {}
 
 /// A report breaks where a text behind it does.
@@ -76,37 +83,44 @@ pub fn faults_rose_over_a_report()
 /// A report is printed where its end is printed behind its beginning.
 pub fn a_report_is_printed()
     ensures { (text waits : List ℕ) (a b : SinkState) → IsUnderWay text waits a b
-        → (last : List ℕ) (due status : Ending) (c : SinkState) → Printed waits last due status b c → Printed text last due status a c }
+        → (last : List ℕ) (due status : Ending) (c : SinkState)
+        → Printed waits last due status b c → Printed text last due status a c }
 {}
 
 /// A text that was handed on begins a report, and the rest was printed behind it.
 pub fn a_text_begins_a_report<T>()
     ensures { (text more still last : List ℕ) (x : T) (due status : Ending) (a b c : SinkState)
-        → HandsOn text [] still (Ok x) a b → Printed (still ++ more) last due status b c → Printed (text ++ more) last due status a c }
+        → HandsOn text [] still (Ok x) a b → Printed (still ++ more) last due status b c
+        → Printed (text ++ more) last due status a c }
 {}
 
 /// A text that fails ends its report.
 pub fn a_failing_text_ends_a_report<T>()
     ensures { (text more still last : List ℕ) (fault : IoFault) (due : Ending) (a b : SinkState)
-        → HandsOn {T = T} text [] still (Err fault) a b → Printed (text ++ more) last due (write_status fault) a b }
+        → HandsOn {T = T} text [] still (Err fault) a b
+        → Printed (text ++ more) last due (write_status fault) a b }
 {}
 
 /// Without memory nothing is printed.
 pub fn no_memory_for_a_report()
-    ensures { (body last : List ℕ) (due : Ending) (a : SinkState) → Printed body last due OutOfMemory a a }
+    ensures { (body last : List ℕ) (due : Ending) (a : SinkState)
+        → Printed body last due OutOfMemory a a }
 {}
 
 /// A text that was written is a front of a longer one.
 pub fn a_whole_text_is_a_front()
-    ensures { (text more old new : List ℕ) → new ≡ old ++ text → WritesPrefix (text ++ more) old new }
+    ensures { (text more old new : List ℕ)
+        → new ≡ old ++ text → WritesPrefix (text ++ more) old new }
 {}
 
 /// A text of which not all was written is so, too.
 pub fn a_part_of_a_text_is_a_front()
-    ensures { (text more old new : List ℕ) → WritesLess text old new → WritesPrefix (text ++ more) old new }
+    ensures { (text more old new : List ℕ)
+        → WritesLess text old new → WritesPrefix (text ++ more) old new }
 {}
 
 /// Less of a text is less of a longer one.
 pub fn less_of_a_text_is_less_of_more()
-    ensures { (text more old new : List ℕ) → WritesLess text old new → WritesLess (text ++ more) old new }
+    ensures { (text more old new : List ℕ)
+        → WritesLess text old new → WritesLess (text ++ more) old new }
 {}

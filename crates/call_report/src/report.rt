@@ -29,7 +29,8 @@ impl Report {
 
     /// Hands all that waits on.
     pub fn flush<S: Sink>(&mut self, out: &mut S) -> Result<(), IoFault>
-        ensures hands { HandsOn [] self.old.waiting.items self.new.waiting.items result (S.state out.old) (S.state out.new) }
+        ensures hands { HandsOn [] self.old.waiting.items self.new.waiting.items result
+            (S.state out.old) (S.state out.new) }
         ensures empty { OnOk result (self.new.waiting.items ≡ []) }
     {
         write_all_to(out, &self.waiting)?;
@@ -39,7 +40,8 @@ impl Report {
 
     /// Hands what waits on where it has grown to a piece.
     pub fn pass<S: Sink>(&mut self, out: &mut S) -> Result<(), IoFault>
-        ensures { HandsOn [] self.old.waiting.items self.new.waiting.items result (S.state out.old) (S.state out.new) }
+        ensures { HandsOn [] self.old.waiting.items self.new.waiting.items result
+            (S.state out.old) (S.state out.new) }
     {
         if self.waiting.len() < PIECE {
             return Ok(());
@@ -51,7 +53,8 @@ impl Report {
     /// none. It tells how a call ends that is to end so: a write that fails in the body comes before the event, one that
     /// fails in the event's line behind it.
     pub fn end<S: Sink>(self, out: &mut S, last: &[u8], status: Status) -> Status
-        ensures { Printed self.waiting.items last.now status result (S.state out.old) (S.state out.new) }
+        ensures { Printed self.waiting.items last.now status result
+            (S.state out.old) (S.state out.new) }
     {
         let mut report = self;
         match report.flush(out) {

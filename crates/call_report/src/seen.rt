@@ -1,6 +1,7 @@
 //! The versions of the tables under which packets were judged, as they were printed.
 
-ghost use Rattle.std.specs.Prelude.{◌≡◌, ◌≤◌, ◌<◌, ◌-◌, ◌^◌, [], ◌∷◌, ◌++◌, length, take, drop, slice_get, Some, OnOk, OnErr};
+ghost use Rattle.std.specs.Prelude.{◌≡◌, ◌≤◌, ◌<◌, ◌-◌, ◌^◌, [], ◌∷◌, ◌++◌, length, take, drop};
+ghost use Rattle.std.specs.Prelude.{slice_get, Some, OnOk, OnErr};
 ghost use Rattle.call_report.specs.inside.Seen.{pieces_of, start_at, Reach};
 
 use mls_label::OutOfMemory;
@@ -76,8 +77,10 @@ fn push_piece(
     requires room { length ends.old.items < 2 ^ 27 }
     requires reach { Reach (length versions.old.items) 0 ends.old.items }
     ensures reach { Reach (length versions.new.items) 0 ends.new.items }
-    ensures ok { OnOk result (pieces_of versions.new.items 0 ends.new.items ≡ pieces_of versions.old.items 0 ends.old.items ++ piece.now ∷ []) }
-    ensures err { OnErr result (pieces_of versions.new.items 0 ends.new.items ≡ pieces_of versions.old.items 0 ends.old.items) }
+    ensures ok { OnOk result (pieces_of versions.new.items 0 ends.new.items
+        ≡ pieces_of versions.old.items 0 ends.old.items ++ piece.now ∷ []) }
+    ensures err { OnErr result (pieces_of versions.new.items 0 ends.new.items
+        ≡ pieces_of versions.old.items 0 ends.old.items) }
 {
     let before = size(versions);
     versions.extend_from_slice(piece)?;

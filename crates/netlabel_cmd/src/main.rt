@@ -5,7 +5,7 @@
 ghost use Rattle.std.specs.Prelude.{◌≡◌, ◌⊎◌, IfOk};
 ghost use Rattle.std.specs.Process.{exit_status};
 ghost use Rattle.netlabel_run.specs.Words.{texts_of, IsForm};
-ghost use Rattle.netlabel_run.specs.CallEnds.{MayEnd};
+ghost use Rattle.netlabel_run.specs.Commands.{MayEnd};
 
 use label_flow::OpenGate;
 use net_io::{RealDepot, RealSink};

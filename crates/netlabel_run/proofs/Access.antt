@@ -15,9 +15,9 @@ use Rattle.flow_run.specs.Run.{FlowRun}
 use Rattle.script_run.specs.Runs.{plan_of, AreRuns}
 use Rattle.netlabel_run.specs.declared.command.Command.{Command}
 use Rattle.netlabel_run.specs.declared.command.Command.TheVariants.{Judge, Check, Show, Run}
-use Rattle.netlabel_run.specs.Check.{script_read}
-use Rattle.netlabel_run.specs.Run.{ByAnswer, ByScript, AreItsRuns, HasRunAccess}
-use Rattle.netlabel_run.specs.Seen.{HasAccess}
+use Rattle.netlabel_run.specs.ScriptFile.{script_read, ByAnswer, ByScript}
+use Rattle.netlabel_run.specs.Run.{AreItsRuns, HasRunAccess}
+use Rattle.netlabel_run.specs.Commands.{netlabel_says}
 
 -- its hops are valid
 abbrev IsValid : Script → FlowLine → Type 0
@@ -50,7 +50,7 @@ of_file file None held seen = tt
 of_file file (Some text) held seen = of_answer file text held seen (script_read file text) refl
 
 -- whatever was asked for, over whatever the folder holds
-pub has_access : (request : Option Command) (held : Folder) (seen : Versions) → HasAccess request held seen
+pub has_access : (request : Option Command) (held : Folder) (seen : Versions) → (netlabel_says request).access held seen
 has_access None held seen = tt
 has_access (Some (Judge doi level file)) held seen = tt
 has_access (Some (Check file)) held seen = tt

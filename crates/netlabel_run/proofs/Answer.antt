@@ -11,7 +11,7 @@ use Rattle.packet_label.proofs.Law.{octets_are_a_packet_or_have_one_fault}
 use Rattle.pcap_frames.specs.Record.{Frame}
 use Rattle.pcap_frames.specs.Ip.{ip_part_of}
 use Rattle.label_receive.proofs.Law.{verdicts_are_determined}
-use Rattle.netlabel_run.specs.Verdict.{judge_rule, IsVerdict}
+use Rattle.netlabel_run.specs.Judge.{judge_rule, IsVerdict}
 use Rattle.report_lines.specs.Denial.{Verdict}
 use Rattle.report_lines.specs.Packet.{packet_text, shown_line, IsShown}
 use Rattle.netlabel_run.specs.Show.{AreShown}

@@ -27,13 +27,13 @@ use Rattle.netlabel_run.specs.declared.command.Command.TheVariants.{Check}
 use Rattle.call_report.specs.declared.status.Status.{Status}
 use Rattle.call_report.specs.declared.status.Status.TheVariants.{Done, WrongScript, Limit}
 use Rattle.report_lines.specs.Script.{limit_line, script_stop_line}
-use Rattle.netlabel_run.specs.Check.{script_read, check_text}
-use Rattle.netlabel_run.specs.Report.{script_report, CheckReport}
+use Rattle.call_report.specs.CallEnds.{CallEnds}
+use Rattle.netlabel_run.specs.ScriptFile.{script_read}
+use Rattle.netlabel_run.specs.Check.{check_text, script_report, CheckReport, script_status, CheckStatus}
+use Rattle.netlabel_run.specs.Commands.{netlabel_says}
 use Rattle.call_report.specs.Report.{Report, late_report}
-use Rattle.netlabel_run.specs.Status.{script_status, CheckStatus}
 use Rattle.call_report.specs.Stages.{reading_stage}
 use Rattle.call_report.specs.Outside.{Outside}
-use Rattle.netlabel_run.specs.CallEnds.{CallEnds}
 use Rattle.call_report.specs.Numbers.{status_number}
 use Rattle.call_report.specs.Printing.{HandsOn, Printed}
 use Rattle.netlabel_run.specs.inside.Stopping.{script_due}
@@ -69,7 +69,7 @@ module _ (file : List ℕ) where
   pub check_reads : ReadsScript asked file
   check_reads = record {
     form = λ e. absurd cc;
-    knows = λ before after reads told. knows_reading asked file before after refl refl refl reads told;
+    knows = λ before after reads told. knows_reading (netlabel_says asked) file before after refl refl refl reads told;
     refused = λ held text why holds is. record { status = has_status (held file) text (Err why) holds is; report = has_report (held file) text (Err why) holds is; whole = refl };
     may = λ text why is. (λ name. Some text, ap script_status (sym is));
     begins = λ held. let r = some_report (held file) in record { report = r.0; has = r.1; rest = r.0.body; body = refl };
@@ -79,7 +79,7 @@ module _ (file : List ℕ) where
   -- the text is a script
   pub ends_checked : (before after : Outside) (text : List ℕ) (script : Script) (status : Status) → IsOnlyRead before.folder after.folder → after.stream.tells ≡ before.stream.tells
       → SameCounts before.folder.reads after.folder.reads → (IsTrue before.folder.tells → before.folder.held file ≡ Some text) → read_text with_translations file text ≡ Ok script
-      → Printed (check_text script) [] Done status before.stream after.stream → CallEnds asked before after (status_number status) []
+      → Printed (check_text script) [] Done status before.stream after.stream → CallEnds netlabel_says asked before after (status_number status) []
   ends_checked before after text script status reads stream counts holds is printed =
       ends_printed asked before after (reading_stage file ∷ []) (check_reads.knows before after reads stream) Done (check_text script) []
       (record {

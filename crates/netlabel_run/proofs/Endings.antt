@@ -9,14 +9,12 @@ use Rattle.net_io.specs.Sink.{SinkState, WritesPrefix, WritesLess}
 use Rattle.netlabel_run.specs.declared.command.Command.{Command}
 use Rattle.call_report.specs.declared.status.Status.{Status}
 use Rattle.call_report.specs.declared.status.Status.TheVariants.{ReadFault, WriteFault, OutOfMemory}
-use Rattle.netlabel_run.specs.Report.{HasReport, PrintsLate}
+use Rattle.netlabel_run.specs.Commands.{netlabel_says}
+use Rattle.call_report.specs.CallEnds.{CallEnds, EndsWith, Prints, IsClean, IsWritten, IsRefusal}
+use Rattle.call_report.specs.Says.{Says}
 use Rattle.call_report.specs.Report.{Folder, Report, report_text}
-use Rattle.netlabel_run.specs.Status.{HasStatus, IsPossible, IsRefusal}
-use Rattle.netlabel_run.specs.Stages.{HasOutputs}
 use Rattle.call_report.specs.Stages.{Stage}
-use Rattle.netlabel_run.specs.Seen.{IsLawful, IsWhole}
 use Rattle.call_report.specs.Outside.{Outside, ReadRose, NoneFailed, NoWriteFailed}
-use Rattle.netlabel_run.specs.CallEnds.{CallEnds, EndsWith, Prints, IsClean, IsWritten}
 use Rattle.netlabel_run.specs.inside.Ending.{Knows, Begins}
 use Rattle.call_report.specs.Numbers.{status_number}
 use Rattle.call_report.specs.Printing.{Printed, EndsInLine, Breaks}
@@ -58,9 +56,9 @@ printed_body body last due status a b printed other = elim printed.how [
 ]
 
 -- the report of what was asked for has this body and this last line
-pub record HasParts (request : Option Command) (held : Folder) (text line : List ℕ) : Type 0 where
+pub record HasParts (says : Says) (held : Folder) (text line : List ℕ) : Type 0 where
   pub report : Report
-  pub has : HasReport request held [] report
+  pub has : says.report held [] report
   pub body : report.body ≡ text
   pub last : report.last ≡ line
 
@@ -69,26 +67,29 @@ pub record IsDue (request : Option Command) (before : Outside) (due : Status) (t
   pub event : (status_number due ≢ 3) × (status_number due ≢ 4) × (status_number due ≢ 6)
   pub form : status_number due ≡ 1 → request ≡ None
   pub usage : request ≡ None → (status_number due ≡ 1) × (text ≡ [])
-  pub has : IsTrue before.folder.tells → HasStatus request before.folder.held (status_number due)
-  pub may : IsPossible request (status_number due)
-  pub parts : IsTrue before.folder.tells → HasParts request before.folder.held text line
+  pub has : IsTrue before.folder.tells → (netlabel_says request).status before.folder.held (status_number due)
+  pub may : (netlabel_says request).possible (status_number due)
+  pub parts : IsTrue before.folder.tells → HasParts (netlabel_says request) before.folder.held text line
   pub last : status_number due ≡ 0 → line ≡ []
-  pub whole : IsTrue before.folder.tells → IsWhole request before.folder.held []
+  pub whole : IsTrue before.folder.tells → (netlabel_says request).whole before.folder.held []
 
 -- the text of a report that begins so
-text_begins : (request : Option Command) (held : Folder) (text : List ℕ) (b : Begins request held text) → report_text b.report ≡ text ++ (b.rest ++ b.report.last)
-text_begins request held text b = ap (λ x. x ++ b.report.last) b.body ∙ append_assoc text b.rest b.report.last
+text_begins : (says : Says) (held : Folder) (text : List ℕ) (b : Begins says held text) → report_text b.report ≡ text ++ (b.rest ++ b.report.last)
+text_begins says held text b = ap (λ x. x ++ b.report.last) b.body ∙ append_assoc text b.rest b.report.last
 
-parts_begin : (request : Option Command) (held : Folder) (body last : List ℕ) → HasParts request held body last → Begins request held body
-parts_begin request held body last p = record { report = p.report; has = p.has; rest = []; body = p.body ∙ sym (append-nil body) }
+parts_begin : (says : Says) (held : Folder) (body last : List ℕ) → HasParts says held body last → Begins says held body
+parts_begin says held body last p = record { report = p.report; has = p.has; rest = []; body = p.body ∙ sym (append-nil body) }
 
-parts_text : (request : Option Command) (held : Folder) (body last : List ℕ) (p : HasParts request held body last) → report_text p.report ≡ body ++ last
-parts_text request held body last p = ap (λ x. x ++ p.report.last) p.body ∙ ap (λ x. body ++ x) p.last
+parts_text : (says : Says) (held : Folder) (body last : List ℕ) (p : HasParts says held body last) → report_text p.report ≡ body ++ last
+parts_text says held body last p = ap (λ x. x ++ p.report.last) p.body ∙ ap (λ x. body ++ x) p.last
 
-module _ (request : Option Command) (before after : Outside) (stages : List Stage) (knows : Knows request before after stages) where
-  ends : (status : ℕ) → EndsWith request before after status [] stages → (IsTrue before.folder.tells → Prints request before after status [] stages)
-      → (IsTrue before.stream.tells → status ≡ 3 → PrintsLate request [] → after.stream.written ≡ before.stream.written)
-      → (IsTrue before.folder.tells → IsClean stages before after status → IsWhole request before.folder.held []) → CallEnds request before after status []
+module _ (request : Option Command) (before after : Outside) (stages : List Stage) (knows : Knows (netlabel_says request) before after stages) where
+  abbrev says : Says
+  says = netlabel_says request
+
+  ends : (status : ℕ) → EndsWith says request before after status [] stages → (IsTrue before.folder.tells → Prints says before after status [] stages)
+      → (IsTrue before.stream.tells → status ≡ 3 → says.late [] → after.stream.written ≡ before.stream.written)
+      → (IsTrue before.folder.tells → IsClean stages before after status → says.whole before.folder.held []) → CallEnds netlabel_says request before after status []
   ends status with_status prints silent whole = record {
     stages = stages;
     begun = knows.begun;
@@ -113,23 +114,23 @@ module _ (request : Option Command) (before after : Outside) (stages : List Stag
 
   -- nothing, or some first octets of the report
   abbrev Part : Type 0
-  Part = IsWritten [] before after ⊎ ((report : Report) × HasReport request before.folder.held [] report × WritesPrefix (report_text report) before.stream.written after.stream.written)
+  Part = IsWritten [] before after ⊎ ((report : Report) × says.report before.folder.held [] report × WritesPrefix (report_text report) before.stream.written after.stream.written)
 
   -- some first octets of a text with which the report begins
-  begun_part : (text : List ℕ) (b : Begins request before.folder.held text) → WritesPrefix (text ++ (b.rest ++ b.report.last)) before.stream.written after.stream.written → Part
+  begun_part : (text : List ℕ) (b : Begins says before.folder.held text) → WritesPrefix (text ++ (b.rest ++ b.report.last)) before.stream.written after.stream.written → Part
   begun_part text b prefix =
-      inr (b.report, b.has, subst (λ (t : List ℕ). WritesPrefix t before.stream.written after.stream.written) (sym (text_begins request before.folder.held text b)) prefix)
+      inr (b.report, b.has, subst (λ (t : List ℕ). WritesPrefix t before.stream.written after.stream.written) (sym (text_begins says before.folder.held text b)) prefix)
 
-  parts_part : (body last : List ℕ) → HasParts request before.folder.held body last → WritesPrefix (body ++ last) before.stream.written after.stream.written → Part
+  parts_part : (body last : List ℕ) → HasParts says before.folder.held body last → WritesPrefix (body ++ last) before.stream.written after.stream.written → Part
   parts_part body last p prefix =
-      inr (p.report, p.has, subst (λ (t : List ℕ). WritesPrefix t before.stream.written after.stream.written) (sym (parts_text request before.folder.held body last p)) prefix)
+      inr (p.report, p.has, subst (λ (t : List ℕ). WritesPrefix t before.stream.written after.stream.written) (sym (parts_text says before.folder.held body last p)) prefix)
 
   short_of_memory : IsClean stages before after 6 → ⊥
   short_of_memory clean = elim clean [ inl e ↦ omega (arith, e) | inr c ↦ c.0 refl ]
 
   -- no read has failed, or one that is counted and may have something in front of it
   abbrev Reads : Type 0
-  Reads = SameCounts before.folder.reads after.folder.reads ⊎ (ReadRose stages before after × (PrintsLate request [] → ⊥))
+  Reads = SameCounts before.folder.reads after.folder.reads ⊎ (ReadRose stages before after × (says.late [] → ⊥))
 
   none_failed : SameCounts before.folder.reads after.folder.reads → after.stream.faults ≡ before.stream.faults → NoneFailed before after
   none_failed reads writes = record { reads = reads; creates = knows.creates; appends = knows.appends; writes = writes }
@@ -138,7 +139,7 @@ module _ (request : Option Command) (before after : Outside) (stages : List Stag
   unwritten writes = record { writes = writes; appends = knows.appends }
 
   -- memory ran out, and nothing or a beginning of the report was printed
-  ends_without_memory : Reads → after.stream.faults ≡ before.stream.faults → (IsTrue before.folder.tells → IsTrue before.stream.tells → Part) → CallEnds request before after 6 []
+  ends_without_memory : Reads → after.stream.faults ≡ before.stream.faults → (IsTrue before.folder.tells → IsTrue before.stream.tells → Part) → CallEnds netlabel_says request before after 6 []
   ends_without_memory reads writes part = ends 6 (record {
     due = λ told. inr (inr (inr refl));
     possible = inr (inr (inr refl));
@@ -157,13 +158,13 @@ module _ (request : Option Command) (before after : Outside) (stages : List Stag
     stop = λ e. absurd (omega (arith, e));
   }) (λ out e. absurd (omega (arith, e))) (λ told clean. absurd (short_of_memory clean))
 
-  pub ends_unprinted : SameCounts before.folder.reads after.folder.reads → after.stream ≡ before.stream → CallEnds request before after 6 []
+  pub ends_unprinted : SameCounts before.folder.reads after.folder.reads → after.stream ≡ before.stream → CallEnds netlabel_says request before after 6 []
   ends_unprinted reads same =
       ends_without_memory (inl reads) (ap (λ (s : SinkState). s.faults) same) (λ told out. inl (ap (λ (s : SinkState). s.written) same ∙ sym (append-nil before.stream.written)))
 
   -- memory ran out behind the beginning of a report
-  pub ends_short : (text : List ℕ) → Reads → after.stream.faults ≡ before.stream.faults → (IsTrue before.folder.tells → Begins request before.folder.held text) → (IsTrue before.stream.tells → WritesPrefix text before.stream.written after.stream.written)
-      → CallEnds request before after 6 []
+  pub ends_short : (text : List ℕ) → Reads → after.stream.faults ≡ before.stream.faults → (IsTrue before.folder.tells → Begins says before.folder.held text) → (IsTrue before.stream.tells → WritesPrefix text before.stream.written after.stream.written)
+      → CallEnds netlabel_says request before after 6 []
   ends_short text reads writes begins prefix = ends_without_memory reads writes (λ told out.
       let b = begins told in
       let p = prefix out in
@@ -174,7 +175,7 @@ module _ (request : Option Command) (before after : Outside) (stages : List Stag
 
   -- a write has failed in the body of the report
   pub ends_unwritten : (text : List ℕ) → request ≢ None → Rose before.stream.faults after.stream.faults → Breaks text before.stream after.stream
-      → (IsTrue before.folder.tells → Begins request before.folder.held text) → CallEnds request before after 4 []
+      → (IsTrue before.folder.tells → Begins says before.folder.held text) → CallEnds netlabel_says request before after 4 []
   ends_unwritten text form rose breaks begins = ends 4 (record {
     due = λ told. inr (inr (inl refl));
     possible = inr (inr (inl refl));
@@ -207,9 +208,9 @@ module _ (request : Option Command) (before after : Outside) (stages : List Stag
 
   -- a read has failed behind the beginning of a report
   pub ends_unread : (text : List ℕ) → request ≢ None → ReadRose stages before after → after.stream.faults ≡ before.stream.faults → (IsTrue before.stream.tells → IsWritten text before after)
-      → (IsTrue before.folder.tells → (text ≡ []) ⊎ Begins request before.folder.held text)
-      → (IsTrue before.folder.tells → (report : Report) → HasReport request before.folder.held [] report → Contains report.pauses text)
-      → (PrintsLate request [] → text ≡ []) → CallEnds request before after 3 []
+      → (IsTrue before.folder.tells → (text ≡ []) ⊎ Begins says before.folder.held text)
+      → (IsTrue before.folder.tells → (report : Report) → says.report before.folder.held [] report → Contains report.pauses text)
+      → (says.late [] → text ≡ []) → CallEnds netlabel_says request before after 3 []
   ends_unread text form rose writes written begins pauses quiet = ends 3 (record {
     due = λ told. inr (inl refl);
     possible = inr (inl refl);
@@ -232,17 +233,17 @@ module _ (request : Option Command) (before after : Outside) (stages : List Stag
   }) (λ out e all. written out ∙ ap (λ t. before.stream.written ++ t) (quiet all) ∙ append-nil before.stream.written) (λ told clean. absurd (read_failed rose clean))
 
   -- its reader has stopped behind the beginning of a report, which was printed, or could not be
-  module _ (text : List ℕ) (form : request ≢ None) (begins : IsTrue before.folder.tells → Begins request before.folder.held text) where
+  module _ (text : List ℕ) (form : request ≢ None) (begins : IsTrue before.folder.tells → Begins says before.folder.held text) where
     short_of : (status : Status) → status ≡ OutOfMemory → Reads → after.stream.faults ≡ before.stream.faults → (IsTrue before.stream.tells → WritesPrefix (text ++ []) before.stream.written after.stream.written)
-        → CallEnds request before after (status_number status) []
+        → CallEnds netlabel_says request before after (status_number status) []
     short_of status is reads writes prefix =
-        subst (λ (n : ℕ). CallEnds request before after n []) (sym (ap status_number is))
+        subst (λ (n : ℕ). CallEnds netlabel_says request before after n []) (sym (ap status_number is))
         (ends_short text reads writes begins (λ out. subst (λ (t : List ℕ). WritesPrefix t before.stream.written after.stream.written) (append-nil text) (prefix out)))
 
-    unwritten_of : (status : Status) → status ≡ WriteFault → Rose before.stream.faults after.stream.faults → Breaks text before.stream after.stream → CallEnds request before after (status_number status) []
-    unwritten_of status is rose breaks = subst (λ (n : ℕ). CallEnds request before after n []) (sym (ap status_number is)) (ends_unwritten text form rose breaks begins)
+    unwritten_of : (status : Status) → status ≡ WriteFault → Rose before.stream.faults after.stream.faults → Breaks text before.stream after.stream → CallEnds netlabel_says request before after (status_number status) []
+    unwritten_of status is rose breaks = subst (λ (n : ℕ). CallEnds netlabel_says request before after n []) (sym (ap status_number is)) (ends_unwritten text form rose breaks begins)
 
-    pub ends_stopped_short : (status : Status) → SameCounts before.folder.reads after.folder.reads → Printed text [] OutOfMemory status before.stream after.stream → CallEnds request before after (status_number status) []
+    pub ends_stopped_short : (status : Status) → SameCounts before.folder.reads after.folder.reads → Printed text [] OutOfMemory status before.stream after.stream → CallEnds netlabel_says request before after (status_number status) []
     ends_stopped_short status reads printed = elim printed.how [
       | inl all ↦ short_of status all.0 (inl reads) all.1 (λ out. subst (λ (t : List ℕ). WritesPrefix t before.stream.written after.stream.written) (append-nil (text ++ [])) (a_whole_text_is_a_front (text ++ []) [] before.stream.written after.stream.written (all.2 out)))
       | inr rest ↦ elim rest [
@@ -255,10 +256,10 @@ module _ (request : Option Command) (before after : Outside) (stages : List Stag
     ]
 
     pub ends_stopped_unread : (status : Status) → ReadRose stages before after
-        → (IsTrue before.folder.tells → (report : Report) → HasReport request before.folder.held [] report → Contains report.pauses text)
-        → (PrintsLate request [] → ⊥) → Printed text [] ReadFault status before.stream after.stream → CallEnds request before after (status_number status) []
+        → (IsTrue before.folder.tells → (report : Report) → says.report before.folder.held [] report → Contains report.pauses text)
+        → (says.late [] → ⊥) → Printed text [] ReadFault status before.stream after.stream → CallEnds netlabel_says request before after (status_number status) []
     ends_stopped_unread status rose pauses early printed = elim printed.how [
-      | inl all ↦ subst (λ (n : ℕ). CallEnds request before after n []) (sym (ap status_number all.0))
+      | inl all ↦ subst (λ (n : ℕ). CallEnds netlabel_says request before after n []) (sym (ap status_number all.0))
           (ends_unread text form rose all.1 (λ out. all.2 out ∙ ap (λ t. before.stream.written ++ t) (append-nil text)) (λ told. inr (begins told)) pauses (λ late. absurd (early late)))
       | inr rest ↦ elim rest [
         | inl memory ↦ short_of status memory.0 (inr (rose, early)) memory.1 memory.2
@@ -273,7 +274,7 @@ module _ (request : Option Command) (before after : Outside) (stages : List Stag
     -- the event decides, whether or not its line was printed whole
     ends_due : (IsTrue before.stream.tells → IsClean stages before after (status_number due) → IsWritten (body ++ last) before after)
         → (IsTrue before.stream.tells → WritesPrefix last (before.stream.written ++ body) after.stream.written)
-        → (status_number due ≡ 0 → NoneFailed before after) → CallEnds request before after (status_number due) []
+        → (status_number due ≡ 0 → NoneFailed before after) → CallEnds netlabel_says request before after (status_number due) []
     ends_due whole behind unmoved = ends (status_number due) (record {
       due = λ told. inl (is.has told);
       possible = inl is.may;
@@ -287,7 +288,7 @@ module _ (request : Option Command) (before after : Outside) (stages : List Stag
     }) (λ told.
         let p = is.parts told in
         record {
-          whole = λ out clean. (p.report, p.has, whole out clean ∙ ap (λ t. before.stream.written ++ t) (sym (parts_text request before.folder.held body last p)));
+          whole = λ out clean. (p.report, p.has, whole out clean ∙ ap (λ t. before.stream.written ++ t) (sym (parts_text says before.folder.held body last p)));
           body = λ out other. (
             p.report,
             p.has,
@@ -306,16 +307,16 @@ module _ (request : Option Command) (before after : Outside) (stages : List Stag
 
     -- the report was printed, or could not be
     pub ends_printed : (status : Status) → SameCounts before.folder.reads after.folder.reads → Printed body last due status before.stream after.stream
-        → CallEnds request before after (status_number status) []
+        → CallEnds netlabel_says request before after (status_number status) []
     ends_printed status reads printed =
-        let ended = λ (n : ℕ). CallEnds request before after n [] in
+        let ended = λ (n : ℕ). CallEnds netlabel_says request before after n [] in
         elim printed.how [
           | inl all ↦ subst ended (sym (ap status_number all.0)) (ends_due (λ out clean. all.2 out)
               (λ out. whole_line body last before.stream.written after.stream.written (all.2 out)) (λ zero. none_failed reads all.1))
           | inr rest ↦ elim rest [
             | inl memory ↦ subst ended (sym (ap status_number memory.0)) (ends_without_memory (inl reads) memory.1 (λ told out. parts_part body last (is.parts told) (memory.2 out)))
             | inr failed ↦ elim failed [
-              | inl broken ↦ subst ended (sym (ap status_number broken.0)) (ends_unwritten body (has_form broken.2.some) broken.1 broken.2 (λ told. parts_begin request before.folder.held body last (is.parts told)))
+              | inl broken ↦ subst ended (sym (ap status_number broken.0)) (ends_unwritten body (has_form broken.2.some) broken.1 broken.2 (λ told. parts_begin says before.folder.held body last (is.parts told)))
               | inr line ↦
                   let not_done : status_number due ≢ 0 = λ e. omega (arith, line.2, ap length (is.last e)) in
                   subst ended (sym (ap status_number line.0)) (ends_due

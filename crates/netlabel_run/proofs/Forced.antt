@@ -8,10 +8,8 @@ use Rattle.call_report.specs.Event.{packets_limit}
 use Rattle.flow_run.specs.Run.{FlowRun}
 use Rattle.script_run.specs.Runs.{plan_of, AreWholeRuns, IsLawfulRun, HasNoneBeside}
 use Rattle.script_run.proofs.Law.{runs_are_determined, runs_without_steps_are_forced}
-use Rattle.netlabel_run.specs.declared.command.Command.TheVariants.{Run}
-use Rattle.netlabel_run.specs.Check.{script_read}
-use Rattle.netlabel_run.specs.Run.{ByAnswer, ByScript, AreItsRuns}
-use Rattle.netlabel_run.specs.Seen.{IsLawful, IsWhole}
+use Rattle.netlabel_run.specs.ScriptFile.{script_read, ByAnswer, ByScript}
+use Rattle.netlabel_run.specs.Run.{AreItsRuns, run_says}
 use Rattle.netlabel_run.specs.Laws.{HasNoCommandBeside}
 
 module _ (held : Folder) (w w' : ℕ) (seen seen' : Versions) (some : 0 < w) (some' : 0 < w') where
@@ -38,5 +36,5 @@ module _ (held : Folder) (w w' : ℕ) (seen seen' : Versions) (some : 0 < w) (so
   by_script file (Some text) none l h l' h' = by_answer (script_read file text) none l h l' h'
 
 pub forced : (file : List ℕ) (workers workers' : ℕ) (held : Folder) (seen seen' : Versions) → HasNoCommandBeside file held → 0 < workers → 0 < workers'
-    → IsLawful (Some (Run file workers)) held seen → IsWhole (Some (Run file workers)) held seen → IsLawful (Some (Run file workers')) held seen' → IsWhole (Some (Run file workers')) held seen' → seen ≡ seen'
+    → (run_says file workers).lawful held seen → (run_says file workers).whole held seen → (run_says file workers').lawful held seen' → (run_says file workers').whole held seen' → seen ≡ seen'
 forced file workers workers' held seen seen' none some some' lawful whole lawful' whole' = by_script held workers workers' seen seen' some some' file (held file) none lawful whole lawful' whole'

@@ -42,7 +42,7 @@ use Rattle.label_receive.specs.Range.{is_outside}
 use Rattle.label_receive.specs.Receive.{is_carried, map_refuses, receive_of}
 use Rattle.label_receive.specs.Judged.{fault_denial}
 use Rattle.label_receive.proofs.Law.{delivered_packets_are_due, due_packets_are_delivered}
-use Rattle.netlabel_run.specs.Verdict.{protocol_in, judge_node, label_alone, judge_rule, IsVerdict, SaysUnder, by_cipso, by_calipso, IsGranted}
+use Rattle.netlabel_run.specs.Judge.{protocol_in, judge_node, label_alone, judge_rule, IsVerdict, SaysUnder, by_cipso, by_calipso, IsGranted}
 
 same_number : (n : ℕ) → nat_eq n n ≡ true
 same_number n = eq-eqb n n refl

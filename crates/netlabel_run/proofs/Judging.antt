@@ -11,7 +11,7 @@ use Rattle.node_tables.specs.Effect.{applied}
 use Rattle.node_tables.specs.Steps.{step_applied}
 use Rattle.label_receive.specs.declared.receiving.Delivered.{Delivered}
 use Rattle.label_receive.specs.Receive.{receive_of}
-use Rattle.netlabel_run.specs.Verdict.{judge_node, judge_rule, label_alone}
+use Rattle.netlabel_run.specs.Judge.{judge_node, judge_rule, label_alone}
 
 -- a step at the one node of a network
 pub obeyed : (nodes : List TableState) (command : Command) → length nodes ≡ 1 → step_applied nodes (record { node = 0; command = command }) ≡ map (λ t. applied t command) nodes

@@ -1,27 +1,27 @@
 -- The laws of src/laws.rt under their names, for the crates above.
-use Rattle.std.proofs.Common.{◌≡◌, ◌<◌, ℕ, List, Option, Some, ◌↔◌, Ok}
+use Rattle.std.proofs.Common.{◌≡◌, ◌<◌, ℕ, List, Option, ◌↔◌, Ok}
 use Rattle.mls_label.specs.declared.label.Label.{Label}
 use Rattle.netlabel_run.specs.declared.command.Command.{Command}
-use Rattle.netlabel_run.specs.declared.command.Command.TheVariants.{Run}
 use Rattle.netlabel_run.specs.Words.{IsAsked}
 use Rattle.call_report.specs.Report.{Folder, Versions, Report}
 use Rattle.call_report.specs.Output.{Output}
-use Rattle.netlabel_run.specs.Seen.{IsLawful, IsWhole}
+use Rattle.netlabel_run.specs.Commands.{netlabel_says}
+use Rattle.netlabel_run.specs.Run.{run_says}
 use Rattle.netlabel_run.specs.Laws.{IsOne, IsDetermined, HasNoCommandBeside, HoldTheSame, IsAnswer}
 use Rattle.netlabel_run.proofs.Forced.{forced}
 use Rattle.netlabel_run.proofs.OneAnswer.{one_answer}
-use Rattle.netlabel_run.specs.Verdict.{IsVerdict, IsGranted}
+use Rattle.netlabel_run.specs.Judge.{IsVerdict, IsGranted}
 use Rattle.netlabel_run.proofs.Granted.{granted, grants}
 use Rattle.netlabel_run.proofs.Once.{asked_once, determined}
 
 pub words_ask_for_one_thing : (words : List (List ℕ)) → IsOne (IsAsked words)
 words_ask_for_one_thing = asked_once
 
-pub commands_have_one_report : (request : Option Command) (held : Folder) (seen : Versions) → IsDetermined request held seen
+pub commands_have_one_report : (request : Option Command) (held : Folder) (seen : Versions) → IsDetermined (netlabel_says request) held seen
 commands_have_one_report = determined
 
 pub versions_without_commands_beside_are_forced : (file : List ℕ) (workers workers' : ℕ) (held : Folder) (seen seen' : Versions) → HasNoCommandBeside file held → 0 < workers → 0 < workers'
-    → IsLawful (Some (Run file workers)) held seen → IsWhole (Some (Run file workers)) held seen → IsLawful (Some (Run file workers')) held seen' → IsWhole (Some (Run file workers')) held seen' → seen ≡ seen'
+    → (run_says file workers).lawful held seen → (run_says file workers).whole held seen → (run_says file workers').lawful held seen' → (run_says file workers').whole held seen' → seen ≡ seen'
 versions_without_commands_beside_are_forced = forced
 
 pub scripts_without_commands_beside_have_one_answer : (file : List ℕ) (held other : Folder) (report report' : Report) (outputs outputs' : List Output) → HasNoCommandBeside file other → HoldTheSame file held other

@@ -16,7 +16,12 @@ use Rattle.netlabel_run.specs.declared.command.Command.{Command}
 use Rattle.netlabel_run.specs.declared.command.Command.TheVariants.{Judge, Check, Show, Run}
 use Rattle.report_lines.specs.Denial.{verdict_line}
 use Rattle.netlabel_run.specs.Words.{AsksToJudge, AsksToRun, plainly, with_workers, IsAsked}
-use Rattle.netlabel_run.specs.Run.{ByAnswer, ByScript, AreItsRuns, flow_stage}
+use Rattle.netlabel_run.specs.ScriptFile.{script_read, ByAnswer, ByScript, script_stop_status}
+use Rattle.netlabel_run.specs.Judge.{JudgeReport, absent, too_long, judged, JudgeStatus}
+use Rattle.netlabel_run.specs.Check.{CheckReport, CheckStatus}
+use Rattle.netlabel_run.specs.Show.{lines_report, CaptureReport, ShowReport, ShowStatus}
+use Rattle.netlabel_run.specs.Run.{AreItsRuns, flow_stage}
+use Rattle.netlabel_run.specs.Commands.{netlabel_says}
 use Rattle.call_report.specs.Event.{Event, packets_limit, capture_event}
 use Rattle.call_report.specs.Stages.{reading_stage}
 use Rattle.report_lines.specs.Script.{script_stop_line}
@@ -25,10 +30,7 @@ use Rattle.flow_run.specs.Run.{FlowRun}
 use Rattle.script_run.specs.Runs.{plan_of, StatusOr, FlowsStatus}
 use Rattle.script_run.specs.Report.{runs_report, runs_outputs}
 use Rattle.script_run.proofs.Law.{runs_are_determined}
-use Rattle.netlabel_run.specs.Check.{script_read, script_stop_status}
-use Rattle.netlabel_run.specs.Report.{JudgeReport, absent, too_long, judged, lines_report, CaptureReport, ShowReport, CheckReport}
 use Rattle.call_report.specs.Report.{Folder, Versions, late_report}
-use Rattle.netlabel_run.specs.Status.{JudgeStatus, ShowStatus, CheckStatus}
 use Rattle.netlabel_run.specs.Laws.{IsOne, IsDetermined}
 use Rattle.netlabel_run.proofs.Answer.{verdict_once, lines_once}
 
@@ -110,7 +112,7 @@ run_once words file file' workers workers' (with_workers t w are name named) (wi
     let same_workers : w ≡ w' = decimal_injective w w' (omega (arith, named.few)) (omega (arith, named'.few)) (sym named.is ∙ n ∙ named'.is) in
     cc
 
-pub determined : (request : Option Command) (held : Folder) (seen : Versions) → IsDetermined request held seen
+pub determined : (request : Option Command) (held : Folder) (seen : Versions) → IsDetermined (netlabel_says request) held seen
 determined None held seen = record {
   status = λ a b x y. x ∙ sym y;
   report = λ a b x y. x ∙ sym y;

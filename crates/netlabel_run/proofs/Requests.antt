@@ -5,18 +5,15 @@ use Rattle.std.proofs.lemmas.List.{length-replicate}
 use Rattle.mls_label.specs.declared.label.Label.{Label}
 use Rattle.net_io.specs.Depot.{DepotState, octets_of, SameHeld, OnlyReads}
 use Rattle.net_io.specs.Faults.{SameCounts}
-use Rattle.netlabel_run.specs.declared.command.Command.{Command}
 use Rattle.netlabel_run.specs.declared.command.Command.TheVariants.{Judge}
 use Rattle.call_report.specs.declared.status.Status.TheVariants.{Done, NoForm, Limit}
-use Rattle.netlabel_run.specs.Verdict.{IsVerdict}
+use Rattle.netlabel_run.specs.Judge.{IsVerdict, JudgeReport, absent, too_long, judged, JudgeStatus, packet_limit}
+use Rattle.netlabel_run.specs.Commands.{netlabel_says}
+use Rattle.call_report.specs.Says.{Says}
 use Rattle.report_lines.specs.Denial.{Verdict, verdict_line}
-use Rattle.netlabel_run.specs.Report.{JudgeReport, absent, too_long, judged, packet_limit}
 use Rattle.call_report.specs.Report.{Report, late_report}
 use Rattle.report_lines.specs.Fixed.{packet_limit_line, usage_line}
-use Rattle.netlabel_run.specs.Status.{JudgeStatus}
-use Rattle.netlabel_run.specs.Stages.{HasStages, HasOutputs}
 use Rattle.call_report.specs.Stages.{reading_stage}
-use Rattle.netlabel_run.specs.Seen.{IsLawful, IsWhole}
 use Rattle.call_report.specs.Outside.{Outside}
 use Rattle.netlabel_run.specs.inside.Ending.{IsOnlyRead, Knows}
 use Rattle.netlabel_run.proofs.Endings.{IsDue}
@@ -29,7 +26,7 @@ is_there (Some octets) long = refl
 pub only_read : {T E : Type 0} (failed : E) (result : Result T E) (file : List ℕ) (old new : DepotState) → OnlyReads {T = T} {E = E} failed result file old new → IsOnlyRead old new
 only_read failed result file old new reads = record { told = reads.told; kept = reads.kept; creates = reads.creates; appends = reads.appends }
 
-pub knows_usage : (before after : Outside) → after.folder ≡ before.folder → after.stream.tells ≡ before.stream.tells → Knows None before after []
+pub knows_usage : (before after : Outside) → after.folder ≡ before.folder → after.stream.tells ≡ before.stream.tells → Knows (netlabel_says None) before after []
 knows_usage before after same told = record {
   begun = record { content = before.folder.held; told = λ _ name. refl; are = refl; flows = refl };
   outputs = refl;
@@ -42,10 +39,10 @@ knows_usage before after same told = record {
 }
 
 -- a call that reads the file that its words name, and has no flows
-pub knows_reading : (request : Option Command) (file : List ℕ) (before after : Outside) → HasStages request before.folder.held [] (reading_stage file ∷ [])
-    → HasOutputs request before.folder.held [] [] → IsLawful request before.folder.held [] → IsOnlyRead before.folder after.folder → after.stream.tells ≡ before.stream.tells
-    → Knows request before after (reading_stage file ∷ [])
-knows_reading request file before after stages outputs lawful reads told = record {
+pub knows_reading : (says : Says) (file : List ℕ) (before after : Outside) → says.stages before.folder.held [] (reading_stage file ∷ [])
+    → says.outputs before.folder.held [] [] → says.lawful before.folder.held [] → IsOnlyRead before.folder after.folder → after.stream.tells ≡ before.stream.tells
+    → Knows says before after (reading_stage file ∷ [])
+knows_reading says file before after stages outputs lawful reads told = record {
   begun = record { content = before.folder.held; told = λ _ name. refl; are = stages; flows = refl };
   outputs = outputs;
   lawful = lawful;
@@ -62,15 +59,15 @@ usage_due before = record {
   form = λ e. refl;
   usage = λ e. (refl, refl);
   has = λ told. refl;
-  may = (λ name. None, refl);
+  may = refl;
   parts = λ told. record { report = late_report [] usage_line; has = refl; body = refl; last = refl };
   last = λ e. absurd (omega (arith, e));
   whole = λ told. refl;
 }
 
 module _ (doi : ℕ) (level : Label) (file : List ℕ) (before : Outside) where
-  pub knows_judge : (after : Outside) → IsOnlyRead before.folder after.folder → after.stream.tells ≡ before.stream.tells → Knows (Some (Judge doi level file)) before after (reading_stage file ∷ [])
-  knows_judge after reads told = knows_reading (Some (Judge doi level file)) file before after refl refl refl reads told
+  pub knows_judge : (after : Outside) → IsOnlyRead before.folder after.folder → after.stream.tells ≡ before.stream.tells → Knows (netlabel_says (Some (Judge doi level file))) before after (reading_stage file ∷ [])
+  knows_judge after reads told = knows_reading (netlabel_says (Some (Judge doi level file))) file before after refl refl refl reads told
 
   pub limit_due : (IsTrue before.folder.tells → packet_limit < length (octets_of (before.folder.held file)))
       → IsDue (Some (Judge doi level file)) before Limit [] packet_limit_line

@@ -28,13 +28,12 @@ use Rattle.script_run.specs.Ends.{flow_in_hand, last_of, InputRose, OutputRose, 
 use Rattle.script_run.proofs.Law.{runs_are_determined, done_flows_have_status_0, events_have_their_status}
 use Rattle.netlabel_run.specs.declared.command.Command.{Command}
 use Rattle.netlabel_run.specs.declared.command.Command.TheVariants.{Run}
-use Rattle.netlabel_run.specs.Check.{script_read, script_stop_status}
+use Rattle.call_report.specs.CallEnds.{CallEnds, HasBegun, EndsWith, Prints, Leaves, IsClean, IsRefusal, IsWritten, StopsInBody}
+use Rattle.call_report.specs.Says.{Says}
+use Rattle.netlabel_run.specs.ScriptFile.{script_read, script_stop_status, ByAnswer, ByScript}
+use Rattle.netlabel_run.specs.Run.{AreItsRuns, RunMay, flow_stage}
+use Rattle.netlabel_run.specs.Commands.{netlabel_says}
 use Rattle.report_lines.specs.Script.{script_stop_line}
-use Rattle.netlabel_run.specs.Run.{ByAnswer, ByScript, AreItsRuns, RunMay, flow_stage}
-use Rattle.netlabel_run.specs.Seen.{IsLawful, IsWhole}
-use Rattle.netlabel_run.specs.Report.{HasReport}
-use Rattle.netlabel_run.specs.Status.{HasStatus, IsPossible, IsRefusal}
-use Rattle.netlabel_run.specs.CallEnds.{CallEnds, HasBegun, EndsWith, Prints, Leaves, IsClean, IsWritten, StopsInBody}
 use Rattle.netlabel_run.specs.inside.Ending.{IsOnlyRead, ReadsScript}
 use Rattle.netlabel_run.proofs.Access.{has_access}
 use Rattle.netlabel_run.proofs.Endings.{front_behind, part_of_line, printed_body}
@@ -168,13 +167,16 @@ module _ (file : List ℕ) (workers : ℕ) (before : Outside) (folder : DepotSta
   abbrev asked : Option Command
   asked = Some (Run file workers)
 
+  abbrev says : Says
+  says = netlabel_says asked
+
   abbrev stages : List Stage
   stages = reading_stage file ∷ map flow_stage (take (length seen) script.flows)
 
   abbrev hand : Option FlowLine
   hand = flow_in_hand script seen
 
-  begun : HasBegun asked before.folder seen stages
+  begun : HasBegun says before.folder seen stages
   begun = record {
     content = content_of before.folder.tells before.folder.held text;
     told = content_told before.folder.tells before.folder.held text;
@@ -239,17 +241,17 @@ module _ (file : List ℕ) (workers : ℕ) (before : Outside) (folder : DepotSta
     abbrev report : Report
     report = runs_report script has.runs
 
-    has_report : HasReport asked before.folder.held seen report
+    has_report : says.report before.folder.held seen report
     has_report = as_script file (before.folder.held file) text script (holds told) is _ _ _ (has.runs, are, refl)
 
-    with_status : (n : ℕ) → FlowsStatus before.folder.held 1 packets_limit script.flows n → HasStatus asked before.folder.held n
+    with_status : (n : ℕ) → FlowsStatus before.folder.held 1 packets_limit script.flows n → says.status before.folder.held n
     with_status n status = as_script file (before.folder.held file) text script (holds told) is _ _ _ status
 
-    by_event : (n : ℕ) → EndsBy n has.runs → HasStatus asked before.folder.held n
+    by_event : (n : ℕ) → EndsBy n has.runs → says.status before.folder.held n
     by_event n by = with_status n (subst (FlowsStatus before.folder.held 1 packets_limit script.flows) by.has (events_have_their_status script before.folder.held seen has.runs by.event are by.is))
 
     -- what is due has its status, or is a refusal
-    due_status : (due : Status) → IsDue script has.runs hand mid after due → HasStatus asked before.folder.held (status_number due) ⊎ IsRefusal (status_number due)
+    due_status : (due : Status) → IsDue script has.runs hand mid after due → says.status before.folder.held (status_number due) ⊎ IsRefusal (status_number due)
     due_status Done d = inl (with_status 0 (done_flows_have_status_0 script before.folder.held seen has.runs are d))
     due_status NoForm d = absurd d
     due_status WrongScript d = absurd d
@@ -260,7 +262,7 @@ module _ (file : List ℕ) (workers : ℕ) (before : Outside) (folder : DepotSta
     due_status Limit d = inl (by_event 7 d)
 
     abbrev Told : Status → Type 0
-    Told s = HasStatus asked before.folder.held (status_number s) ⊎ IsRefusal (status_number s)
+    Told s = says.status before.folder.held (status_number s) ⊎ IsRefusal (status_number s)
 
     status_due : Told status
     status_due = elim shown [
@@ -284,13 +286,13 @@ module _ (file : List ℕ) (workers : ℕ) (before : Outside) (folder : DepotSta
     due_prefix out = elim shown [ inl printed ↦ prefix_of (due_body script has.runs ends.due) (due_line script has.runs ends.due) ends.due status before.stream after.stream printed out | inr kept ↦ kept.front out ]
 
     part : IsTrue before.stream.tells → IsWritten [] before after
-        ⊎ ((r : Report) × HasReport asked before.folder.held seen r × WritesPrefix (report_text r) before.stream.written after.stream.written)
+        ⊎ ((r : Report) × says.report before.folder.held seen r × WritesPrefix (report_text r) before.stream.written after.stream.written)
     part out =
         let begins = report_begins script has.runs ends.due in
         inr (report, has_report, longer_prefix (due_body script has.runs ends.due ++ due_line script has.runs ends.due) begins.0 (report_text report) before.stream.written after.stream.written begins.1 (due_prefix out))
 
     body : IsTrue before.stream.tells → (IsRefusal (status_number status) → ⊥)
-        → (r : Report) × HasReport asked before.folder.held seen r × WritesPrefix r.last (before.stream.written ++ r.body) after.stream.written
+        → (r : Report) × says.report before.folder.held seen r × WritesPrefix r.last (before.stream.written ++ r.body) after.stream.written
     body out other = elim shown [
       | inl printed ↦
           let all = printed_body (due_body script has.runs ends.due) (due_line script has.runs ends.due) ends.due status before.stream after.stream printed other in
@@ -352,14 +354,14 @@ module _ (file : List ℕ) (workers : ℕ) (before : Outside) (folder : DepotSta
       so is = subst (λ (s : Status). IsClean stages before after (status_number s)) is clean
 
     -- every report of what was asked for has the same texts where a call of the folder can fail
-    pauses : (r : Report) → HasReport asked before.folder.held seen r → Contains r.pauses (pause_text script has.runs)
+    pauses : (r : Report) → says.report before.folder.held seen r → Contains r.pauses (pause_text script has.runs)
     pauses r has' =
         let h = from_script file (before.folder.held file) text script (holds told) is _ _ _ has' in
         let same : r ≡ report = h.2 ∙ ap (runs_report script) (runs_are_determined (plan_of script) before.folder.held 1 packets_limit script.flows seen h.0 has.runs h.1 are) in
         subst (λ (x : Report). Contains x.pauses (pause_text script has.runs)) (sym same) (contains_first (pause_text script has.runs))
 
     pause : IsTrue before.stream.tells → status_number status ≡ 3
-        → (t : List ℕ) × IsWritten t before after × ((r : Report) → HasReport asked before.folder.held seen r → Contains r.pauses t)
+        → (t : List ℕ) × IsWritten t before after × ((r : Report) → says.report before.folder.held seen r → Contains r.pauses t)
     pause out e =
         let read = is_by status ReadFault e in
         elim shown [
@@ -381,7 +383,7 @@ module _ (file : List ℕ) (workers : ℕ) (before : Outside) (folder : DepotSta
           | inr kept ↦ absurd (omega (arith, e, ap status_number kept.is))
         ]
 
-    stop : status_number status ≡ 4 → StopsInBody asked before after seen ⊎ AppendRose stages before after
+    stop : status_number status ≡ 4 → StopsInBody says before after seen ⊎ AppendRose stages before after
     stop e =
         let write = is_by status WriteFault e in
         elim shown [
@@ -405,7 +407,7 @@ module _ (file : List ℕ) (workers : ℕ) (before : Outside) (folder : DepotSta
           | inr kept ↦ inr (append_rose kept.due_is)
         ]
 
-    prints : Prints asked before after (status_number status) seen stages
+    prints : Prints says before after (status_number status) seen stages
     prints = record { whole = λ out clean. (report, has_report, (clean_ends clean).1 out); body = body; part = part; pause = pause; stop = stop }
 
     -- ---- files
@@ -419,7 +421,7 @@ module _ (file : List ℕ) (workers : ℕ) (before : Outside) (folder : DepotSta
     made_here : (output : Output) → IsMade output folder.held after.folder.held → IsMade output before.folder.held after.folder.held
     made_here output made = (made.0, λ none. made.1 none ∙ kept output.name)
 
-    leaves : Leaves asked before after (status_number status) seen stages
+    leaves : Leaves says before after (status_number status) seen stages
     leaves = record {
       outputs = runs_outputs has.runs;
       are = as_script file (before.folder.held file) text script (holds told) is _ _ _ (has.runs, are, refl);
@@ -433,15 +435,15 @@ module _ (file : List ℕ) (workers : ℕ) (before : Outside) (folder : DepotSta
       others = λ name none. has.others name (none_of_theirs has.runs name none) ∙ kept name;
     }
 
-    lawful : IsLawful asked before.folder.held seen
+    lawful : says.lawful before.folder.held seen
     lawful = as_script file (before.folder.held file) text script (holds told) is _ _ _ (has.runs, are, has.lawful)
 
-    whole : IsClean stages before after (status_number status) → IsWhole asked before.folder.held seen
+    whole : IsClean stages before after (status_number status) → says.whole before.folder.held seen
     whole clean = as_script file (before.folder.held file) text script (holds told) is _ _ _ (has.runs, are, (clean_ends clean).0.whole)
 
   -- ---- the call
 
-  possible : (s : Status) → IsCauseOf hand s mid after → IsPossible asked (status_number s) ⊎ IsRefusal (status_number s)
+  possible : (s : Status) → IsCauseOf hand s mid after → says.possible (status_number s) ⊎ IsRefusal (status_number s)
   possible Done cause = inl (text, subst (λ (r : Result Script ScriptStop). RunMay r 0) (sym is) (inl refl))
   possible NoForm cause = absurd cause
   possible WrongScript cause = absurd cause
@@ -451,7 +453,7 @@ module _ (file : List ℕ) (workers : ℕ) (before : Outside) (folder : DepotSta
   possible OutOfMemory cause = inr (inr (inr refl))
   possible Limit cause = inl (text, subst (λ (r : Result Script ScriptStop). RunMay r 7) (sym is) (inr (some_flow script seen cause, inr refl)))
 
-  with_ends : EndsWith asked before after (status_number status) seen stages
+  with_ends : EndsWith says asked before after (status_number status) seen stages
   with_ends = record {
     due = status_due;
     possible = possible status ends.cause;
@@ -466,7 +468,7 @@ module _ (file : List ℕ) (workers : ℕ) (before : Outside) (folder : DepotSta
     unmoved = λ e. none_failed (cause_of Done (is_by status Done e));
   }
 
-  pub run_ends : CallEnds asked before after (status_number status) seen
+  pub run_ends : CallEnds netlabel_says asked before after (status_number status) seen
   run_ends = record {
     stages = stages;
     begun = begun;
@@ -537,7 +539,7 @@ pauses_so file held (Some text) r h = pauses_by held (script_read file text) r h
 pub run_reads : (file : List ℕ) (workers : ℕ) → ReadsScript (Some (Run file workers)) file
 run_reads file workers = record {
   form = λ e. absurd cc;
-  knows = λ before after reads told. knows_reading (Some (Run file workers)) file before after
+  knows = λ before after reads told. knows_reading (netlabel_says (Some (Run file workers))) file before after
       (of_each file _ _ _ refl (λ why. refl) (λ script. refl) (before.folder.held file))
       (of_each file _ _ _ refl (λ why. refl) (λ script. ([], tt, refl)) (before.folder.held file))
       (of_each file _ _ _ refl (λ why. refl) (λ script. ([], tt, All-nil (IsLawfulRun script workers))) (before.folder.held file))

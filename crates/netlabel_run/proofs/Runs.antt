@@ -23,7 +23,7 @@ use Rattle.call_report.specs.Report.{report_text}
 use Rattle.call_report.specs.Event.{Event}
 use Rattle.call_report.specs.Numbers.{status_number}
 use Rattle.netlabel_run.specs.Run.{flow_stage}
-use Rattle.netlabel_run.specs.Status.{IsRefusal}
+use Rattle.call_report.specs.CallEnds.{IsRefusal}
 
 -- ---- another folder with the same content
 

@@ -21,11 +21,9 @@ use Rattle.call_report.specs.Stages.{reading_stage}
 use Rattle.call_report.specs.Outside.{Outside}
 use Rattle.call_report.specs.Printing.{Printed}
 use Rattle.netlabel_run.specs.declared.command.Command.{Command}
-use Rattle.netlabel_run.specs.Check.{script_read, script_stop_status}
-use Rattle.netlabel_run.specs.Report.{HasReport}
-use Rattle.netlabel_run.specs.Status.{HasStatus, IsPossible}
-use Rattle.netlabel_run.specs.Seen.{IsWhole}
-use Rattle.netlabel_run.specs.CallEnds.{CallEnds}
+use Rattle.call_report.specs.CallEnds.{CallEnds}
+use Rattle.netlabel_run.specs.ScriptFile.{script_read, script_stop_status}
+use Rattle.netlabel_run.specs.Commands.{netlabel_says}
 use Rattle.netlabel_run.specs.inside.Stopping.{script_due}
 use Rattle.netlabel_run.specs.inside.Ending.{IsOnlyRead, Knows, ReadsScript}
 use Rattle.netlabel_run.proofs.Endings.{ends_printed, ends_stopped_short, ends_unread, ends_unprinted}
@@ -46,20 +44,20 @@ module _ (asked : Option Command) (file : List ℕ) (asks : ReadsScript asked fi
   abbrev Reads : ScriptStop → Type 0
   Reads why = IsTrue before.folder.tells → (text : List ℕ) × (before.folder.held file ≡ Some text) × (script_read file text ≡ Err why)
 
-  abbrev known : Knows asked before after (reading_stage file ∷ [])
+  abbrev known : Knows (netlabel_says asked) before after (reading_stage file ∷ [])
   known = asks.knows before after reads stream
 
   refused_by : (like : List ℕ) (why : ScriptStop) (due : Status) (status : Status) → script_read file like ≡ Err why → Reads why
       → status_number due ≡ script_stop_status why → (status_number due ≢ 3) × (status_number due ≢ 4) × (status_number due ≢ 6) → status_number due ≢ 1 → status_number due ≢ 0
-      → SameCounts before.folder.reads after.folder.reads → Printed [] (script_stop_line why) due status before.stream after.stream → CallEnds asked before after (status_number status) []
+      → SameCounts before.folder.reads after.folder.reads → Printed [] (script_stop_line why) due status before.stream after.stream → CallEnds netlabel_says asked before after (status_number status) []
   refused_by like why due status may read is event not_1 not_0 counts printed =
       ends_printed asked before after (reading_stage file ∷ []) known due [] (script_stop_line why)
       (record {
         event = event;
         form = λ e. absurd (not_1 e);
         usage = λ e. absurd (asks.form e);
-        has = λ told. let r = read told in subst (HasStatus asked before.folder.held) (sym is) (asks.refused before.folder.held r.0 why r.1 r.2).status;
-        may = subst (IsPossible asked) (sym is) (asks.may like why may);
+        has = λ told. let r = read told in subst ((netlabel_says asked).status before.folder.held) (sym is) (asks.refused before.folder.held r.0 why r.1 r.2).status;
+        may = subst (netlabel_says asked).possible (sym is) (asks.may like why may);
         parts = λ told.
             let r = read told in
             record { report = late_report [] (script_stop_line why); has = (asks.refused before.folder.held r.0 why r.1 r.2).report; body = refl; last = refl };
@@ -70,7 +68,7 @@ module _ (asked : Option Command) (file : List ℕ) (asks : ReadsScript asked fi
 
   -- the text is no script
   pub ends_refused : SameCounts before.folder.reads after.folder.reads → (text : List ℕ) (why : ScriptStop) (status : Status) → (IsTrue before.folder.tells → before.folder.held file ≡ Some text) → IsScriptStop with_translations file text why
-      → Printed [] (script_stop_line why) (script_due why) status before.stream after.stream → CallEnds asked before after (status_number status) []
+      → Printed [] (script_stop_line why) (script_due why) status before.stream after.stream → CallEnds netlabel_says asked before after (status_number status) []
   ends_refused counts text (stop.Fault fault) status holds is printed =
       refused_by text (stop.Fault fault) WrongScript status is (λ told. (text, holds told, is)) refl (λ e. omega (arith, e), λ e. omega (arith, e), λ e. omega (arith, e)) (λ e. omega (arith, e)) (λ e. omega (arith, e)) counts printed
   ends_refused counts text (stop.Limit what number) status holds is printed =
@@ -83,13 +81,13 @@ module _ (asked : Option Command) (file : List ℕ) (asks : ReadsScript asked fi
 
   -- the file has more octets than a script may have
   pub ends_too_long : SameCounts before.folder.reads after.folder.reads → (status : Status) → (IsTrue before.folder.tells → 1048576 < length (octets_of (before.folder.held file)))
-      → Printed [] (limit_line Octets 1048576) Limit status before.stream after.stream → CallEnds asked before after (status_number status) []
+      → Printed [] (limit_line Octets 1048576) Limit status before.stream after.stream → CallEnds netlabel_says asked before after (status_number status) []
   ends_too_long counts status long printed =
       refused_by (zeros 1048577) (stop.Limit Octets 1048576) Limit status (too_long_by (zeros 1048577) file (omega (arith, length-zeros 1048577)))
       (λ told. there (before.folder.held file) (long told)) refl (λ e. omega (arith, e), λ e. omega (arith, e), λ e. omega (arith, e)) (λ e. omega (arith, e)) (λ e. omega (arith, e)) counts printed
 
   -- it couldn't be read
-  pub ends_without_script : after.stream ≡ before.stream → Rose (before.folder.reads file) (after.folder.reads file) → CallEnds asked before after 3 []
+  pub ends_without_script : after.stream ≡ before.stream → Rose (before.folder.reads file) (after.folder.reads file) → CallEnds netlabel_says asked before after 3 []
   ends_without_script same rose =
       ends_unread asked before after (reading_stage file ∷ []) known
       [] asks.form (record { name = file; counted = inl refl; rose = rose }) (ap (λ (s : SinkState). s.faults) same)
@@ -97,5 +95,5 @@ module _ (asked : Option Command) (file : List ℕ) (asks : ReadsScript asked fi
       (λ told report has. asks.pauses before.folder.held report has) (λ late. refl)
 
   -- nor was there memory for it
-  pub ends_without_room : SameCounts before.folder.reads after.folder.reads → after.stream ≡ before.stream → CallEnds asked before after 6 []
+  pub ends_without_room : SameCounts before.folder.reads after.folder.reads → after.stream ≡ before.stream → CallEnds netlabel_says asked before after 6 []
   ends_without_room counts same = ends_unprinted asked before after (reading_stage file ∷ []) known counts same

@@ -19,11 +19,9 @@ use Rattle.pcap_frames.proofs.Law.{records_come_one_behind_another, a_written_ca
 use Rattle.report_lines.specs.Packet.{shown_line, shown_end_line, IsShown}
 use Rattle.report_lines.specs.Capture.{capture_line}
 use Rattle.report_lines.specs.Fixed.{packets_limit_line}
-use Rattle.netlabel_run.specs.Show.{AreShown}
+use Rattle.netlabel_run.specs.Show.{AreShown, starts_of, lines_report, CaptureReport, ShowReport, capture_status}
 use Rattle.call_report.specs.Event.{Event, packets_limit, capture_event}
-use Rattle.netlabel_run.specs.Report.{starts_of, lines_report, CaptureReport, ShowReport}
 use Rattle.call_report.specs.Report.{Report, late_report}
-use Rattle.netlabel_run.specs.Status.{capture_status}
 use Rattle.netlabel_run.proofs.Answer.{some_lines, lines_join, concat-append}
 
 -- the records from a place on

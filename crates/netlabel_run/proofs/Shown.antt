@@ -24,12 +24,12 @@ use Rattle.report_lines.specs.Packet.{shown_line, shown_end_line, IsShown}
 use Rattle.report_lines.specs.Capture.{capture_line}
 use Rattle.report_lines.specs.Fixed.{packets_limit_line}
 use Rattle.call_report.specs.Event.{Event, packets_limit}
-use Rattle.netlabel_run.specs.Report.{HasReport, PrintsLate, lines_report, CaptureReport, ShowReport}
+use Rattle.call_report.specs.CallEnds.{CallEnds}
+use Rattle.netlabel_run.specs.Show.{lines_report, CaptureReport, ShowReport, ShowStatus, capture_status, show_says}
+use Rattle.netlabel_run.specs.Commands.{netlabel_says}
 use Rattle.call_report.specs.Report.{Folder, Report, late_report}
-use Rattle.netlabel_run.specs.Status.{HasStatus, ShowStatus, capture_status}
 use Rattle.call_report.specs.Stages.{reading_stage}
 use Rattle.call_report.specs.Outside.{Outside}
-use Rattle.netlabel_run.specs.CallEnds.{CallEnds}
 use Rattle.call_report.specs.Numbers.{status_number, write_status}
 use Rattle.call_report.specs.Printing.{HandsOn, IsUnderWay, Printed}
 use Rattle.netlabel_run.specs.inside.Stopping.{stop_line, stop_status}
@@ -81,15 +81,15 @@ module _ (file : List ℕ) where
   has_form : asked ≡ None → ⊥
   has_form e = absurd cc
 
-  knows_show : (before after : Outside) → IsOnlyRead before.folder after.folder → after.stream.tells ≡ before.stream.tells → Knows asked before after (reading_stage file ∷ [])
-  knows_show before after reads told = knows_reading asked file before after refl refl refl reads told
+  knows_show : (before after : Outside) → IsOnlyRead before.folder after.folder → after.stream.tells ≡ before.stream.tells → Knows (show_says file) before after (reading_stage file ∷ [])
+  knows_show before after reads told = knows_reading (show_says file) file before after refl refl refl reads told
 
   -- it doesn't wait for the capture's end before it prints
-  not_late : PrintsLate asked [] → ⊥
+  not_late : (show_says file).late [] → ⊥
   not_late late = late
 
   -- a front of a told capture's report begins the report of the call
-  front_begins : (held : Folder) (octets text : List ℕ) → held file ≡ Some octets → HasFront octets text → Begins asked held text
+  front_begins : (held : Folder) (octets text : List ℕ) → held file ≡ Some octets → HasFront octets text → Begins (show_says file) held text
   front_begins held octets text is front = record {
     report = front.report;
     has = subst (λ (f : Option (List ℕ)). ShowReport f front.report) (sym is) front.has;
@@ -99,7 +99,7 @@ module _ (file : List ℕ) where
 
   -- what is due of a capture, by its body, the event's line and the status that is told
   show_due : (before : Outside) (due : Status) (body last octets' : List ℕ) → status_number due ≡ capture_status (capture_of octets') → (status_number due ≡ 3 → ⊥) → (status_number due ≡ 4 → ⊥) → (status_number due ≡ 6 → ⊥) → (status_number due ≡ 1 → ⊥)
-      → (status_number due ≡ 0 → last ≡ []) → (IsTrue before.folder.tells → HasStatus asked before.folder.held (status_number due)) → (IsTrue before.folder.tells → HasParts asked before.folder.held body last) → IsDue asked before due body last
+      → (status_number due ≡ 0 → last ≡ []) → (IsTrue before.folder.tells → (show_says file).status before.folder.held (status_number due)) → (IsTrue before.folder.tells → HasParts (show_says file) before.folder.held body last) → IsDue asked before due body last
   show_due before due body last octets' may not_3 not_4 not_6 not_1 done has parts = record {
     event = (not_3, not_4, not_6);
     form = λ e. absurd (not_1 e);
@@ -113,10 +113,10 @@ module _ (file : List ℕ) where
 
   -- the report of a capture that ends so
   module _ (held : Folder) (octets : List ℕ) (is : held file ≡ Some octets) (header : CaptureHeader) (frames : List Frame) (event : Option Event) (ends : Ends octets header frames event) where
-    ends_due : HasStatus asked held (option_map_or (λ (e : Event). e.status) event 0)
+    ends_due : (show_says file).status held (option_map_or (λ (e : Event). e.status) event 0)
     ends_due = subst (λ (f : Option (List ℕ)). ShowStatus f (option_map_or (λ (e : Event). e.status) event 0)) (sym is) (ends_status octets header frames event ends)
 
-    ends_has : (lines : List (List ℕ)) → CaptureReport (capture_of octets) (lines_report lines event) → HasReport asked held [] (lines_report lines event)
+    ends_has : (lines : List (List ℕ)) → CaptureReport (capture_of octets) (lines_report lines event) → (show_says file).report held [] (lines_report lines event)
     ends_has lines report = subst (λ (f : Option (List ℕ)). ShowReport f (lines_report lines event)) (sym is) report
 
 -- ---- in front of a record
@@ -164,19 +164,19 @@ module _ (file : List ℕ) (before now after : Outside) (reader : Reader) (waiti
       let held : now.folder.held reader.name ≡ Some (showing.told told).0 = showing.same.kept told reader.name ∙ ap before.folder.held showing.name ∙ (showing.told told).1 in
       subst (Answers octets result) (ap octets_of held) (answer (subst IsTrue (sym showing.same.told) told))
 
-  begins : IsTrue before.folder.tells → Begins (asked file) before.folder.held showing.text
+  begins : IsTrue before.folder.tells → Begins (show_says file) before.folder.held showing.text
   begins told =
       let t = showing.told told in
       front_begins file before.folder.held t.0 showing.text t.1 (has_front t.0 reader.header reader.place n showing.text t.2 showing.few)
 
-  pauses : IsTrue before.folder.tells → (report : Report) → HasReport (asked file) before.folder.held [] report → Contains report.pauses showing.text
+  pauses : IsTrue before.folder.tells → (report : Report) → (show_says file).report before.folder.held [] report → Contains report.pauses showing.text
   pauses told report has =
       let t = showing.told told in
       let front = has_front t.0 reader.header reader.place n showing.text t.2 showing.few in
       let mine : ShowReport (before.folder.held file) front.report = subst (λ (f : Option (List ℕ)). ShowReport f front.report) (sym t.1) front.has in
       subst (λ (r : Report). Contains r.pauses showing.text) (show_report_once (before.folder.held file) front.report report mine has) (front_pauses t.0 reader.header reader.place n showing.text t.2 showing.few)
 
-  knows : (result : Result (Option FrameHead) FrameStop) → Reads result → after.stream.tells ≡ now.stream.tells → Knows (asked file) before after (reading_stage file ∷ [])
+  knows : (result : Result (Option FrameHead) FrameStop) → Reads result → after.stream.tells ≡ now.stream.tells → Knows (show_says file) before after (reading_stage file ∷ [])
   knows result reads told = knows_show file before after (only result reads) (told ∙ showing.way.told)
 
   -- no read has failed but where the reader tells that one has
@@ -185,24 +185,24 @@ module _ (file : List ℕ) (before now after : Outside) (reader : Reader) (waiti
 
   -- the parts of a report whose event is known
   parts : (event : Option Event) → ((told : IsTrue before.folder.tells) → Ends (showing.told told).0 reader.header (showing.told told).2.frames event) → (told : IsTrue before.folder.tells)
-      → HasReport (asked file) before.folder.held [] (lines_report (showing.told told).2.lines event)
+      → (show_says file).report before.folder.held [] (lines_report (showing.told told).2.lines event)
   parts event ends told =
       let t = showing.told told in
       let amid = t.2 in
       ends_has file before.folder.held t.0 t.1 reader.header amid.frames event (ends told) amid.lines (ends_report t.0 reader.header amid.frames amid.lines event (ends told) amid.are)
 
   due : (event : Option Event) → ((told : IsTrue before.folder.tells) → Ends (showing.told told).0 reader.header (showing.told told).2.frames event) → IsTrue before.folder.tells
-      → HasStatus (asked file) before.folder.held (option_map_or (λ (e : Event). e.status) event 0)
+      → (show_says file).status before.folder.held (option_map_or (λ (e : Event). e.status) event 0)
   due event ends told = let t = showing.told told in ends_due file before.folder.held t.0 t.1 reader.header t.2.frames event (ends told)
 
   -- the capture's end
   pub ends_at_end : (octets : List ℕ) (status : Status) → Reads (Ok None) → (IsTrue now.folder.tells → Answers octets (Ok None) (octets_of (now.folder.held reader.name)))
-      → Printed (waiting ++ shown_end_line n) [] Done status now.stream after.stream → CallEnds (asked file) before after (status_number status) []
+      → Printed (waiting ++ shown_end_line n) [] Done status now.stream after.stream → CallEnds netlabel_says (asked file) before after (status_number status) []
   ends_at_end octets status reads answer printed =
       let end = shown_end_line n in
       let whole : (told : IsTrue before.folder.tells) → Ends (showing.told told).0 reader.header (showing.told told).2.frames None =
       λ told. let t = showing.told told in ends_whole t.0 reader.header reader.place n showing.text t.2 showing.few (said octets (Ok None) answer told) in
-      let has : IsTrue before.folder.tells → HasParts (asked file) before.folder.held (showing.text ++ end) [] = λ told.
+      let has : IsTrue before.folder.tells → HasParts (show_says file) before.folder.held (showing.text ++ end) [] = λ told.
       let amid = (showing.told told).2 in
       let count : length amid.lines ≡ n = lines_count reader.header.link 1 amid.frames amid.lines amid.are ∙ amid.count in
       record { report = lines_report amid.lines None; has = parts None whole told; body = λ i. sym amid.is i ++ shown_end_line (count i); last = refl } in
@@ -215,10 +215,10 @@ module _ (file : List ℕ) (before now after : Outside) (reader : Reader) (waiti
   ends_by : (result : Result (Option FrameHead) FrameStop) (kind : Status) (line octets' : List ℕ) (status : Status) → Reads result → (IsErrOf result stop.ReadFault → ⊥)
       → status_number kind ≡ capture_status (capture_of octets') → (status_number kind ≡ 3 → ⊥) → (status_number kind ≡ 4 → ⊥) → (status_number kind ≡ 6 → ⊥) → (status_number kind ≡ 1 → ⊥) → (status_number kind ≡ 0 → ⊥)
       → ((told : IsTrue before.folder.tells) → Ends (showing.told told).0 reader.header (showing.told told).2.frames (Some (record { status = status_number kind; line = line })))
-      → Printed waiting line kind status now.stream after.stream → CallEnds (asked file) before after (status_number status) []
+      → Printed waiting line kind status now.stream after.stream → CallEnds netlabel_says (asked file) before after (status_number status) []
   ends_by result kind line octets' status reads other may not_3 not_4 not_6 not_1 not_0 ends printed =
       let event : Option Event = Some (record { status = status_number kind; line = line }) in
-      let has : IsTrue before.folder.tells → HasParts (asked file) before.folder.held showing.text line = λ told.
+      let has : IsTrue before.folder.tells → HasParts (show_says file) before.folder.held showing.text line = λ told.
       let amid = (showing.told told).2 in
       record { report = lines_report amid.lines event; has = parts event ends told; body = sym amid.is; last = refl } in
       ends_printed (asked file) before after (reading_stage file ∷ []) (knows result reads printed.told) kind showing.text line
@@ -228,7 +228,7 @@ module _ (file : List ℕ) (before now after : Outside) (reader : Reader) (waiti
 
   -- one packet too many
   pub ends_at_limit : (head : FrameHead) (octets : List ℕ) (status : Status) → n ≡ packets_limit → Reads (Ok (Some head)) → (IsTrue now.folder.tells → Answers octets (Ok (Some head)) (octets_of (now.folder.held reader.name)))
-      → Printed waiting packets_limit_line Limit status now.stream after.stream → CallEnds (asked file) before after (status_number status) []
+      → Printed waiting packets_limit_line Limit status now.stream after.stream → CallEnds netlabel_says (asked file) before after (status_number status) []
   ends_at_limit head octets status full reads answer printed =
       ends_by (Ok (Some head)) Limit packets_limit_line (capture_with 1048577) status reads (λ failed. absurd cc) full_status (λ e. omega (arith, e)) (λ e. omega (arith, e)) (λ e. omega (arith, e)) (λ e. omega (arith, e)) (λ e. omega (arith, e))
       (λ told. let t = showing.told told in ends_full t.0 reader.header reader.place n showing.text t.2 showing.few (record { head = head; octets = octets }) full (said octets (Ok (Some head)) answer told))
@@ -236,7 +236,7 @@ module _ (file : List ℕ) (before now after : Outside) (reader : Reader) (waiti
 
   -- the reader has stopped
   pub ends_at_stop : (why : FrameStop) (octets : List ℕ) (status : Status) → Reads (Err why) → (IsTrue now.folder.tells → Answers octets (Err why) (octets_of (now.folder.held reader.name)))
-      → Printed waiting (stop_line why) (stop_status why) status now.stream after.stream → CallEnds (asked file) before after (status_number status) []
+      → Printed waiting (stop_line why) (stop_status why) status now.stream after.stream → CallEnds netlabel_says (asked file) before after (status_number status) []
   ends_at_stop (stop.Capture fault) octets status reads answer printed =
       ends_by (Err (stop.Capture fault)) WrongCapture (capture_line 1 fault) [] status reads (λ failed. absurd cc) empty_is_broken (λ e. omega (arith, e)) (λ e. omega (arith, e)) (λ e. omega (arith, e)) (λ e. omega (arith, e)) (λ e. omega (arith, e))
       (λ told. let t = showing.told told in ends_broken t.0 reader.header reader.place n showing.text t.2 showing.few fault (said octets (Err (stop.Capture fault)) answer told))
@@ -277,7 +277,7 @@ module _ (file : List ℕ) (before now after : Outside) (reader : Reader) (waiti
   }
 
   write_front : (head : FrameHead) (octets s : List ℕ) → n < packets_limit → (IsTrue now.folder.tells → Answers octets (Ok (Some head)) (octets_of (now.folder.held reader.name))) → IsShown reader.header.link octets s
-      → IsTrue before.folder.tells → Begins (asked file) before.folder.held (showing.text ++ shown_line (n + 1) s)
+      → IsTrue before.folder.tells → Begins (show_says file) before.folder.held (showing.text ++ shown_line (n + 1) s)
   write_front head octets s few answer shown told =
       let t = showing.told told in
       let line = shown_line (n + 1) s in
@@ -288,7 +288,7 @@ module _ (file : List ℕ) (before now after : Outside) (reader : Reader) (waiti
   -- or was not
   pub ends_at_write : {T : Type 0} (head : FrameHead) (octets s still : List ℕ) (fault : IoFault) → n < packets_limit → Reads (Ok (Some head))
       → (IsTrue now.folder.tells → Answers octets (Ok (Some head)) (octets_of (now.folder.held reader.name))) → IsShown reader.header.link octets s
-      → HandsOn {T = T} (shown_line (n + 1) s) waiting still (Err fault) now.stream after.stream → CallEnds (asked file) before after (status_number (write_status fault)) []
+      → HandsOn {T = T} (shown_line (n + 1) s) waiting still (Err fault) now.stream after.stream → CallEnds netlabel_says (asked file) before after (status_number (write_status fault)) []
   ends_at_write head octets s still Failed few reads answer shown hands =
       let line = shown_line (n + 1) s in
       ends_unwritten (asked file) before after (reading_stage file ∷ []) (knows (Ok (Some head)) reads hands.told) (showing.text ++ line) (has_form file)
@@ -306,12 +306,12 @@ module _ (file : List ℕ) (before now after : Outside) (reader : Reader) (waiti
 -- ---- a capture that can't be begun
 
 module _ (file : List ℕ) (before after : Outside) where
-  any_begins : IsTrue before.folder.tells → Begins (asked file) before.folder.held []
+  any_begins : IsTrue before.folder.tells → Begins (show_says file) before.folder.held []
   any_begins told = let r = some_report (before.folder.held file) in record { report = r.0; has = r.1; rest = r.0.body; body = refl }
 
   pub ends_unbegun : {T : Type 0} (shown : T → CaptureHeader) (why : FrameStop) (status : Status) → OnlyReads {T = T} stop.ReadFault (Err why) file before.folder after.folder
       → (IsTrue before.folder.tells → IsAnswerOf shown (Err why) (capture_header (octets_of (before.folder.held file)))) → (IsTrue before.folder.tells → SpeaksOf {T = T} (before.folder.held file) (Err why))
-      → Printed [] (stop_line why) (stop_status why) status before.stream after.stream → CallEnds (asked file) before after (status_number status) []
+      → Printed [] (stop_line why) (stop_status why) status before.stream after.stream → CallEnds netlabel_says (asked file) before after (status_number status) []
   ends_unbegun shown (stop.Capture fault) status reads answer there printed =
       let octets = octets_of (before.folder.held file) in
       let is : IsTrue before.folder.tells → before.folder.held file ≡ Some octets = λ told. header_there (before.folder.held file) (there told) in

@@ -1,27 +1,23 @@
 -- What is true of the definitions alone.
-use Rattle.std.specs.Prelude.{◌≡◌, ◌<◌, ℕ, List, All, Option, Some}
+use Rattle.std.specs.Prelude.{◌≡◌, ◌<◌, ℕ, List, All}
 use Rattle.flow_lines.specs.declared.flow.FlowLine.{FlowLine}
-use Rattle.netlabel_run.specs.declared.command.Command.{Command}
-use Rattle.netlabel_run.specs.declared.command.Command.TheVariants.{Run}
-use Rattle.netlabel_run.specs.Report.{HasReport}
 use Rattle.call_report.specs.Report.{Folder, Versions, Report}
 use Rattle.call_report.specs.Output.{Output}
-use Rattle.netlabel_run.specs.Status.{HasStatus}
-use Rattle.netlabel_run.specs.Stages.{HasStages, HasOutputs}
-use Rattle.netlabel_run.specs.Seen.{IsLawful, IsWhole}
-use Rattle.netlabel_run.specs.Run.{ByScript}
+use Rattle.call_report.specs.Says.{Says}
 use Rattle.script_run.specs.Runs.{HasNoneBeside}
+use Rattle.netlabel_run.specs.ScriptFile.{ByScript}
+use Rattle.netlabel_run.specs.Run.{run_says}
 
 -- at most one value is of the kind
 abbrev pub IsOne : {A : Type 0} → (A → Type 0) → Type 0
 IsOne {A} P = (a b : A) → P a → P b → a ≡ b
 
--- what words ask for has one status, one report, one list of stages and one of outputs at most
-pub record IsDetermined (request : Option Command) (held : Folder) (seen : Versions) : Type 0 where
-  pub status : IsOne (HasStatus request held)
-  pub report : IsOne (HasReport request held seen)
-  pub stages : IsOne (HasStages request held seen)
-  pub outputs : IsOne (HasOutputs request held seen)
+-- there is one status, one report, one list of stages and one of outputs at most
+pub record IsDetermined (says : Says) (held : Folder) (seen : Versions) : Type 0 where
+  pub status : IsOne (says.status held)
+  pub report : IsOne (says.report held seen)
+  pub stages : IsOne (says.stages held seen)
+  pub outputs : IsOne (says.outputs held seen)
 
 -- where the file holds a script, none of its commands stands beside a flow
 abbrev pub HasNoCommandBeside : List ℕ → Folder → Type 0
@@ -37,7 +33,7 @@ pub record IsAnswer (file : List ℕ) (held : Folder) (report : Report) (outputs
   pub workers : ℕ
   pub some : 0 < workers
   pub seen : Versions
-  pub lawful : IsLawful (Some (Run file workers)) held seen
-  pub whole : IsWhole (Some (Run file workers)) held seen
-  pub prints : HasReport (Some (Run file workers)) held seen report
-  pub makes : HasOutputs (Some (Run file workers)) held seen outputs
+  pub lawful : (run_says file workers).lawful held seen
+  pub whole : (run_says file workers).whole held seen
+  pub prints : (run_says file workers).report held seen report
+  pub makes : (run_says file workers).outputs held seen outputs

@@ -1,12 +1,10 @@
 pub mod Words
-pub mod Verdict
+pub mod Usage
+pub mod ScriptFile
+pub mod Judge
 pub mod Check
 pub mod Show
 pub mod Run
-pub mod Report
-pub mod Status
-pub mod Stages
-pub mod Seen
-pub mod CallEnds
+pub mod Commands
 pub mod Laws
 pub mod inside

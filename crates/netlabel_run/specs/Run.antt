@@ -1,5 +1,5 @@
--- What `run` does with what its file holds.
-use Rattle.std.specs.Prelude.{ℕ, ◌≡◌, ◌⊎◌, ◌<◌, ◌≤◌, List, [], ◌∷◌, length, take, map, All, Option, Some, None, Result, Ok, Err}
+-- `run`: the commands and flows of a script.
+use Rattle.std.specs.Prelude.{ℕ, ◌≡◌, ◌⊎◌, ◌<◌, List, [], ◌∷◌, length, take, map, All, Some, Result, Ok, Err}
 use Rattle.label_commands.specs.declared.script.Script.{Script}
 use Rattle.label_commands.specs.declared.stop.ScriptStop.{ScriptStop}
 use Rattle.flow_lines.specs.declared.flow.FlowLine.{FlowLine}
@@ -13,17 +13,8 @@ use Rattle.flow_run.specs.Input.{packets_in}
 use Rattle.flow_run.specs.Run.{FlowRun}
 use Rattle.script_run.specs.Runs.{plan_of, AreRuns, AreWholeRuns, IsLawfulRun, FlowsStatus}
 use Rattle.script_run.specs.Report.{runs_report, runs_outputs}
-use Rattle.netlabel_run.specs.Check.{script_read, script_stop_status}
-
--- by what is read of a text: no script, or one
-abbrev pub ByAnswer : Result Script ScriptStop → (ScriptStop → Type 0) → (Script → Type 0) → Type 0
-ByAnswer (Err stop) refused read = refused stop
-ByAnswer (Ok script) refused read = read script
-
--- by what the file holds: it is absent, or a text
-abbrev pub ByScript : List ℕ → Option (List ℕ) → Type 0 → (ScriptStop → Type 0) → (Script → Type 0) → Type 0
-ByScript file None absent refused read = absent
-ByScript file (Some text) absent refused read = ByAnswer (script_read file text) refused read
+use Rattle.call_report.specs.Says.{Says}
+use Rattle.netlabel_run.specs.ScriptFile.{script_read, ByScript, script_stop_status}
 
 -- the flows of a script have run so, under the versions that were printed
 abbrev pub AreItsRuns : Script → Folder → Versions → List FlowRun → Type 0
@@ -88,3 +79,17 @@ RunAccess file held seen = ByScript file (held file)
     (Unit {0})
     (λ stop. Unit {0})
     (λ script. (runs : List FlowRun) → AreItsRuns script held seen runs → All (HasRunAccess script) runs)
+
+-- a status is possible by what its script may hold; nothing is printed in front of its reads where it has begun no flow
+abbrev pub run_says : List ℕ → ℕ → Says
+run_says file workers = record {
+  report = RunReport file;
+  status = RunStatus file;
+  possible = λ status. (text : List ℕ) × RunMay (script_read file text) status;
+  stages = RunStages file;
+  outputs = RunOutputs file;
+  lawful = RunLawful file workers;
+  whole = RunWhole file;
+  access = RunAccess file;
+  late = λ seen. seen ≡ [];
+}

@@ -6,7 +6,8 @@ ghost use Rattle.netlabel_run.specs.declared.command.Command.TheVariants.{Check}
 ghost use Rattle.report_lines.specs.Script.{ok_line};
 ghost use Rattle.netlabel_run.specs.Check.{check_text};
 ghost use Rattle.call_report.specs.Outside.{Outside};
-ghost use Rattle.netlabel_run.specs.CallEnds.{CallEnds};
+ghost use Rattle.call_report.specs.CallEnds.{CallEnds};
+ghost use Rattle.netlabel_run.specs.Commands.{netlabel_says};
 ghost use Rattle.call_report.specs.Numbers.{status_number};
 ghost use Rattle.call_report.specs.Printing.{Printed};
 
@@ -28,9 +29,10 @@ pub(crate) fn check<D: Depot, S: Sink>(
     depot: &mut D,
     out: &mut S,
 ) -> Status
-    ensures { CallEnds (Some (Check file.now))
+    ensures { CallEnds netlabel_says (Some (Check file.now))
         (record { folder = D.state depot.old; stream = S.state out.old })
-        (record { folder = D.state depot.new; stream = S.state out.new }) (status_number result) [] }
+        (record { folder = D.state depot.new; stream = S.state out.new })
+        (status_number result) [] }
 {
     match script_of(alloc, file, depot, out) {
         Ok(script) => print_script(alloc, &script, out),
@@ -41,7 +43,8 @@ pub(crate) fn check<D: Depot, S: Sink>(
 /// Prints what the commands of a script answer, and how much it has.
 fn print_script<S: Sink>(alloc: Global, script: &Script, out: &mut S) -> Status
     requires { All (λ (step : StepValue). step.node < length script.now.nodes) script.now.steps }
-    ensures { Printed (check_text script.now) [] Status.Done result (S.state out.old) (S.state out.new) }
+    ensures { Printed (check_text script.now) [] Status.Done result
+        (S.state out.old) (S.state out.new) }
 {
     let names = script.nodes.as_slice();
     let mut network = match Network::fresh(alloc, names.len()) {
@@ -58,7 +61,9 @@ fn print_script<S: Sink>(alloc: Global, script: &Script, out: &mut S) -> Status
 
 /// Ends the report of a script whose commands were all carried out, with how much it has.
 fn end_checked<S: Sink>(script: &Script, report: Report, out: &mut S) -> Status
-    ensures { Printed (report.waiting.items ++ ok_line (length script.now.nodes) (length script.now.steps) (length script.now.flows)) [] Status.Done result (S.state out.old) (S.state out.new) }
+    ensures { Printed (report.waiting.items ++ ok_line
+        (length script.now.nodes) (length script.now.steps) (length script.now.flows))
+        [] Status.Done result (S.state out.old) (S.state out.new) }
 {
     let mut report = report;
     let nodes = script.nodes.len();

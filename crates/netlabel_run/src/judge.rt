@@ -2,10 +2,11 @@
 
 ghost use Rattle.std.specs.Prelude.{◌≡◌, ◌≤◌, ◌^◌, [], Some, IfOk};
 ghost use Rattle.netlabel_run.specs.declared.command.Command.TheVariants.{Judge};
-ghost use Rattle.netlabel_run.specs.Verdict.{IsVerdict};
+ghost use Rattle.netlabel_run.specs.Judge.{IsVerdict};
 ghost use Rattle.report_lines.specs.Denial.{Verdict, verdict_line};
 ghost use Rattle.call_report.specs.Outside.{Outside};
-ghost use Rattle.netlabel_run.specs.CallEnds.{CallEnds};
+ghost use Rattle.call_report.specs.CallEnds.{CallEnds};
+ghost use Rattle.netlabel_run.specs.Commands.{netlabel_says};
 ghost use Rattle.call_report.specs.Numbers.{status_number};
 
 use crate::verdict::judge_packet;
@@ -29,9 +30,10 @@ pub(crate) fn judge<D: Depot, S: Sink>(
     depot: &mut D,
     out: &mut S,
 ) -> Status
-    ensures { CallEnds (Some (Judge doi level.now file.now))
+    ensures { CallEnds netlabel_says (Some (Judge doi level.now file.now))
         (record { folder = D.state depot.old; stream = S.state out.old })
-        (record { folder = D.state depot.new; stream = S.state out.new }) (status_number result) [] }
+        (record { folder = D.state depot.new; stream = S.state out.new })
+        (status_number result) [] }
 {
     let octets = match read_whole(alloc, depot, file, PACKET_LIMIT) {
         Ok(octets) => octets,
@@ -56,7 +58,8 @@ fn verdict_report(
     level: &Label,
     octets: &[u8],
 ) -> Result<Report, OutOfMemory>
-    ensures { IfOk result (λ report. (verdict : Verdict) × IsVerdict doi level.now octets.now verdict
+    ensures { IfOk result (λ report. (verdict : Verdict)
+        × IsVerdict doi level.now octets.now verdict
         × (report.waiting.items ≡ verdict_line verdict)) }
 {
     let mut room = Room::lowest();

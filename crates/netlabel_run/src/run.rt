@@ -8,7 +8,8 @@ ghost use Rattle.script_run.specs.Ends.{ScriptEnds};
 ghost use Rattle.call_report.specs.Numbers.{status_number};
 ghost use Rattle.call_report.specs.declared.status.Status.{Status as Ending};
 ghost use Rattle.netlabel_run.specs.declared.command.Command.TheVariants.{Run};
-ghost use Rattle.netlabel_run.specs.CallEnds.{CallEnds};
+ghost use Rattle.call_report.specs.CallEnds.{CallEnds};
+ghost use Rattle.netlabel_run.specs.Commands.{netlabel_says};
 
 use crate::outcome::Outcome;
 use crate::script::script_of;
@@ -33,9 +34,10 @@ pub(crate) fn run<D: Depot + Send, S: Sink + Send, G: Gate + Sync, R: Threads + 
     gate: &G,
 ) -> Outcome
     requires { (0 < workers) × (workers ≤ 16) }
-    ensures { CallEnds (Some (Run file.now workers))
+    ensures { CallEnds netlabel_says (Some (Run file.now workers))
         (record { folder = D.state depot.old; stream = S.state out.old })
-        (record { folder = D.state depot.new; stream = S.state out.new }) result.status result.seen }
+        (record { folder = D.state depot.new; stream = S.state out.new })
+        result.status result.seen }
 {
     match script_of(alloc, file, depot, out) {
         Ok(script) => match protect_read(file, &script, depot) {
@@ -69,7 +71,8 @@ fn run_flows<D: Depot + Send, S: Sink + Send, G: Gate + Sync, R: Threads + Wait 
 ) -> Outcome
     requires workers { (0 < workers) × (workers ≤ 16) }
     requires sound { (own : List ℕ) × IsSoundScript own script.now }
-    ensures { (status : Ending) × (result.status ≡ status_number status) × ScriptEnds script.now workers
+    ensures { (status : Ending) × (result.status ≡ status_number status)
+        × ScriptEnds script.now workers
         (record { folder = D.state depot.old; stream = S.state out.old })
         (record { folder = D.state depot.new; stream = S.state out.new }) result.seen status }
 {

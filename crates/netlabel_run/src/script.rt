@@ -6,7 +6,8 @@ ghost use Rattle.call_report.specs.Numbers.{status_number};
 ghost use Rattle.call_report.specs.Outside.{Outside};
 ghost use Rattle.call_report.specs.Printing.{Printed};
 ghost use Rattle.netlabel_run.specs.declared.command.Command.{Command as Asked};
-ghost use Rattle.netlabel_run.specs.CallEnds.{CallEnds};
+ghost use Rattle.call_report.specs.CallEnds.{CallEnds};
+ghost use Rattle.netlabel_run.specs.Commands.{netlabel_says};
 ghost use Rattle.netlabel_run.specs.inside.Ending.{HasScript, ReadsScript};
 ghost use Rattle.netlabel_run.specs.inside.Stopping.{script_due};
 
@@ -36,9 +37,11 @@ pub(crate) fn script_of<D: Depot, S: Sink>(
     ensures ok { IfOk result (HasScript file.now
         (record { folder = D.state depot.old; stream = S.state out.old })
         (record { folder = D.state depot.new; stream = S.state out.new })) }
-    ensures err { IfErr result (λ status. (asked : Option Asked) → ReadsScript asked file.now → CallEnds asked
+    ensures err { IfErr result (λ status. (asked : Option Asked) → ReadsScript asked file.now
+        → CallEnds netlabel_says asked
         (record { folder = D.state depot.old; stream = S.state out.old })
-        (record { folder = D.state depot.new; stream = S.state out.new }) (status_number status) []) }
+        (record { folder = D.state depot.new; stream = S.state out.new })
+        (status_number status) []) }
 {
     let text = match read_whole(alloc, depot, file, SCRIPT_LIMIT) {
         Ok(text) => text,
@@ -54,7 +57,8 @@ pub(crate) fn script_of<D: Depot, S: Sink>(
 
 /// Tells why a text is no script.
 fn end_refused<S: Sink>(alloc: Global, stop: ScriptStop, out: &mut S) -> Status
-    ensures { Printed [] (script_stop_line stop) (script_due stop) result (S.state out.old) (S.state out.new) }
+    ensures { Printed [] (script_stop_line stop) (script_due stop) result
+        (S.state out.old) (S.state out.new) }
 {
     let mut line = Vec::new(alloc);
     match write_script_stop(stop, &mut line) {

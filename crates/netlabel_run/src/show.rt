@@ -5,7 +5,8 @@ ghost use Rattle.netlabel_run.specs.declared.command.Command.TheVariants.{Show};
 ghost use Rattle.report_lines.specs.Packet.{shown_line, shown_end_line, IsShown};
 ghost use Rattle.report_lines.specs.Capture.{capture_line};
 ghost use Rattle.call_report.specs.Outside.{Outside};
-ghost use Rattle.netlabel_run.specs.CallEnds.{CallEnds};
+ghost use Rattle.call_report.specs.CallEnds.{CallEnds};
+ghost use Rattle.netlabel_run.specs.Commands.{netlabel_says};
 ghost use Rattle.call_report.specs.Numbers.{status_number};
 ghost use Rattle.call_report.specs.Printing.{HandsOn, Printed};
 ghost use Rattle.netlabel_run.specs.inside.Stopping.{stop_line, stop_status};
@@ -27,9 +28,10 @@ pub(crate) fn show<D: Depot, S: Sink>(
     depot: &mut D,
     out: &mut S,
 ) -> Status
-    ensures { CallEnds (Some (Show file.now))
+    ensures { CallEnds netlabel_says (Some (Show file.now))
         (record { folder = D.state depot.old; stream = S.state out.old })
-        (record { folder = D.state depot.new; stream = S.state out.new }) (status_number result) [] }
+        (record { folder = D.state depot.new; stream = S.state out.new })
+        (status_number result) [] }
 {
     let mut report = Report::new(alloc);
     let mut frames = match Frames::begin(alloc, depot, file) {
@@ -66,7 +68,8 @@ fn add_packet<S: Sink>(
     out: &mut S,
 ) -> Result<(), IoFault>
     ensures { (text : List ℕ) × IsShown link frame.now text
-        × HandsOn (shown_line number text) report.old.waiting.items report.new.waiting.items result (S.state out.old) (S.state out.new) }
+        × HandsOn (shown_line number text) report.old.waiting.items report.new.waiting.items
+        result (S.state out.old) (S.state out.new) }
 {
     match write_packet(number, link, frame, label, &mut report.waiting) {
         Ok(()) => report.pass(out),
@@ -76,7 +79,8 @@ fn add_packet<S: Sink>(
 
 /// Ends the report of a capture that was read to its end, with the number of its packets.
 fn end_whole<S: Sink>(report: Report, count: u64, out: &mut S) -> Status
-    ensures { Printed (report.waiting.items ++ shown_end_line count) [] Status.Done result (S.state out.old) (S.state out.new) }
+    ensures { Printed (report.waiting.items ++ shown_end_line count) [] Status.Done result
+        (S.state out.old) (S.state out.new) }
 {
     let mut report = report;
     match write_packets_end(count, &mut report.waiting) {
@@ -87,7 +91,8 @@ fn end_whole<S: Sink>(report: Report, count: u64, out: &mut S) -> Status
 
 /// Ends the report of a capture whose reader has stopped.
 fn end_stopped<S: Sink>(alloc: Global, report: Report, stop: FrameStop, out: &mut S) -> Status
-    ensures { Printed report.waiting.items (stop_line stop) (stop_status stop) result (S.state out.old) (S.state out.new) }
+    ensures { Printed report.waiting.items (stop_line stop) (stop_status stop) result
+        (S.state out.old) (S.state out.new) }
 {
     match stop {
         FrameStop::Capture(fault) => end_broken(alloc, report, fault, out),
@@ -98,7 +103,8 @@ fn end_stopped<S: Sink>(alloc: Global, report: Report, stop: FrameStop, out: &mu
 
 /// Ends the report of a capture that is broken, with its fault.
 fn end_broken<S: Sink>(alloc: Global, report: Report, fault: CaptureFault, out: &mut S) -> Status
-    ensures { Printed report.waiting.items (capture_line 1 fault) Status.WrongCapture result (S.state out.old) (S.state out.new) }
+    ensures { Printed report.waiting.items (capture_line 1 fault) Status.WrongCapture result
+        (S.state out.old) (S.state out.new) }
 {
     let mut line = Vec::new(alloc);
     match write_capture(1, fault, &mut line) {

@@ -5,7 +5,8 @@ ghost use Rattle.netlabel_run.specs.declared.command.Command.{Command as Asked};
 ghost use Rattle.netlabel_run.specs.Words.{texts_of, IsAsked};
 ghost use Rattle.call_report.specs.Outside.{Outside};
 ghost use Rattle.report_lines.specs.Fixed.{usage_line};
-ghost use Rattle.netlabel_run.specs.CallEnds.{CallEnds};
+ghost use Rattle.call_report.specs.CallEnds.{CallEnds};
+ghost use Rattle.netlabel_run.specs.Commands.{netlabel_says};
 ghost use Rattle.call_report.specs.Printing.{Printed};
 
 use crate::check::check;
@@ -40,9 +41,11 @@ pub fn netlabel<D: Depot + Send, S: Sink + Send, G: Gate + Sync, R: Threads + Wa
     out: &mut S,
     gate: &G,
 ) -> Outcome
-    ensures { (asked : Option Asked) × IsAsked (texts_of words.now) asked × CallEnds asked
+    ensures { (asked : Option Asked) × IsAsked (texts_of words.now) asked
+        × CallEnds netlabel_says asked
         (record { folder = D.state depot.old; stream = S.state out.old })
-        (record { folder = D.state depot.new; stream = S.state out.new }) result.status result.seen }
+        (record { folder = D.state depot.new; stream = S.state out.new })
+        result.status result.seen }
 {
     let mut label = Label::lowest();
     carry_out(rt, alloc, read_words(words, &mut label), depot, out, gate)
@@ -57,9 +60,10 @@ fn carry_out<D: Depot + Send, S: Sink + Send, G: Gate + Sync, R: Threads + Wait 
     out: &mut S,
     gate: &G,
 ) -> Outcome
-    ensures { CallEnds asked.entry
+    ensures { CallEnds netlabel_says asked.entry
         (record { folder = D.state depot.old; stream = S.state out.old })
-        (record { folder = D.state depot.new; stream = S.state out.new }) result.status result.seen }
+        (record { folder = D.state depot.new; stream = S.state out.new })
+        result.status result.seen }
 {
     match asked {
         Some(Command::Judge { doi, level, file }) => Outcome::without_flows(

@@ -5,7 +5,7 @@ ghost use Rattle.address_text.specs.Name.{name_of_text};
 ghost use Rattle.packet_label.specs.Packet.{IsOfItsVersion, headers_of};
 ghost use Rattle.command_values.specs.Ranges.{range_below};
 ghost use Rattle.node_tables.specs.Effect.{applied};
-ghost use Rattle.netlabel_run.specs.Verdict.{protocol_in, judge_node, IsVerdict};
+ghost use Rattle.netlabel_run.specs.Judge.{protocol_in, judge_node, IsVerdict};
 ghost use Rattle.report_lines.specs.Denial.{with_label};
 
 use address_text::{Name, read_name};
@@ -27,7 +27,8 @@ pub(crate) fn judge_packet(
     octets: &[u8],
     room: &mut Room,
 ) -> Result<Result<(), Denial>, OutOfMemory>
-    ensures { IfOk result (λ verdict. IsVerdict doi level.now octets.now (with_label verdict room.new.local)) }
+    ensures { IfOk result (λ verdict. IsVerdict doi level.now octets.now
+        (with_label verdict room.new.local)) }
 {
     let marked = match carried_into(octets, &mut room.wire) {
         Ok(marked) => marked,
@@ -49,7 +50,7 @@ pub(crate) fn judge_packet(
 }
 
 /// The node that is set up for a packet, as the one of a network.
-#[tactic(auto, unfolding(crate::specs::Verdict::judge_node))]
+#[tactic(auto, unfolding(crate::specs::Judge::judge_node))]
 fn node_for(
     alloc: Global,
     doi: Doi,
@@ -57,7 +58,8 @@ fn node_for(
     packet: &Packet<'_>,
 ) -> Result<Network, OutOfMemory>
     requires { IsOfItsVersion packet.now }
-    ensures { IfOk result (λ network. network ≡ judge_node doi level.now (headers_of packet.now).version (headers_of packet.now).destination ∷ []) }
+    ensures { IfOk result (λ network. network ≡ judge_node doi level.now
+        (headers_of packet.now).version (headers_of packet.now).destination ∷ []) }
 {
     let tags = Tags::of(alloc, &[Tag::One, Tag::Two, Tag::Five])?;
     let range = range_below(alloc, level)?;

@@ -1,5 +1,5 @@
 use Rattle.std.proofs.Common.{◌≡◌, ◌⊎◌, ℕ, subst, sym}
-use Rattle.netlabel_run.specs.CallEnds.{MayEnd}
+use Rattle.netlabel_run.specs.Commands.{MayEnd}
 use Rattle.netlabel_cmd.proofs.end.Goals as goal
 
 pub returns-in-Ok : goal.returns-in-Ok

@@ -8,13 +8,11 @@ use Rattle.report_lines.specs.Script.{script_stop_line}
 use Rattle.call_report.specs.Report.{Folder, Report, late_report}
 use Rattle.call_report.specs.Stages.{Stage, reading_stage}
 use Rattle.call_report.specs.Outside.{Outside}
+use Rattle.call_report.specs.Says.{Says}
+use Rattle.call_report.specs.CallEnds.{HasBegun}
 use Rattle.netlabel_run.specs.declared.command.Command.{Command}
-use Rattle.netlabel_run.specs.Check.{script_read, script_stop_status}
-use Rattle.netlabel_run.specs.Report.{HasReport}
-use Rattle.netlabel_run.specs.Status.{HasStatus, IsPossible}
-use Rattle.netlabel_run.specs.Stages.{HasOutputs}
-use Rattle.netlabel_run.specs.Seen.{IsLawful, IsWhole}
-use Rattle.netlabel_run.specs.CallEnds.{HasBegun}
+use Rattle.netlabel_run.specs.ScriptFile.{script_read, script_stop_status}
+use Rattle.netlabel_run.specs.Commands.{netlabel_says}
 
 -- Of a folder nothing but numbers of failed reads has moved.
 pub record IsOnlyRead (old new : DepotState) : Type 0 where
@@ -24,10 +22,10 @@ pub record IsOnlyRead (old new : DepotState) : Type 0 where
   pub appends : SameCounts old.appends new.appends
 
 -- What such a call knows at its end: what it has begun, and what it has left as it was.
-pub record Knows (request : Option Command) (before after : Outside) (stages : List Stage) : Type 0 where
-  pub begun : HasBegun request before.folder [] stages
-  pub outputs : HasOutputs request before.folder.held [] []
-  pub lawful : IsLawful request before.folder.held []
+pub record Knows (says : Says) (before after : Outside) (stages : List Stage) : Type 0 where
+  pub begun : HasBegun says before.folder [] stages
+  pub outputs : says.outputs before.folder.held [] []
+  pub lawful : says.lawful before.folder.held []
   pub kept : IsTrue before.folder.tells → SameHeld before.folder.held after.folder.held
   pub creates : SameCounts before.folder.creates after.folder.creates
   pub appends : SameCounts before.folder.appends after.folder.appends
@@ -35,26 +33,26 @@ pub record Knows (request : Option Command) (before after : Outside) (stages : L
   pub stream_told : after.stream.tells ≡ before.stream.tells
 
 -- its body begins so
-pub record Begins (request : Option Command) (held : Folder) (text : List ℕ) : Type 0 where
+pub record Begins (says : Says) (held : Folder) (text : List ℕ) : Type 0 where
   pub report : Report
-  pub has : HasReport request held [] report
+  pub has : says.report held [] report
   pub rest : List ℕ
   pub body : report.body ≡ text ++ rest
 
 -- what is due where a text is no script
-pub record IsRefused (asked : Option Command) (held : Folder) (why : ScriptStop) : Type 0 where
-  pub status : HasStatus asked held (script_stop_status why)
-  pub report : HasReport asked held [] (late_report [] (script_stop_line why))
-  pub whole : IsWhole asked held []
+pub record IsRefused (says : Says) (held : Folder) (why : ScriptStop) : Type 0 where
+  pub status : says.status held (script_stop_status why)
+  pub report : says.report held [] (late_report [] (script_stop_line why))
+  pub whole : says.whole held []
 
 -- What such a call knows of the file: what is due where it is no script, and that nothing is printed before it is read.
 pub record ReadsScript (asked : Option Command) (file : List ℕ) : Type 0 where
   pub form : asked ≡ None → ⊥
-  pub knows : (before after : Outside) → IsOnlyRead before.folder after.folder → after.stream.tells ≡ before.stream.tells → Knows asked before after (reading_stage file ∷ [])
-  pub refused : (held : Folder) (text : List ℕ) (why : ScriptStop) → held file ≡ Some text → script_read file text ≡ Err why → IsRefused asked held why
-  pub may : (text : List ℕ) (why : ScriptStop) → script_read file text ≡ Err why → IsPossible asked (script_stop_status why)
-  pub begins : (held : Folder) → Begins asked held []
-  pub pauses : (held : Folder) (report : Report) → HasReport asked held [] report → Contains report.pauses []
+  pub knows : (before after : Outside) → IsOnlyRead before.folder after.folder → after.stream.tells ≡ before.stream.tells → Knows (netlabel_says asked) before after (reading_stage file ∷ [])
+  pub refused : (held : Folder) (text : List ℕ) (why : ScriptStop) → held file ≡ Some text → script_read file text ≡ Err why → IsRefused (netlabel_says asked) held why
+  pub may : (text : List ℕ) (why : ScriptStop) → script_read file text ≡ Err why → (netlabel_says asked).possible (script_stop_status why)
+  pub begins : (held : Folder) → Begins (netlabel_says asked) held []
+  pub pauses : (held : Folder) (report : Report) → (netlabel_says asked).report held [] report → Contains report.pauses []
 
 -- The file's text was read, and is a script.
 pub record HasScript (file : List ℕ) (before after : Outside) (script : Script) : Type 0 where

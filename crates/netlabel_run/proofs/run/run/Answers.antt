@@ -8,7 +8,8 @@ use Rattle.call_report.specs.Report.{Versions}
 use Rattle.call_report.specs.Numbers.{status_number}
 use Rattle.script_run.specs.Ends.{ScriptEnds}
 use Rattle.netlabel_run.specs.declared.command.Command.TheVariants.{Run}
-use Rattle.netlabel_run.specs.CallEnds.{CallEnds}
+use Rattle.call_report.specs.CallEnds.{CallEnds}
+use Rattle.netlabel_run.specs.Commands.{netlabel_says}
 use Rattle.netlabel_run.proofs.Running.{run_reads, run_ends}
 use Rattle.netlabel_run.proofs.Scripts.{ends_without_room}
 use Rattle.netlabel_run.proofs.run.run.Goals as goal
@@ -28,7 +29,7 @@ returns-in-Ok-protect_read g c =
     let from_folder = subst (λ (f : DepotState). ScriptEnds c.in-Ok.script c.args.workers (record { folder = f; stream = g.S.Sink.state c.script_of.new.out }) after c.run_flows.result.seen ended.0)
     c.protect_read.ensures ended.2 in
     let ends = subst (λ (s : SinkState). ScriptEnds c.in-Ok.script c.args.workers (record { folder = folder; stream = s }) after c.run_flows.result.seen ended.0) has.stream from_folder in
-    subst (λ (n : ℕ). CallEnds (Some (Run file c.args.workers)) before after n c.run_flows.result.seen) (sym ended.1)
+    subst (λ (n : ℕ). CallEnds netlabel_says (Some (Run file c.args.workers)) before after n c.run_flows.result.seen) (sym ended.1)
     (run_ends file c.args.workers before folder after has.text c.in-Ok.script c.run_flows.result.seen ended.0 has.reads has.counts has.holds has.is ends)
 
 pub returns-in-Ok : goal.returns-in-Ok
@@ -41,9 +42,9 @@ returns-in-Ok g c =
     let after : Outside = record { folder = g.D.Depot.state c.protect_read.new.depot; stream = stream } in
     let asked = Some (Run file c.args.workers) in
     let ends = ends_without_room asked file (run_reads file c.args.workers) before read has.reads (ap (λ (s : SinkState). s.tells) has.stream) has.counts has.stream in
-    subst (λ (n : ℕ). CallEnds asked before after n c.without_flows.result.seen) (sym c.without_flows.ensures.status)
-    (subst (λ (seen : Versions). CallEnds asked before after 6 seen) (sym c.without_flows.ensures.seen)
-    (subst (λ (f : DepotState). CallEnds asked before (record { folder = f; stream = stream }) 6 []) (sym c.protect_read.ensures) ends))
+    subst (λ (n : ℕ). CallEnds netlabel_says asked before after n c.without_flows.result.seen) (sym c.without_flows.ensures.status)
+    (subst (λ (seen : Versions). CallEnds netlabel_says asked before after 6 seen) (sym c.without_flows.ensures.seen)
+    (subst (λ (f : DepotState). CallEnds netlabel_says asked before (record { folder = f; stream = stream }) 6 []) (sym c.protect_read.ensures) ends))
 
 pub returns : goal.returns
 returns g c =
@@ -51,5 +52,5 @@ returns g c =
     let before : Outside = record { folder = g.D.Depot.state c.args.depot.now; stream = g.S.Sink.state c.args.out.now } in
     let after : Outside = record { folder = g.D.Depot.state c.script_of.new.depot; stream = g.S.Sink.state c.script_of.new.out } in
     let asked = Some (Run file c.args.workers) in
-    subst (λ (n : ℕ). CallEnds asked before after n c.without_flows-in-Err.result.seen) (sym c.without_flows-in-Err.ensures.status)
-    (subst (λ (seen : Versions). CallEnds asked before after (status_number c.in-Err.status) seen) (sym c.without_flows-in-Err.ensures.seen) (c.in-Err.ensures.err asked (run_reads file c.args.workers)))
+    subst (λ (n : ℕ). CallEnds netlabel_says asked before after n c.without_flows-in-Err.result.seen) (sym c.without_flows-in-Err.ensures.status)
+    (subst (λ (seen : Versions). CallEnds netlabel_says asked before after (status_number c.in-Err.status) seen) (sym c.without_flows-in-Err.ensures.seen) (c.in-Err.ensures.err asked (run_reads file c.args.workers)))

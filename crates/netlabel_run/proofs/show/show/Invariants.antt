@@ -10,8 +10,10 @@ decreases-loop-head g l = 1048577 - l.shown
 -- so many packets were shown, and the reader stands in front of the next
 abbrev pub invariant-loop-head : goal.invariant-loop-head
 invariant-loop-head g l =
-    let before : Outside = record { folder = g.D.Depot.state l.fn.depot; stream = g.S.Sink.state l.fn.out } in
-    let now : Outside = record { folder = g.D.Depot.state l.depot; stream = g.S.Sink.state l.out } in
+    let depot_of = g.D.Depot.state in
+    let sink_of = g.S.Sink.state in
+    let before : Outside = record { folder = depot_of l.fn.depot; stream = sink_of l.fn.out } in
+    let now : Outside = record { folder = depot_of l.depot; stream = sink_of l.out } in
     record {
       showing : IsShowing l.fn.file before now l.frames l.report.waiting.items l.shown;
       ready : IsReady now.folder l.frames;

@@ -4,25 +4,25 @@ use Rattle.std.specs.List.{All}
 use Rattle.net_io.specs.Depot.{DepotState, SameHeld}
 use Rattle.net_io.specs.Faults.{SameCounts}
 use Rattle.net_io.specs.Sink.{WritesPrefix, WritesLess}
-use Rattle.netlabel_run.specs.declared.command.Command.{Command}
-use Rattle.netlabel_run.specs.Report.{HasReport, PrintsLate}
 use Rattle.call_report.specs.Report.{Folder, Versions, Report, report_text}
-use Rattle.netlabel_run.specs.Status.{HasStatus, IsPossible, IsRefusal}
-use Rattle.netlabel_run.specs.Stages.{HasStages, HasOutputs}
 use Rattle.call_report.specs.Stages.{Stage}
 use Rattle.call_report.specs.Output.{Output, IsBegun, IsMade}
-use Rattle.netlabel_run.specs.Seen.{IsLawful, IsWhole, HasAccess}
 use Rattle.call_report.specs.Outside.{Outside, ReadRose, CreateRose, AppendRose, WriteRose, CountRose, NoneFailed, NoWriteFailed}
+use Rattle.call_report.specs.Says.{Says}
+
+-- the statuses of what the outside refused: a read or the making of a file, a write or an append, memory
+abbrev pub IsRefusal : ℕ → Type 0
+IsRefusal status = (status ≡ 3) ⊎ (status ≡ 4) ⊎ (status ≡ 6)
 
 -- nothing was refused: the status is 0, or no counted number rose and memory sufficed
 abbrev pub IsClean : List Stage → Outside → Outside → ℕ → Type 0
 IsClean stages before after status = (status ≡ 0) ⊎ ((status ≢ 6) × (CountRose stages before after → ⊥))
 
 -- What was asked for, and the folder where it tells what it holds, say of the status.
-pub record EndsWith (request : Option Command) (before after : Outside) (status : ℕ) (seen : Versions) (stages : List Stage) : Type 0 where
+pub record EndsWith {C : Type 0} (says : Says) (request : Option C) (before after : Outside) (status : ℕ) (seen : Versions) (stages : List Stage) : Type 0 where
   -- the status is the one that is due, or a refusal's; where the folder tells nothing, it is due over some content
-  pub due : IsTrue before.folder.tells → HasStatus request before.folder.held status ⊎ IsRefusal status
-  pub possible : IsPossible request status ⊎ IsRefusal status
+  pub due : IsTrue before.folder.tells → says.status before.folder.held status ⊎ IsRefusal status
+  pub possible : says.possible status ⊎ IsRefusal status
   -- 1: exactly where the words are no form, but for want of memory
   pub no_form : status ≡ 1 → request ≡ None
   pub usage : request ≡ None → (status ≡ 1) ⊎ (status ≡ 6)
@@ -32,21 +32,21 @@ pub record EndsWith (request : Option Command) (before after : Outside) (status 
   -- 6: only where no write and no append has failed, and nothing else, unless a counted read or making failed
   pub memory : status ≡ 6 → NoWriteFailed before after × (NoneFailed before after ⊎ ReadRose stages before after ⊎ CreateRose stages before after)
   -- and nothing at all where nothing is printed in front of a read
-  pub memory_alone : status ≡ 6 → PrintsLate request seen → NoneFailed before after
+  pub memory_alone : status ≡ 6 → says.late seen → NoneFailed before after
   -- 0: only where nothing has failed
   pub unmoved : status ≡ 0 → NoneFailed before after
 
 -- The stages that a call has begun which printed these versions, by what the folder tells, or by what it may hold where it tells nothing; behind the first there is one for each flow.
-pub record HasBegun (request : Option Command) (folder : DepotState) (seen : Versions) (stages : List Stage) : Type 0 where
+pub record HasBegun (says : Says) (folder : DepotState) (seen : Versions) (stages : List Stage) : Type 0 where
   pub content : Folder
   pub told : IsTrue folder.tells → SameHeld folder.held content
-  pub are : HasStages request content seen stages
+  pub are : says.stages content seen stages
   pub flows : length (drop 1 stages) ≡ length seen
 
 -- a write has failed in the body of a report, before the event that decides
-pub record StopsInBody (request : Option Command) (before after : Outside) (seen : Versions) : Type 0 where
+pub record StopsInBody (says : Says) (before after : Outside) (seen : Versions) : Type 0 where
   pub report : Report
-  pub has : HasReport request before.folder.held seen report
+  pub has : says.report before.folder.held seen report
   pub some : 0 < length report.body
   pub part : IsTrue before.stream.tells → WritesLess report.body before.stream.written after.stream.written
 
@@ -55,51 +55,47 @@ abbrev pub IsWritten : List ℕ → Outside → Outside → Type 0
 IsWritten text before after = after.stream.written ≡ before.stream.written ++ text
 
 -- What was printed, where the folder tells what it holds.
-pub record Prints (request : Option Command) (before after : Outside) (status : ℕ) (seen : Versions) (stages : List Stage) : Type 0 where
+pub record Prints (says : Says) (before after : Outside) (status : ℕ) (seen : Versions) (stages : List Stage) : Type 0 where
   -- the whole report, where nothing was refused
   pub whole : IsTrue before.stream.tells → IsClean stages before after status
-      → (report : Report) × HasReport request before.folder.held seen report × IsWritten (report_text report) before after
+      → (report : Report) × says.report before.folder.held seen report × IsWritten (report_text report) before after
   -- unless the outside refused something the whole body, and some first octets of the event's line
   pub body : IsTrue before.stream.tells → (IsRefusal status → ⊥)
-      → (report : Report) × HasReport request before.folder.held seen report × WritesPrefix report.last (before.stream.written ++ report.body) after.stream.written
+      → (report : Report) × says.report before.folder.held seen report × WritesPrefix report.last (before.stream.written ++ report.body) after.stream.written
   -- with every status nothing, or some first octets of the report
   pub part : IsTrue before.stream.tells → IsWritten [] before after
-      ⊎ ((report : Report) × HasReport request before.folder.held seen report × WritesPrefix (report_text report) before.stream.written after.stream.written)
+      ⊎ ((report : Report) × says.report before.folder.held seen report × WritesPrefix (report_text report) before.stream.written after.stream.written)
   -- 3: all that may stand before a read
   pub pause : IsTrue before.stream.tells → status ≡ 3
-      → (text : List ℕ) × IsWritten text before after × ((report : Report) → HasReport request before.folder.held seen report → Contains report.pauses text)
+      → (text : List ℕ) × IsWritten text before after × ((report : Report) → says.report before.folder.held seen report → Contains report.pauses text)
   -- 4: not all that comes before the deciding event, where it was a write that failed
-  pub stop : status ≡ 4 → StopsInBody request before after seen ⊎ AppendRose stages before after
+  pub stop : status ≡ 4 → StopsInBody says before after seen ⊎ AppendRose stages before after
 
 -- What the files hold, where the folder tells it: an output what was made of it, and each other name what it held.
-pub record Leaves (request : Option Command) (before after : Outside) (status : ℕ) (seen : Versions) (stages : List Stage) : Type 0 where
+pub record Leaves (says : Says) (before after : Outside) (status : ℕ) (seen : Versions) (stages : List Stage) : Type 0 where
   pub outputs : List Output
-  pub are : HasOutputs request before.folder.held seen outputs
+  pub are : says.outputs before.folder.held seen outputs
   pub begun : All (λ output. IsBegun output before.folder.held after.folder.held) outputs
   -- with every status the flows in front of the one in hand have made all of theirs
-  pub earlier : (outputs : List Output) × HasOutputs request before.folder.held (take (length seen - 1) seen) outputs
+  pub earlier : (outputs : List Output) × says.outputs before.folder.held (take (length seen - 1) seen) outputs
       × All (λ output. IsMade output before.folder.held after.folder.held) outputs
   pub whole : IsClean stages before after status → All (λ output. IsMade output before.folder.held after.folder.held) outputs
   pub others : (name : List ℕ) → All (λ output. output.name ≢ name) outputs → after.folder.held name ≡ before.folder.held name
 
--- how a call ends
-pub record CallEnds (request : Option Command) (before after : Outside) (status : ℕ) (seen : Versions) : Type 0 where
+-- how a call ends, by what its program says of each thing that may be asked for
+pub record CallEnds {C : Type 0} (says : Option C → Says) (request : Option C) (before after : Outside) (status : ℕ) (seen : Versions) : Type 0 where
   pub stages : List Stage
-  pub begun : HasBegun request before.folder seen stages
-  pub ends : EndsWith request before after status seen stages
-  pub prints : IsTrue before.folder.tells → Prints request before after status seen stages
-  pub leaves : IsTrue before.folder.tells → Leaves request before after status seen stages
-  pub lawful : IsTrue before.folder.tells → IsLawful request before.folder.held seen
-  pub whole : IsTrue before.folder.tells → IsClean stages before after status → IsWhole request before.folder.held seen
+  pub begun : HasBegun (says request) before.folder seen stages
+  pub ends : EndsWith (says request) request before after status seen stages
+  pub prints : IsTrue before.folder.tells → Prints (says request) before after status seen stages
+  pub leaves : IsTrue before.folder.tells → Leaves (says request) before after status seen stages
+  pub lawful : IsTrue before.folder.tells → (says request).lawful before.folder.held seen
+  pub whole : IsTrue before.folder.tells → IsClean stages before after status → (says request).whole before.folder.held seen
   -- no receiver is given what its level doesn't dominate, where the label was kept
-  pub access : IsTrue before.folder.tells → HasAccess request before.folder.held seen
+  pub access : IsTrue before.folder.tells → (says request).access before.folder.held seen
   -- where nothing is printed in front of a read, nothing stands there with status 3, whether or not the folder tells what it holds
-  pub silent : IsTrue before.stream.tells → status ≡ 3 → PrintsLate request seen → after.stream.written ≡ before.stream.written
+  pub silent : IsTrue before.stream.tells → status ≡ 3 → (says request).late seen → after.stream.written ≡ before.stream.written
   -- a call without an output makes nothing and appends nothing
   pub still : All (λ stage. stage.output ≡ None) stages → SameCounts before.folder.creates after.folder.creates × SameCounts before.folder.appends after.folder.appends
   pub folder_told : after.folder.tells ≡ before.folder.tells
   pub stream_told : after.stream.tells ≡ before.stream.tells
-
--- some call ends with this status
-abbrev pub MayEnd : ℕ → Type 0
-MayEnd status = (request : Option Command) × (before : Outside) × (after : Outside) × (seen : Versions) × CallEnds request before after status seen

@@ -1,5 +1,5 @@
--- What is decided of the octets of a file: `judge` sets up a node for the packet that they hold, which receives it.
-use Rattle.std.specs.Prelude.{◌≡◌, ℕ, List, [], ◌∷◌, codes, fold, Some, None, Result, Ok, Err}
+-- `judge`: a node is set up for the packet that a file's octets hold, which receives it.
+use Rattle.std.specs.Prelude.{◌≡◌, ◌⊎◌, ◌<◌, ◌≤◌, ℕ, List, [], ◌∷◌, length, codes, fold, Option, Some, None, Result, Ok, Err}
 use Rattle.mls_label.specs.declared.label.Label.{Label}
 use Rattle.mls_label.specs.declared.label.Tag.{Tag}
 use Rattle.mls_label.specs.declared.label.Tag.TheVariants.{One, Two, Five}
@@ -22,7 +22,10 @@ use Rattle.label_receive.specs.declared.receiving.Delivered.{Delivered}
 use Rattle.label_receive.specs.Incoming.{address_in}
 use Rattle.label_receive.specs.Receive.{receive_of}
 use Rattle.label_receive.specs.Judged.{IsJudged}
-use Rattle.report_lines.specs.Denial.{Verdict}
+use Rattle.report_lines.specs.Denial.{Verdict, verdict_line}
+use Rattle.report_lines.specs.Fixed.{packet_limit_line}
+use Rattle.call_report.specs.Report.{Report, late_report}
+use Rattle.call_report.specs.Says.{Says, reading_says}
 
 -- the protocol whose option a packet of this version has
 abbrev pub protocol_in : Version → ℕ → Protocol
@@ -68,3 +71,20 @@ pub record IsGranted (doi : ℕ) (level : Label) (octets : List ℕ) (label : La
   pub reads : IsPacket octets packet
   pub says : SaysUnder doi packet label
   pub dominated : Dominates level label
+
+-- the most octets of a file that is judged: 65,535 behind the 40 of an IPv6 header
+abbrev pub packet_limit : ℕ
+packet_limit = 65575
+
+-- by what its file holds: nothing of an absent one, that it is too long, else the verdict
+pub data JudgeReport (doi : ℕ) (level : Label) : Option (List ℕ) → Report → Type 0 where
+  absent : JudgeReport doi level None (late_report [] [])
+  too_long : (octets : List ℕ) → packet_limit < length octets → JudgeReport doi level (Some octets) (late_report [] packet_limit_line)
+  judged : (octets : List ℕ) (verdict : Verdict) → length octets ≤ packet_limit → IsVerdict doi level octets verdict → JudgeReport doi level (Some octets) (late_report (verdict_line verdict) [])
+
+abbrev pub JudgeStatus : Option (List ℕ) → ℕ → Type 0
+JudgeStatus None status = ⊥
+JudgeStatus (Some octets) status = ((packet_limit < length octets) × (status ≡ 7)) ⊎ ((length octets ≤ packet_limit) × (status ≡ 0))
+
+abbrev pub judge_says : ℕ → Label → List ℕ → Says
+judge_says doi level file = reading_says file (JudgeReport doi level) JudgeStatus (Unit {0})
