@@ -17,7 +17,7 @@ use crate::work::{Batch, next_turn, spread};
 use flow_lines::FlowLine;
 use mls_label::OutOfMemory;
 use node_tables::Reply;
-use packet_walk::{Gate, PacketIn, ShownWalks, Worker};
+use packet_walk::{Gate, ShownWalks, Worker};
 use shared_tables::{Publisher, Viewer};
 use std::alloc::Global;
 use std::sync::Wait;

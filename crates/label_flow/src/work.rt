@@ -45,14 +45,15 @@ fn work<G: Gate>(
         (pick worker.now.number batch.now.workers batch.now.base batch.now.packets.items)
         bench.new viewer.new.seen) }
 {
+    let packets = &batch.packets;
     bench.clear();
     let mut room = bench.lend()?;
     let mut at = 0;
     let mut turn = (batch.base % u64::from(batch.workers)) as u32;
-    while at < batch.packets.len() {
+    while at < packets.len() {
         if turn == worker.number {
             let number = batch.base + at as u64 + 1;
-            room = bench.walk(worker, viewer, number, &batch.packets[at], room)?;
+            room = bench.walk(worker, viewer, number, &packets[at], room)?;
         }
         turn = next_turn(turn, batch.workers);
         at += 1;

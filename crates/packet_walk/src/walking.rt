@@ -107,7 +107,7 @@ fn walk_hops<G: Gate>(
     ensures kept { (viewer.new.board ≡ viewer.old.board) × (viewer.new.plan ≡ viewer.old.plan) }
     ensures seen { viewer.old.seen ≤ viewer.new.seen }
 {
-    let hops = worker.flow.hops.hops();
+    let hops = worker.hops();
     let mut lent = room.lent;
     let mut carrier = Carrier::Unlabelled;
     let mut at = 0;
