@@ -62,24 +62,35 @@ fn work<G: Gate>(
     Ok(())
 }
 
-// One worker alone.
+/// What the workers of a batch share: the flow and the gate of the first of them, and the batch.
+#[derive(Drop)]
+struct Shift<'w, 'b, 'f, 'g, G> {
+    worker: &'w Worker<'f, 'g, G>,
+    batch: &'b Batch,
+}
+
+// The worker of this number alone.
 fn alone<G: Gate>(
-    worker: &Worker<'_, '_, G>,
-    batch: &Batch,
+    shift: &Shift<'_, '_, '_, '_, G>,
+    number: u32,
     viewers: &mut [Viewer],
     benches: &mut [Bench],
 ) -> Result<(), OutOfMemory>
     requires one { length viewers.old ≡ 1 }
-    requires work { CanWork worker.now.flow.now.hops worker.now.number batch.now
+    requires work { CanWork shift.now.worker.now.flow.now.hops number shift.now.batch.now
         viewers.old benches.old }
-    ensures { HaveWorked worker.now.flow.now.hops worker.now.number batch.now
+    ensures { HaveWorked shift.now.worker.now.flow.now.hops number shift.now.batch.now
         viewers.old viewers.new benches.old benches.new result }
 {
-    work(worker, batch, &mut viewers[0], &mut benches[0])
+    let worker = Worker {
+        flow: shift.worker.flow,
+        number,
+        gate: shift.worker.gate,
+    };
+    work(&worker, shift.batch, &mut viewers[0], &mut benches[0])
 }
 
 /// This worker and those after it, one for each viewer and its bench, beside each other.
-#[cycle(halves)]
 pub fn spread<G: Gate + Sync, R: Threads + Sync>(
     rt: &R,
     worker: &Worker<'_, '_, G>,
@@ -92,13 +103,31 @@ pub fn spread<G: Gate + Sync, R: Threads + Sync>(
     ensures { HaveWorked worker.now.flow.now.hops worker.now.number batch.now
         viewers.old viewers.new benches.old benches.new result }
 {
+    let shift = Shift { worker, batch };
+    share(rt, &shift, worker.number, viewers, benches)
+}
+
+// The workers from this number on. In a cycle of calls what is behind an inner reference stays the same.
+#[cycle(halves)]
+fn share<G: Gate + Sync, R: Threads + Sync>(
+    rt: &R,
+    shift: &Shift<'_, '_, '_, '_, G>,
+    first: u32,
+    viewers: &mut [Viewer],
+    benches: &mut [Bench],
+) -> Result<(), OutOfMemory>
+    requires { CanWork shift.now.worker.now.flow.now.hops first shift.now.batch.now
+        viewers.old benches.old }
+    ensures { HaveWorked shift.now.worker.now.flow.now.hops first shift.now.batch.now
+        viewers.old viewers.new benches.old benches.new result }
+{
     if viewers.len() == 1 {
-        return alone(worker, batch, viewers, benches);
+        return alone(shift, first, viewers, benches);
     }
     let middle = viewers.len() / 2;
     let (front, back) = viewers.split_at_mut(middle);
     let (front_benches, back_benches) = benches.split_at_mut(middle);
-    let (a, b) = both_halves(rt, worker, batch, front, front_benches, back, back_benches);
+    let (a, b) = both_halves(rt, shift, first, front, front_benches, back, back_benches);
     together(a, b)
 }
 
@@ -111,45 +140,40 @@ fn together(a: Result<(), OutOfMemory>, b: Result<(), OutOfMemory>) -> Result<()
     }
 }
 
-// A function of its own, so that what the closures require is what it is given. The worker itself is the first of the front.
+// A function of its own, so that what the closures require is what it is given.
 #[cycle(halves)]
 fn both_halves<G: Gate + Sync, R: Threads + Sync>(
     rt: &R,
-    worker: &Worker<'_, '_, G>,
-    batch: &Batch,
+    shift: &Shift<'_, '_, '_, '_, G>,
+    first: u32,
     front: &mut [Viewer],
     front_benches: &mut [Bench],
     back: &mut [Viewer],
     back_benches: &mut [Bench],
 ) -> (Result<(), OutOfMemory>, Result<(), OutOfMemory>)
-    requires front { CanWork worker.now.flow.now.hops worker.now.number batch.now
+    requires front { CanWork shift.now.worker.now.flow.now.hops first shift.now.batch.now
         front.old front_benches.old }
-    requires back { CanWork worker.now.flow.now.hops (worker.now.number + length front.old)
-        batch.now back.old back_benches.old }
-    ensures front { HaveWorked worker.now.flow.now.hops worker.now.number batch.now
+    requires back { CanWork shift.now.worker.now.flow.now.hops (first + length front.old)
+        shift.now.batch.now back.old back_benches.old }
+    ensures front { HaveWorked shift.now.worker.now.flow.now.hops first shift.now.batch.now
         front.old front.new front_benches.old front_benches.new result.0 }
-    ensures back { HaveWorked worker.now.flow.now.hops (worker.now.number + length front.old)
-        batch.now back.old back.new back_benches.old back_benches.new result.1 }
+    ensures back { HaveWorked shift.now.worker.now.flow.now.hops (first + length front.old)
+        shift.now.batch.now back.old back.new back_benches.old back_benches.new result.1 }
 {
-    let later = Worker {
-        flow: worker.flow,
-        number: worker.number + front.len() as u32,
-        gate: worker.gate,
-    };
-    let later = &later;
+    let later = first + front.len() as u32;
     let mut one = || -> Result<(), OutOfMemory>
         requires { IsSync R.row × IsSync G.row
-            × CanWork worker.now.flow.now.hops worker.now.number batch.now
+            × CanWork shift.now.worker.now.flow.now.hops first shift.now.batch.now
             front.now front_benches.now }
-        ensures { HaveWorked worker.entry.now.flow.now.hops worker.entry.now.number batch.entry.now
+        ensures { HaveWorked shift.entry.now.worker.now.flow.now.hops first shift.entry.now.batch.now
             front.entry.now front.exit.now front_benches.entry.now front_benches.exit.now result }
-    { spread(rt, worker, batch, front, front_benches) };
+    { share(rt, shift, first, front, front_benches) };
     let mut other = || -> Result<(), OutOfMemory>
         requires { IsSync R.row × IsSync G.row
-            × CanWork later.now.flow.now.hops later.now.number batch.now
+            × CanWork shift.now.worker.now.flow.now.hops later shift.now.batch.now
             back.now back_benches.now }
-        ensures { HaveWorked later.entry.now.flow.now.hops later.entry.now.number batch.entry.now
+        ensures { HaveWorked shift.entry.now.worker.now.flow.now.hops later shift.entry.now.batch.now
             back.entry.now back.exit.now back_benches.entry.now back_benches.exit.now result }
-    { spread(rt, later, batch, back, back_benches) };
+    { share(rt, shift, later, back, back_benches) };
     join_mut(rt, &mut one, &mut other)
 }

@@ -44,6 +44,7 @@ pub record CanWork (hops : List Hop) (k : ℕ) (batch : Batch) (viewers : List V
   pub same : length benches ≡ length viewers
   pub nodes : All (HasNodes hops) viewers
   pub workers : k + length viewers ≤ batch.workers
+  pub few : batch.workers ≤ 16
   pub numbers : batch.base + length batch.packets.items < 2 ^ 63
 
 -- they took them, or memory ran out

@@ -6,7 +6,7 @@ use Rattle.label_flow.proofs.rounds.batch_round.Goals as goal
 pub returns-in-Err-judge_batch-clause-took : goal.returns-in-Err-judge_batch-clause-took
 returns-in-Err-judge_batch-clause-took g c was hist took =
     let t = c.judge_batch.ensures.took was hist (c.fetch.ensures.took was hist took) in
-    (t.0, t.1, t.2, front_part _ _ _ _ c.in-Ok-true.ensures.ok.front t.3, t.4, tt)
+    (t.0, t.1, t.2, front_part _ _ _ t.0 c.in-Ok-true.ensures.ok.front t.3, t.4, tt)
 
 pub returns-in-Ok-false-clause-later : goal.returns-in-Ok-false-clause-later
 returns-in-Ok-false-clause-later g c = later_same _

@@ -1,13 +1,13 @@
-use Rattle.std.proofs.Common.{List, [], ◌++◌, length, take, sym, subst, arith, append-nil}
+use Rattle.std.proofs.Common.{List, [], length, take, refl, sym, subst, arith, append-nil}
 use Rattle.std.proofs.lemmas.List.{take_all}
 use Rattle.label_flow.specs.Pair.{PairState}
-use Rattle.label_flow.proofs.Batches.{all_works, has_room, all_fit, handed_round, works_length, none_round, begun_none, begun_take, on_ok}
+use Rattle.label_flow.proofs.Batches.{all_works, has_room, all_fit, handed_round, none_round, begun_take, on_ok}
 use Rattle.label_flow.proofs.rounds.judge_batch.Goals as goal
 
 pub returns-in_default-clause-took : goal.returns-in_default-clause-took
 returns-in_default-clause-took g c was hist took =
     let T : List PairState → Type 0 = λ rs. g.Q.Feed.took was c.args.feed.now rs in
-    ([], [], none_round _ _ _ _ c.spread.ensures.later, begun_none _, subst T (sym (append-nil hist)) took, tt)
+    ([], [], none_round _ _ _ _ c.spread.ensures.later, (c.args.batch.now.packets.items, refl), subst T (sym (append-nil hist)) took, tt)
 
 pub hand_over-requires-clause-some : goal.hand_over-requires-clause-some
 hand_over-requires-clause-some g c κs within =

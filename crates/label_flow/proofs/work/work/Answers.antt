@@ -19,9 +19,9 @@ loop-at-preserved g c =
           let later = w.walk.ensures.later in
           let r = e.0 in
           let mine : (batch.base + c.loop-at.at) % batch.workers ≡ k = search (h.turn, rules) in
-          let walked = subst (λ (q : PlanState). IsWalked q hops c.loop-at.viewer.seen w.walk.new.viewer.seen w.index-packets-at.result r.walked r.octets) h.later.plan e.2 in
-          let walked = subst (λ (x : PacketIn). IsWalked c.args.viewer.now.plan hops c.loop-at.viewer.seen w.walk.new.viewer.seen x r.walked r.octets) w.index-packets-at.is walked in
-          let works = work_more c.args.viewer.now.plan hops k batch.workers batch.base c.args.viewer.now.seen packets c.loop-at.at w.index-packets-at.result
+          let walked = subst (λ (q : PlanState). IsWalked q hops c.loop-at.viewer.seen w.walk.new.viewer.seen w.index.result.now r.walked r.octets) h.later.plan e.2 in
+          let walked = subst (λ (x : PacketIn). IsWalked c.args.viewer.now.plan hops c.loop-at.viewer.seen w.walk.new.viewer.seen x r.walked r.octets) w.index.ensures walked in
+          let works = work_more c.args.viewer.now.plan hops k batch.workers batch.base c.args.viewer.now.seen packets c.loop-at.at w.index.result.now
           c.loop-at.bench c.loop-at.viewer.seen w.walk.new.viewer.seen h.works (omega arith) mine r walked in
           record {
             inside = omega arith;
