@@ -107,7 +107,7 @@ pub fn spread<G: Gate + Sync, R: Threads + Sync>(
     share(rt, &shift, worker.number, viewers, benches)
 }
 
-// The workers from this number on. In a cycle of calls what is behind an inner reference stays the same.
+// The workers from this number on, which stands beside the shift: a cycle of calls hands a struct of references on as it came.
 #[cycle(halves)]
 fn share<G: Gate + Sync, R: Threads + Sync>(
     rt: &R,
@@ -165,15 +165,17 @@ fn both_halves<G: Gate + Sync, R: Threads + Sync>(
         requires { IsSync R.row × IsSync G.row
             × CanWork shift.now.worker.now.flow.now.hops first shift.now.batch.now
             front.now front_benches.now }
-        ensures { HaveWorked shift.entry.now.worker.now.flow.now.hops first shift.entry.now.batch.now
-            front.entry.now front.exit.now front_benches.entry.now front_benches.exit.now result }
+        ensures { HaveWorked shift.entry.now.worker.now.flow.now.hops first
+            shift.entry.now.batch.now front.entry.now front.exit.now
+            front_benches.entry.now front_benches.exit.now result }
     { share(rt, shift, first, front, front_benches) };
     let mut other = || -> Result<(), OutOfMemory>
         requires { IsSync R.row × IsSync G.row
             × CanWork shift.now.worker.now.flow.now.hops later shift.now.batch.now
             back.now back_benches.now }
-        ensures { HaveWorked shift.entry.now.worker.now.flow.now.hops later shift.entry.now.batch.now
-            back.entry.now back.exit.now back_benches.entry.now back_benches.exit.now result }
+        ensures { HaveWorked shift.entry.now.worker.now.flow.now.hops later
+            shift.entry.now.batch.now back.entry.now back.exit.now
+            back_benches.entry.now back_benches.exit.now result }
     { share(rt, shift, later, back, back_benches) };
     join_mut(rt, &mut one, &mut other)
 }
