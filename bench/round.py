@@ -28,7 +28,7 @@ use label_flow::{End, Feed, Octets, OpenGate, PacketIn, Walked, round};
 use label_gateway::forward_into;
 use label_receive::{Room, receive_into};
 use node_tables::Tables;
-use packet_walk::{WalkRoom, WalkedSlot, walk_into};
+use packet_walk::{WalkRoom, WalkedSlot, Worker, walk_into};
 use std::str::from_utf8;
 use std::time::Instant;
 use std::{env, fs, io};
@@ -171,9 +171,10 @@ fn walked(alloc: Global, viewer: &mut Viewer, flow: &FlowLine, packets: u64) -> 
     let mut room = WalkRoom::new(alloc).ok()?;
     let mut slot = WalkedSlot::new();
     let mut out = Vec::new(alloc);
+    let worker = Worker { flow, number: 0, gate: &OpenGate };
     for number in 0..packets {
         let packet = stock.get((number % 1024) as usize)?;
-        room = walk_into(viewer, flow, 0, number, packet, room, &mut slot, &mut out, &OpenGate).ok()?;
+        room = walk_into(&worker, viewer, number, packet, room, &mut slot, &mut out).ok()?;
         count.sum = count.sum.wrapping_add(out.len() as u64);
     }
     if let End::Delivered { .. } = slot.into_walked().end {

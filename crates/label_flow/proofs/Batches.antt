@@ -10,18 +10,15 @@ use Rattle.packet_walk.specs.declared.walked.End.TheVariants as the_end
 use Rattle.packet_walk.specs.declared.walked.Walked.{Walked}
 use Rattle.label_flow.specs.Pair.{PairState}
 use Rattle.packet_walk.specs.declared.packet.PacketIn.{PacketIn}
-use Rattle.packet_walk.specs.Walk.{Coming, from_outside, from_hop, octets_in, Passage, goes_on, arrives, hop_verdict, Ends, IsWalk, IsWalked, Rises}
+use Rattle.packet_walk.specs.Walk.{Coming, from_outside, from_hop, octets_in, Passage, goes_on, arrives, hop_verdict, Ends, IsWalk, IsWalked}
 use Rattle.packet_label.specs.declared.denial.Denial.{Denial}
 use Rattle.packet_label.specs.declared.denial.Denial.TheVariants.{NotIp}
 use Rattle.flow_lines.specs.Hop.{node_of}
 use Rattle.label_flow.specs.Feed.{MayAccept, IsDeniedBy, AreFetched, IsOver, AreBegun, AreWhole}
 use Rattle.label_flow.specs.Round.{pick, IsWork, AreLater, AreRounds, IsRound}
-use Rattle.label_flow.specs.inside.Work.{AreWorks, AreFirst, HasRoom, AllFit, HasNodes}
+use Rattle.label_flow.specs.inside.Work.{AreWorks, AreFirst, HasRoom, AllFit, HasNodes, HasViewers}
+use Rattle.label_flow.proofs.Rising.{rises_later}
 use Rattle.label_flow.proofs.Works.{pick-append, work-append}
-
-rises_later : (low high : ℕ) (vs : List ℕ) → Rises low high vs → low ≤ high
-rises_later low high [] h = h
-rises_later low high (v ∷ vs) h = le_trans h.0 (rises_later v high vs h.1)
 
 pub work_later : (p : PlanState) (hops : List Hop) (seen now : ℕ) (xs : List PacketIn) (rs : List PairState) → IsWork p hops seen xs rs now → seen ≤ now
 work_later p hops seen now [] [] h = h
@@ -168,6 +165,12 @@ has_room hops n batch vs ds us h =
     let len = works_length hops (length vs) n batch 0 vs ds us h in
     rw len (record { each = λ k lt. works_room hops (length vs) n batch 0 vs ds us h k lt ∙ ap (λ i. length (pick i (length vs) n batch)) (omega arith) })
 
+-- all workers there are
+pub all_works : (hops : List Hop) (k w n : ℕ) (batch : List PacketIn) (vs : List ViewerState) (ds : List (List PairState)) (us : List ViewerState) → k ≡ 0 → w ≡ length vs
+    → AreWorks hops w n batch k vs ds us → AreWorks hops (length vs) n batch 0 vs ds us
+all_works hops k w n batch vs ds us first all h =
+    subst (λ (m : ℕ). AreWorks hops m n batch 0 vs ds us) all (subst (λ (j : ℕ). AreWorks hops w n batch j vs ds us) first h)
+
 -- what was handed over is a round of the first packets
 pub handed_round : (hops : List Hop) (n : ℕ) (batch : List PacketIn) (vs : List ViewerState) (ds : List (List PairState)) (us : List ViewerState) (rs : List PairState) → AreWorks hops (length vs) n batch 0 vs ds us
     → AreFirst (length ds) n ds rs → length rs ≤ length batch → IsRound hops n (take (length rs) batch) rs vs us
@@ -206,13 +209,18 @@ later_later (v ∷ vs) [] ws h k = absurd h
 later_later (v ∷ vs) (u ∷ us) [] h k = absurd k
 later_later (v ∷ vs) (u ∷ us) (w ∷ ws) h k = (record { board = k.0.board ∙ h.0.board; plan = k.0.plan ∙ h.0.plan; seen = le_trans h.0.seen k.0.seen }, later_later vs us ws h.1 k.1)
 
-pub holds_later : (hops : List Hop) (vs us : List ViewerState) → AreLater vs us → All (HasNodes hops) vs → All (HasNodes hops) us
+holds_later : (hops : List Hop) (vs us : List ViewerState) → AreLater vs us → All (HasNodes hops) vs → All (HasNodes hops) us
 holds_later hops [] [] h all = all
 holds_later hops [] (u ∷ us) h all = absurd h
 holds_later hops (v ∷ vs) [] h all = absurd h
 holds_later hops (v ∷ vs) (u ∷ us) h all =
     let P : PlanState → Type 0 = λ p. All (λ (hop : Hop). node_of hop < p.nodes) hops in
     All-cons (HasNodes hops) u us (subst P (sym h.0.plan) (all 0 v (omega arith))) (holds_later hops vs us h.1 (λ k d lt. all (suc k) d (omega (arith, lt))))
+
+pub viewers_later : (hops : List Hop) (vs us : List ViewerState) → AreLater vs us → HasViewers hops vs → HasViewers hops us
+viewers_later hops vs us h v =
+    let len = later_length vs us h in
+    record { some = omega (arith, len, v.some); few = omega (arith, len, v.few); nodes = holds_later hops vs us h v.nodes }
 
 rounds_append : (hops : List Hop) (w n l : ℕ) (ps qs : List PacketIn) (rs ss : List PairState) (k : ℕ) (vs us ws : List ViewerState) → l ≡ n + length ps → length rs ≡ length ps
     → AreLater vs us → AreRounds hops w n ps rs k vs us → AreRounds hops w l qs ss k us ws → AreRounds hops w n (ps ++ qs) (rs ++ ss) k vs ws
@@ -259,10 +267,13 @@ begun_part None b ps qs m h k = tt
 begun_part (Some a) None ps qs m h k = absurd h
 begun_part (Some a) (Some b) ps qs m h k = (k.0, h ∙ ap (λ zs. ps ++ zs) k.1 ∙ sym (append_assoc ps qs k.0))
 
-pub front_take : (a b : Option (List PacketIn)) (ps : List PacketIn) (m : ℕ) → AreFetched a ps b → AreBegun a (take m ps)
-front_take None b ps m h = tt
-front_take (Some a) None ps m h = absurd h
-front_take (Some a) (Some b) ps m h = (drop m ps ++ b, h ∙ ap (λ zs. zs ++ b) (sym (take-append-drop m ps)) ∙ append_assoc (take m ps) (drop m ps) b)
+pub begun_take : (ps : List PacketIn) (m : ℕ) → AreBegun (Some ps) (take m ps)
+begun_take ps m = (drop m ps, sym (take-append-drop m ps))
+
+pub front_part : (a b : Option (List PacketIn)) (ps qs : List PacketIn) → AreFetched a ps b → AreBegun (Some ps) qs → AreBegun a qs
+front_part None b ps qs h k = tt
+front_part (Some a) None ps qs h k = absurd h
+front_part (Some a) (Some b) ps qs h k = (k.0 ++ b, h ∙ ap (λ zs. zs ++ b) k.1 ∙ append_assoc qs k.0 b)
 
 pub front_whole : (a b : Option (List PacketIn)) (ps : List PacketIn) → AreFetched a ps b → IsOver b → AreWhole a ps
 front_whole None b ps h over = tt

@@ -8,12 +8,13 @@ use Rattle.shared_tables.specs.Plan.{PlanState}
 use Rattle.shared_tables.specs.Board.{ViewerState}
 use Rattle.packet_walk.specs.declared.packet.PacketIn.{PacketIn}
 use Rattle.packet_walk.specs.declared.walked.End.{End}
-use Rattle.packet_walk.specs.Walk.{Rises, IsWalkOf}
+use Rattle.packet_walk.specs.Walk.{IsWalkOf}
 use Rattle.packet_walk.proofs.Law.{walks_end_in_one_way, walks_agree_on_a_beginning}
 use Rattle.label_flow.specs.Pair.{PairState}
 use Rattle.label_flow.specs.Round.{pick, IsWork, AreRounds, IsRound}
 use Rattle.label_flow.specs.Schedule.{AreSeen, in_a_row, versions_in, AreLawful}
 use Rattle.label_flow.specs.Walked.{AreWalked}
+use Rattle.label_flow.proofs.Rising.{rises_within}
 
 -- none of the versions of a packet is above m
 abbrev pub Within : ℕ → PairState → Type 0
@@ -84,13 +85,6 @@ walked_over plan hops m (x ∷ xs) (r ∷ rs) low h = (
   walked_over plan hops m xs rs (rest_of (Within m) r rs low) h.1,
 )
 
--- rising numbers are none above the last bound
-rises_within : (a b : ℕ) (xs : List ℕ) → Rises a b xs → (a ≤ b) × All (λ v. v ≤ b) xs
-rises_within a b [] h = (h, All-nil (λ (v : ℕ). v ≤ b))
-rises_within a b (x ∷ xs) h =
-    let behind = rises_within x b xs h.1 in
-    (le_trans h.0 behind.0, All-cons (λ (v : ℕ). v ≤ b) x xs behind.0 behind.1)
-
 first_part : (m : ℕ) (xs ys : List ℕ) → All (λ v. v ≤ m) (xs ++ ys) → All (λ v. v ≤ m) xs
 first_part m [] ys all = All-nil (λ (v : ℕ). v ≤ m)
 first_part m (x ∷ xs) ys all = All-cons (λ (v : ℕ). v ≤ m) x xs (first_of (λ (v : ℕ). v ≤ m) x (xs ++ ys) all) (first_part m xs ys (rest_of (λ (v : ℕ). v ≤ m) x (xs ++ ys) all))
@@ -117,7 +111,7 @@ pub lawful_over : (plan : PlanState) (hops : List Hop) (w before after m : ℕ) 
 lawful_over plan hops w before after m packets seen less h = record {
   count = h.count;
   walks = λ k within. seen_over plan hops m (pick k w 0 packets) (pick k w 0 seen)
-      (lower after m (in_a_row (pick k w 0 seen)) less (rises_within before after (in_a_row (pick k w 0 seen)) (h.rises k within)).1) (h.walks k within);
+      (lower after m (in_a_row (pick k w 0 seen)) less (rises_within before after (in_a_row (pick k w 0 seen)) (h.rises k within))) (h.walks k within);
   rises = h.rises;
 }
 

@@ -1,3 +1,4 @@
+pub mod Rising
 pub mod Works
 pub mod Handing
 pub mod Batches

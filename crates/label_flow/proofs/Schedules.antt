@@ -10,11 +10,8 @@ use Rattle.packet_walk.specs.declared.packet.PacketIn.{PacketIn}
 use Rattle.packet_walk.specs.Walk.{Rises}
 use Rattle.label_flow.specs.Round.{pick}
 use Rattle.label_flow.specs.Schedule.{FlowEvent, step, look, looks_of, steps_in, AreSeen, in_a_row, AreLawful, IsPlay, times, looks_at, by_version, rows_by}
+use Rattle.label_flow.proofs.Rising.{rises_lower, rises_later}
 use Rattle.label_flow.proofs.Dealt.{rows_are, each_seen, judged_by, as_many, seen_of, all_seen}
-
-lower : (low' low high : ℕ) (vs : List ℕ) → low' ≤ low → Rises low high vs → Rises low' high vs
-lower low' low high [] down h = le_trans down h
-lower low' low high (v ∷ vs) down h = (le_trans down h.0, h.1)
 
 -- what a worker finds doesn't fall
 looks_rise : (k v : ℕ) (events : List FlowEvent) → Rises v (v + steps_in events) (looks_of k v events)
@@ -22,7 +19,7 @@ looks_rise k v [] = omega arith
 looks_rise k v (step ∷ events) =
     let h : Rises (v + 1) (v + 1 + steps_in events) (looks_of k (v + 1) events) = looks_rise k (v + 1) events in
     let same : v + 1 + steps_in events ≡ v + suc (steps_in events) = omega arith in
-    lower v (v + 1) (v + suc (steps_in events)) (looks_of k (v + 1) events) (omega arith) (subst (λ (n : ℕ). Rises (v + 1) n (looks_of k (v + 1) events)) same h)
+    rises_lower v (v + 1) (v + suc (steps_in events)) (looks_of k (v + 1) events) (omega arith) (subst (λ (n : ℕ). Rises (v + 1) n (looks_of k (v + 1) events)) same h)
 looks_rise k v (look worker ∷ events) =
     let h = looks_rise k v events in
     elim (nat_eq worker k) as (λ b. Rises v (v + steps_in events) (cond b (v ∷ looks_of k v events) (looks_of k v events))) [ true ↦ (le_refl v, h) | false ↦ h ]
@@ -107,10 +104,6 @@ abbrev from : ℕ → List ℕ → List ℕ
 from v [] = []
 from v (x ∷ xs) = cond (nat_le v x) (x ∷ from v xs) (from v xs)
 
-rises_within : (low high : ℕ) (xs : List ℕ) → Rises low high xs → low ≤ high
-rises_within low high [] h = h
-rises_within low high (x ∷ xs) h = le_trans h.0 (rises_within x high xs h.1)
-
 no_times : (v x high : ℕ) (xs : List ℕ) → v < x → Rises x high xs → times v xs ≡ 0
 no_times v x high [] less h = refl
 no_times v x high (y ∷ ys) less h =
@@ -153,7 +146,7 @@ from_split v low high (x ∷ xs) h =
 from_none : (v low high : ℕ) (xs : List ℕ) → Rises low high xs → high < v → from v xs ≡ []
 from_none v low high [] h above = refl
 from_none v low high (x ∷ xs) h above =
-    let inside : x ≤ high = rises_within x high xs h.1 in
+    let inside : x ≤ high = rises_later x high xs h.1 in
     let b : nat_le v x ≡ false = grind (arith, nat_tests) in
     rw b (from_none v x high xs h.1 above)
 

@@ -1,20 +1,18 @@
 -- Works that follow one another, and the packets of a worker.
-use Rattle.std.proofs.Common.{◌≡◌, ◌≢◌, ℕ, ◌+◌, ◌%◌, ◌<◌, ◌≤◌, true, false, List, [], ◌∷◌, ◌++◌, length, take, Result, Ok, Err, OnOk, IsOk, Some, get_or, nat_eq, cond, sym, ◌∙◌, ap, subst, le_refl, le_trans, arith, add-zero, append-nil}
+use Rattle.std.proofs.Common.{◌≡◌, ◌≢◌, ℕ, ◌+◌, ◌%◌, ◌<◌, ◌≤◌, true, false, List, [], ◌∷◌, ◌++◌, length, take, Result, Ok, Err, OnOk, IsOk, Some, get_or, nat_eq, cond, refl, sym, ◌∙◌, ap, subst, le_refl, le_trans, arith, add-zero, append-nil}
 use Rattle.std.proofs.lemmas.Bool.Decides.{nat_tests}
-use Rattle.std.proofs.lemmas.List.{take_more, length-take}
+use Rattle.std.proofs.lemmas.List.{take_more, length-take, length-append}
 use Rattle.shared_tables.specs.Plan.{PlanState, reply_after}
 use Rattle.node_tables.specs.declared.reply.Reply.{Reply}
 use Rattle.flow_lines.specs.declared.hop.Hop.{Hop}
 use Rattle.label_flow.specs.Pair.{PairState}
 use Rattle.packet_walk.specs.declared.packet.PacketIn.{PacketIn}
-use Rattle.packet_walk.specs.Walk.{IsWalked, Rises}
+use Rattle.packet_walk.specs.Walk.{IsWalked}
 use Rattle.shared_tables.specs.Board.{ViewerState}
 use Rattle.label_flow.specs.Round.{pick, IsWork, AreLater, AreReplies}
-use Rattle.label_flow.specs.inside.Work.{AreWorks}
-
-rises_lower : (low' low m : ℕ) (versions : List ℕ) → low' ≤ low → Rises low m versions → Rises low' m versions
-rises_lower low' low m [] down h = le_trans down h
-rises_lower low' low m (v ∷ versions) down h = (le_trans down h.0, h.1)
+use Rattle.label_flow.specs.declared.work.Batch.{Batch}
+use Rattle.label_flow.specs.inside.Work.{AreWorks, HaveWorked}
+use Rattle.label_flow.proofs.Rising.{rises_lower}
 
 walked_lower : (p : PlanState) (hops : List Hop) (low seen now : ℕ) (x : PacketIn) (r : PairState) → low ≤ seen → IsWalked p hops seen now x r.walked r.octets → IsWalked p hops low now x r.walked r.octets
 walked_lower p hops low seen now x r down w = record { walk = w.walk; rises = rises_lower low seen now r.walked.versions down w.rises; within = w.within; short = w.short }
@@ -105,6 +103,15 @@ works_both hops w n batch k l vs ws us zs all ds es (Ok a) (Ok b) (Ok r) split i
 works_both hops w n batch k l vs ws us zs all ds es (Ok a) (Err b) (Ok r) split is h t e = absurd (cc)
 works_both hops w n batch k l vs ws us zs all ds es (Err a) b (Ok r) split is h t e = absurd (cc)
 works_both hops w n batch k l vs ws us zs all ds es a b (Err r) split is h t e = tt
+
+pub halves_worked : {A B C E : Type 0} (hops : List Hop) (k : ℕ) (batch : Batch) (vs vs' ws ws' all : List ViewerState) (ds ds' es es' whole : List (List PairState)) (a : Result A E) (b : Result B E) (r : Result C E)
+    → all ≡ vs ++ ws → whole ≡ ds ++ es → HaveWorked hops k batch vs vs' ds ds' a → HaveWorked hops (k + length vs) batch ws ws' es es' b → OnOk r (IsOk a × IsOk b)
+    → HaveWorked hops k batch all (vs' ++ ws') whole (ds' ++ es') r
+halves_worked hops k batch vs vs' ws ws' all ds ds' es es' whole a b r split cut front back both = record {
+  later = subst (λ (xs : List ViewerState). AreLater xs (vs' ++ ws')) (sym split) (later-append vs vs' ws ws' front.later back.later);
+  same = omega (arith, length-append ds' es', length-append ds es, ap (λ (zs : List (List PairState)). length zs) cut, front.same, back.same);
+  ok = works_both hops batch.workers batch.base batch.packets.items k (k + length vs) vs ws vs' ws' all ds' es' a b r split refl front.ok back.ok both;
+}
 
 pub replies_more : (plan : PlanState) (k : ℕ) (rs : List Reply) (r : Reply) → AreReplies plan k rs → reply_after plan (k + length rs) ≡ Some r → AreReplies plan k (rs ++ r ∷ [])
 replies_more plan k [] r h is = (ap (reply_after plan) (sym (add-zero k)) ∙ is, tt)

@@ -1,16 +1,14 @@
 //! What a worker owns.
 
-ghost use Rattle.std.specs.Prelude.{◌≡◌, ◌+◌, ◌<◌, ◌≤◌, [], ◌∷◌, ◌++◌, length, take, slice_get, All, Some, OnOk};
-ghost use Rattle.flow_lines.specs.Hop.{node_of};
-ghost use Rattle.packet_walk.specs.Walk.{IsWalked};
+ghost use Rattle.std.specs.Prelude.{◌≡◌, ◌+◌, ◌<◌, ◌≤◌, [], ◌∷◌, ◌++◌, length, take, slice_get, Some, OnOk};
 ghost use Rattle.label_flow.specs.Pair.{PairState};
 ghost use Rattle.label_flow.specs.Round.{IsLater};
+ghost use Rattle.label_flow.specs.inside.Work.{HasNodes, IsWalkedBy};
 
 use crate::pair::PairSlot;
 use crossbeam_utils::CachePadded;
-use flow_lines::FlowLine;
 use mls_label::OutOfMemory;
-use packet_walk::{Gate, PacketIn, WalkRoom};
+use packet_walk::{Gate, PacketIn, WalkRoom, Worker};
 use shared_tables::Viewer;
 use std::alloc::Global;
 use std::marker::Model;
@@ -85,23 +83,21 @@ impl Bench {
     /// Walks a packet, and keeps what became of it behind the others.
     pub fn walk<G: Gate>(
         &mut self,
+        worker: &Worker<'_, '_, G>,
         viewer: &mut Viewer,
-        flow: &FlowLine,
-        worker: u32,
         number: u64,
         packet: &PacketIn,
         room: WalkRoom,
-        gate: &G,
     ) -> Result<WalkRoom, OutOfMemory>
-        requires nodes { All (λ hop. node_of hop < viewer.old.plan.nodes) flow.now.hops }
+        requires nodes { HasNodes worker.now.flow.now.hops viewer.old }
         ensures later { IsLater viewer.old viewer.new }
-        ensures ok { OnOk result ((pair : PairState) × (self.new ≡ self.old ++ pair ∷ []) × IsWalked viewer.old.plan flow.now.hops viewer.old.seen viewer.new.seen packet.now pair.walked pair.octets) }
+        ensures ok { OnOk result ((pair : PairState)
+            × (self.new ≡ self.old ++ pair ∷ [])
+            × IsWalkedBy worker.now.flow.now.hops viewer.old viewer.new packet.now pair) }
     {
         let filled = self.filled;
         let places = &mut self.places;
-        let room = walk_into_place(
-            places, filled, viewer, flow, worker, number, packet, room, gate,
-        )?;
+        let room = walk_into_place(places, filled, worker, viewer, number, packet, room)?;
         self.filled = filled + 1;
         Ok(room)
     }
@@ -111,23 +107,23 @@ impl Bench {
 fn walk_into_place<G: Gate>(
     places: &mut Vec<PairSlot>,
     filled: usize,
+    worker: &Worker<'_, '_, G>,
     viewer: &mut Viewer,
-    flow: &FlowLine,
-    worker: u32,
     number: u64,
     packet: &PacketIn,
     room: WalkRoom,
-    gate: &G,
 ) -> Result<WalkRoom, OutOfMemory>
     requires filled { filled ≤ length places.old.items }
-    requires nodes { All (λ hop. node_of hop < viewer.old.plan.nodes) flow.now.hops }
+    requires nodes { HasNodes worker.now.flow.now.hops viewer.old }
     ensures later { IsLater viewer.old viewer.new }
     ensures long { length places.old.items ≤ length places.new.items }
     ensures more { OnOk result (filled < length places.new.items) }
-    ensures ok { OnOk result ((pair : PairState) × (take (filled + 1) places.new.items ≡ take filled places.old.items ++ pair ∷ []) × IsWalked viewer.old.plan flow.now.hops viewer.old.seen viewer.new.seen packet.now pair.walked pair.octets) }
+    ensures ok { OnOk result ((pair : PairState)
+        × (take (filled + 1) places.new.items ≡ take filled places.old.items ++ pair ∷ [])
+        × IsWalkedBy worker.now.flow.now.hops viewer.old viewer.new packet.now pair) }
 {
     make_place(places, filled)?;
-    places[filled].walk(viewer, flow, worker, number, packet, room, gate)
+    places[filled].walk(worker, viewer, number, packet, room)
 }
 
 fn make_place(places: &mut Vec<PairSlot>, filled: usize) -> Result<(), OutOfMemory>

@@ -37,13 +37,17 @@ pub trait Feed {
     fn fetch(&mut self, batch: &mut Vec<PacketIn>) -> Result<bool, Self::Stop>
         requires due { due self.old ≡ 0 }
         requires ready { ready self.old }
-        ensures ok { IfOk result (λ more. HasFetched (left self.old) more batch.new.items (left self.new) (due self.new)) }
+        ensures ok { IfOk result (λ more.
+            HasFetched (left self.old) more batch.new.items (left self.new) (due self.new)) }
         ensures ended { IfOk result (λ more. more ≡ false → ended self.new ≡ true) }
-        ensures err { IfErr result (λ e. (left self.new ≡ left self.old) × (due self.new ≡ 0) × (stop self.new ≡ Some e)) }
+        ensures err { IfErr result (λ e. (left self.new ≡ left self.old)
+            × (due self.new ≡ 0)
+            × (stop self.new ≡ Some e)) }
         ensures stop { OnOk result (stop self.new ≡ stop self.old) }
         ensures ready { ready self.new }
         ensures hops { hops self.new ≡ hops self.old }
-        ensures took { (was : Self) (h : List PairState) → took was self.old h → took was self.new h };
+        ensures took { (was : Self) (h : List PairState)
+            → took was self.old h → took was self.new h };
 
     /// Takes what became of the next packet, and the octets that its walk left. After a stop it may have been taken or not.
     fn accept(&mut self, walked: &Walked, packet: &[u8]) -> Result<(), Self::Stop>
@@ -51,8 +55,13 @@ pub trait Feed {
         requires ready { ready self.old }
         requires fits { MayAccept (hops self.old) walked.now.end packet.now }
         ensures due { OnOk result (due self.new + 1 ≡ due self.old) }
-        ensures took { (was : Self) (h : List PairState) → took was self.old h → OnOk result (took was self.new (h ++ pair walked.now packet.now ∷ [])) }
-        ensures cut { (was : Self) (h : List PairState) → took was self.old h → OnErr result (took was self.new h ⊎ took was self.new (h ++ pair walked.now packet.now ∷ [])) }
+        ensures took { (was : Self) (h : List PairState)
+            → took was self.old h
+            → OnOk result (took was self.new (h ++ pair walked.now packet.now ∷ [])) }
+        ensures cut { (was : Self) (h : List PairState)
+            → took was self.old h
+            → OnErr result
+            (took was self.new h ⊎ took was self.new (h ++ pair walked.now packet.now ∷ [])) }
         ensures left { left self.new ≡ left self.old }
         ensures ready { ready self.new }
         ensures hops { hops self.new ≡ hops self.old }

@@ -1,6 +1,7 @@
 //! A round of packets of a flow beside the steps of a plan. One side of a join publishes the steps; the other judges the packets that a
 //! feed gives, with a worker for each viewer. Packet n, counted from 1, goes to worker (n - 1) mod workers, which takes its packets one
-//! after the other. What became of them goes back to the feed in their order.
+//! after the other. What became of them goes back to the feed in their order. The next cause of a stop is a variant of `RoundStop` in
+//! `rounds.rt`, with a case of `IsStop` in `specs/Stops.antt`.
 #![tactic(auto)]
 
 mod bench;

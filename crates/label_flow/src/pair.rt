@@ -1,13 +1,11 @@
 //! What became of a packet, with its octets, in a place that is filled for one packet after another.
 
-ghost use Rattle.std.specs.Prelude.{◌≡◌, ◌<◌, All, OnOk};
-ghost use Rattle.flow_lines.specs.Hop.{node_of};
-ghost use Rattle.packet_walk.specs.Walk.{IsWalked};
+ghost use Rattle.std.specs.Prelude.{◌≡◌, OnOk};
 ghost use Rattle.label_flow.specs.Round.{IsLater};
+ghost use Rattle.label_flow.specs.inside.Work.{HasNodes, IsWalkedBy};
 
-use flow_lines::FlowLine;
 use mls_label::OutOfMemory;
-use packet_walk::{Gate, PacketIn, WalkRoom, WalkedSlot, walk_into};
+use packet_walk::{Gate, PacketIn, WalkRoom, WalkedSlot, Worker, walk_into};
 use shared_tables::Viewer;
 use std::alloc::Global;
 use std::marker::Model;
@@ -39,28 +37,25 @@ impl PairSlot {
     /// Walks a packet into this place.
     pub fn walk<G: Gate>(
         &mut self,
+        worker: &Worker<'_, '_, G>,
         viewer: &mut Viewer,
-        flow: &FlowLine,
-        worker: u32,
         number: u64,
         packet: &PacketIn,
         room: WalkRoom,
-        gate: &G,
     ) -> Result<WalkRoom, OutOfMemory>
-        requires nodes { All (λ hop. node_of hop < viewer.old.plan.nodes) flow.now.hops }
+        requires nodes { HasNodes worker.now.flow.now.hops viewer.old }
         ensures later { IsLater viewer.old viewer.new }
-        ensures ok { OnOk result (IsWalked viewer.old.plan flow.now.hops viewer.old.seen viewer.new.seen packet.now self.new.walked self.new.octets) }
+        ensures ok { OnOk result
+            (IsWalkedBy worker.now.flow.now.hops viewer.old viewer.new packet.now self.new) }
     {
         walk_into(
-            viewer,
-            flow,
             worker,
+            viewer,
             number,
             packet,
             room,
             &mut self.walked,
             &mut self.octets,
-            gate,
         )
     }
 

@@ -37,6 +37,12 @@ const TWO_HOPS: &str = "in out forward:r,eth0,eth1,any receive:r,eth1";
 
 const ONE_HOP: &str = "in out receive:r,eth0";
 
+/// Three packets of the second batch are taken.
+const STOPPING: Supply = Supply {
+    packets: 1030,
+    stops_at: 1027,
+};
+
 const LIMIT: u64 = 1_000_000_000;
 
 /// So many packets, each with its number behind it. What became of them is counted.
@@ -271,7 +277,9 @@ fn begun<R: Wait + Abort>(
     requires version { version ≤ length (arc_value plan).steps }
     requires network { network ≡ network_after (arc_value plan) version }
     ensures publisher { (result.0.plan ≡ arc_value plan) × (result.0.version ≡ version) }
-    ensures viewers { (length result.1.items ≡ viewers) × All (λ viewer. viewer ≡ record { board = result.0.board; plan = arc_value plan; seen = version }) result.1.items }
+    ensures viewers { (length result.1.items ≡ viewers)
+        × All (λ viewer. viewer
+        ≡ record { board = result.0.board; plan = arc_value plan; seen = version }) result.1.items }
 {
     match Board::begin(rt, alloc, network, plan, version, viewers) {
         Ok(begun) => begun,
@@ -311,6 +319,23 @@ fn stepped<R: Wait + Abort>(rt: &R, publisher: Publisher, version: u32) -> Publi
     publisher
 }
 
+// So many packets, and where the feed stops, if it does.
+#[derive(Clone, Copy)]
+struct Supply {
+    packets: u64,
+    stops_at: u64,
+}
+
+// A feed that gives so many packets and doesn't stop.
+fn all(packets: u64) -> Supply
+    ensures { result.packets ≡ packets }
+{
+    Supply {
+        packets,
+        stops_at: u64::MAX,
+    }
+}
+
 // A round up to version 4, over a board that begins at this version.
 fn run<G: Gate + Sync, R: Threads + Wait + Sync + Abort>(
     rt: &R,
@@ -318,13 +343,12 @@ fn run<G: Gate + Sync, R: Threads + Wait + Sync + Abort>(
     version: u32,
     workers: usize,
     line: &str,
-    packets: u64,
-    stops_at: u64,
+    supply: Supply,
     gate: &G,
 ) -> (Copies, bool)
     requires version { version ≤ 4 }
     requires workers { (0 < workers) × (workers ≤ 16) }
-    requires packets { packets < 2 ^ 32 }
+    requires packets { supply.packets < 2 ^ 32 }
 {
     let flow = flow_of(rt, alloc, line);
     let plan = plan_of(rt, alloc);
@@ -333,11 +357,11 @@ fn run<G: Gate + Sync, R: Threads + Wait + Sync + Abort>(
     let mut feed = Copies {
         alloc,
         made: 0,
-        last: packets,
+        last: supply.packets,
         due: 0,
         hops: flow.hops.hops().len(),
         stop: None,
-        stops_at,
+        stops_at: supply.stops_at,
         taken: 0,
         delivered: 0,
         astray: 0,
@@ -367,7 +391,7 @@ fn the_handshake_passes(rt: HostRuntime) {
         stepped: AtomicU64::new(0),
         failed: AtomicU64::new(0),
     };
-    let (feed, went) = run(&rt, rt.alloc(), 3, 1, TWO_HOPS, 1, u64::MAX, &gate);
+    let (feed, went) = run(&rt, rt.alloc(), 3, 1, TWO_HOPS, all(1), &gate);
     assert!(rt; went && gate.failed.load(Ordering::SeqCst) == 0);
     assert!(rt; feed.delivered == 1 && feed.versions.as_slice() == [3, 4].as_slice());
 }
@@ -379,7 +403,7 @@ fn two_workers_have_lawful_versions(rt: HostRuntime) {
         stepped: AtomicU64::new(0),
         failed: AtomicU64::new(0),
     };
-    let (feed, went) = run(&rt, rt.alloc(), 3, 2, TWO_HOPS, 2, u64::MAX, &gate);
+    let (feed, went) = run(&rt, rt.alloc(), 3, 2, TWO_HOPS, all(2), &gate);
     assert!(rt; went && gate.failed.load(Ordering::SeqCst) == 0 && feed.delivered == 2);
     let versions = feed.versions.as_slice();
     assert!(rt; versions.len() == 4 && versions[1] == 4 && versions[3] == 4);
@@ -393,7 +417,7 @@ fn the_second_handshake_passes(rt: HostRuntime) {
         second: AtomicU64::new(0),
         failed: AtomicU64::new(0),
     };
-    let (feed, went) = run(&rt, rt.alloc(), 4, 2, TWO_HOPS, 2, u64::MAX, &gate);
+    let (feed, went) = run(&rt, rt.alloc(), 4, 2, TWO_HOPS, all(2), &gate);
     assert!(rt; went && gate.failed.load(Ordering::SeqCst) == 0);
     assert!(rt; feed.delivered == 2 && feed.versions.as_slice() == [4, 4, 4, 4].as_slice());
 }
@@ -401,8 +425,8 @@ fn the_second_handshake_passes(rt: HostRuntime) {
 // Three batches and three workers: each packet comes back once, in its place.
 #[test]
 fn batches_keep_their_order(rt: HostRuntime) {
-    let (feed, went) = run(&rt, rt.alloc(), 3, 3, ONE_HOP, 2049, u64::MAX, &OpenGate);
+    let (feed, went) = run(&rt, rt.alloc(), 3, 3, ONE_HOP, all(2049), &OpenGate);
     assert!(rt; went && feed.taken == 2049 && feed.delivered == 2049 && feed.astray == 0);
-    let (feed, went) = run(&rt, rt.alloc(), 4, 2, ONE_HOP, 1030, 1027, &OpenGate);
+    let (feed, went) = run(&rt, rt.alloc(), 4, 2, ONE_HOP, STOPPING, &OpenGate);
     assert!(rt; !went && feed.taken == 1027 && feed.stop == Some(2) && feed.due == 0);
 }

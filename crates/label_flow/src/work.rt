@@ -1,24 +1,23 @@
 //! The workers of one batch, beside each other.
 
-ghost use Rattle.std.specs.Prelude.{◌≡◌, ℕ, ◌+◌, ◌%◌, ◌<◌, ◌≤◌, ◌^◌, [], ◌∷◌, length, All, OnOk, IsOk};
+ghost use Rattle.std.specs.Prelude.{◌≡◌, ℕ, ◌+◌, ◌%◌, ◌<◌, ◌^◌, length, OnOk, IsOk};
 ghost use denote.Param.Send.{IsSync};
-ghost use Rattle.flow_lines.specs.Hop.{node_of};
-ghost use Rattle.label_flow.specs.Round.{pick, IsWork, IsLater, AreLater};
-ghost use Rattle.label_flow.specs.inside.Work.{AreWorks, HasNodes};
+ghost use Rattle.label_flow.specs.Round.{pick, IsWork, IsLater};
+ghost use Rattle.label_flow.specs.inside.Work.{HasNodes, CanWork, HaveWorked};
 
 use crate::bench::Bench;
-use flow_lines::FlowLine;
 use mls_label::OutOfMemory;
-use packet_walk::{Gate, PacketIn};
+use packet_walk::{Gate, PacketIn, Worker};
 use shared_tables::Viewer;
 use std::thread::{Threads, join_mut};
 
-/// Which packets a worker takes: those whose number, counted from 0, leaves `worker` by `workers`. The batch begins at number `base`.
-#[derive(Clone, Copy)]
-pub struct Turn {
-    pub worker: u32,
+/// Packets that so many workers share: the first has the number `base`, counted from 0, and each worker takes those whose number leaves
+/// its own by `workers`.
+#[derive(Drop)]
+pub struct Batch {
     pub workers: u32,
     pub base: u64,
+    pub packets: Vec<PacketIn>,
 }
 
 /// The worker whose turn comes after this one's.
@@ -32,98 +31,103 @@ pub fn next_turn(worker: u32, workers: u32) -> u32
 
 // One worker's packets of a batch, in their order.
 fn work<G: Gate>(
-    flow: &FlowLine,
-    gate: &G,
-    turn: Turn,
-    batch: &[PacketIn],
+    worker: &Worker<'_, '_, G>,
+    batch: &Batch,
     viewer: &mut Viewer,
     bench: &mut Bench,
 ) -> Result<(), OutOfMemory>
-    requires nodes { All (λ hop. node_of hop < viewer.old.plan.nodes) flow.now.hops }
-    requires workers { turn.worker < turn.workers }
-    requires numbers { turn.base + length batch.now < 2 ^ 63 }
+    requires nodes { HasNodes worker.now.flow.now.hops viewer.old }
+    requires workers { worker.now.number < batch.now.workers }
+    requires numbers { batch.now.base + length batch.now.packets.items < 2 ^ 63 }
     ensures later { IsLater viewer.old viewer.new }
-    ensures ok { OnOk result (IsWork viewer.old.plan flow.now.hops viewer.old.seen (pick turn.worker turn.workers turn.base batch.now) bench.new viewer.new.seen) }
+    ensures ok { OnOk result
+        (IsWork viewer.old.plan worker.now.flow.now.hops viewer.old.seen
+        (pick worker.now.number batch.now.workers batch.now.base batch.now.packets.items)
+        bench.new viewer.new.seen) }
 {
+    let packets = &batch.packets;
     bench.clear();
     let mut room = bench.lend()?;
     let mut at = 0;
-    let mut worker = (turn.base % u64::from(turn.workers)) as u32;
-    while at < batch.len() {
-        if worker == turn.worker {
-            let number = turn.base + at as u64 + 1;
-            room = bench.walk(viewer, flow, worker, number, &batch[at], room, gate)?;
+    let mut turn = (batch.base % u64::from(batch.workers)) as u32;
+    while at < packets.len() {
+        if turn == worker.number {
+            let number = batch.base + at as u64 + 1;
+            room = bench.walk(worker, viewer, number, &packets[at], room)?;
         }
-        worker = next_turn(worker, turn.workers);
+        turn = next_turn(turn, batch.workers);
         at += 1;
     }
     bench.keep(room);
     Ok(())
 }
 
-// One worker alone.
-fn alone<G: Gate>(
-    flow: &FlowLine,
-    gate: &G,
-    turn: Turn,
-    batch: &[PacketIn],
-    viewers: &mut [Viewer],
-    benches: &mut [Bench],
-) -> Result<(), OutOfMemory>
-    requires one { (length viewers.old ≡ 1) × (length benches.old ≡ 1) }
-    requires nodes { All (HasNodes flow.now.hops) viewers.old }
-    requires workers { turn.worker < turn.workers }
-    requires numbers { turn.base + length batch.now < 2 ^ 63 }
-    ensures later { AreLater viewers.old viewers.new }
-    ensures same { length benches.new ≡ length benches.old }
-    ensures ok { OnOk result (AreWorks flow.now.hops turn.workers turn.base batch.now turn.worker viewers.old benches.new viewers.new) }
-{
-    work(flow, gate, turn, batch, &mut viewers[0], &mut benches[0])
+/// What the workers of a batch share: the flow and the gate of the first of them, and the batch.
+#[derive(Drop)]
+struct Shift<'w, 'b, 'f, 'g, G> {
+    worker: &'w Worker<'f, 'g, G>,
+    batch: &'b Batch,
 }
 
-/// The workers from `turn.worker` on, one for each viewer and its bench, beside each other.
-#[cycle(halves)]
-pub fn spread<G: Gate + Sync, R: Threads + Sync>(
-    rt: &R,
-    flow: &FlowLine,
-    gate: &G,
-    turn: Turn,
-    batch: &[PacketIn],
+// The worker of this number alone.
+fn alone<G: Gate>(
+    shift: &Shift<'_, '_, '_, '_, G>,
+    number: u32,
     viewers: &mut [Viewer],
     benches: &mut [Bench],
 ) -> Result<(), OutOfMemory>
-    requires some { 0 < length viewers.old }
-    requires same { length benches.old ≡ length viewers.old }
-    requires nodes { All (HasNodes flow.now.hops) viewers.old }
-    requires workers { turn.worker + length viewers.old ≤ turn.workers }
-    requires numbers { turn.base + length batch.now < 2 ^ 63 }
-    ensures later { AreLater viewers.old viewers.new }
-    ensures same { length benches.new ≡ length benches.old }
-    ensures ok { OnOk result (AreWorks flow.now.hops turn.workers turn.base batch.now turn.worker viewers.old benches.new viewers.new) }
+    requires one { length viewers.old ≡ 1 }
+    requires work { CanWork shift.now.worker.now.flow.now.hops number shift.now.batch.now
+        viewers.old benches.old }
+    ensures { HaveWorked shift.now.worker.now.flow.now.hops number shift.now.batch.now
+        viewers.old viewers.new benches.old benches.new result }
+{
+    let worker = Worker {
+        flow: shift.worker.flow,
+        number,
+        gate: shift.worker.gate,
+    };
+    work(&worker, shift.batch, &mut viewers[0], &mut benches[0])
+}
+
+/// This worker and those after it, one for each viewer and its bench, beside each other.
+pub fn spread<G: Gate + Sync, R: Threads + Sync>(
+    rt: &R,
+    worker: &Worker<'_, '_, G>,
+    batch: &Batch,
+    viewers: &mut [Viewer],
+    benches: &mut [Bench],
+) -> Result<(), OutOfMemory>
+    requires { CanWork worker.now.flow.now.hops worker.now.number batch.now
+        viewers.old benches.old }
+    ensures { HaveWorked worker.now.flow.now.hops worker.now.number batch.now
+        viewers.old viewers.new benches.old benches.new result }
+{
+    let shift = Shift { worker, batch };
+    share(rt, &shift, worker.number, viewers, benches)
+}
+
+// The workers from this number on, which stands beside the shift: a cycle of calls hands a struct of references on as it came.
+#[cycle(halves)]
+fn share<G: Gate + Sync, R: Threads + Sync>(
+    rt: &R,
+    shift: &Shift<'_, '_, '_, '_, G>,
+    first: u32,
+    viewers: &mut [Viewer],
+    benches: &mut [Bench],
+) -> Result<(), OutOfMemory>
+    requires { CanWork shift.now.worker.now.flow.now.hops first shift.now.batch.now
+        viewers.old benches.old }
+    ensures { HaveWorked shift.now.worker.now.flow.now.hops first shift.now.batch.now
+        viewers.old viewers.new benches.old benches.new result }
 {
     if viewers.len() == 1 {
-        return alone(flow, gate, turn, batch, viewers, benches);
+        return alone(shift, first, viewers, benches);
     }
     let middle = viewers.len() / 2;
     let (front, back) = viewers.split_at_mut(middle);
     let (front_benches, back_benches) = benches.split_at_mut(middle);
-    let later = Turn {
-        worker: turn.worker + middle as u32,
-        workers: turn.workers,
-        base: turn.base,
-    };
-    let (a, b) = both_halves(
-        rt,
-        flow,
-        gate,
-        batch,
-        turn,
-        front,
-        front_benches,
-        later,
-        back,
-        back_benches,
-    );
+    let (a, b) = both_halves(rt, shift, first, front, front_benches, back, back_benches);
     together(a, b)
 }
 
@@ -140,34 +144,38 @@ fn together(a: Result<(), OutOfMemory>, b: Result<(), OutOfMemory>) -> Result<()
 #[cycle(halves)]
 fn both_halves<G: Gate + Sync, R: Threads + Sync>(
     rt: &R,
-    flow: &FlowLine,
-    gate: &G,
-    batch: &[PacketIn],
-    turn: Turn,
+    shift: &Shift<'_, '_, '_, '_, G>,
+    first: u32,
     front: &mut [Viewer],
     front_benches: &mut [Bench],
-    later: Turn,
     back: &mut [Viewer],
     back_benches: &mut [Bench],
 ) -> (Result<(), OutOfMemory>, Result<(), OutOfMemory>)
-    requires some { (0 < length front.old) × (0 < length back.old) }
-    requires same { (length front_benches.old ≡ length front.old) × (length back_benches.old ≡ length back.old) }
-    requires nodes { All (HasNodes flow.now.hops) front.old × All (HasNodes flow.now.hops) back.old }
-    requires workers { (turn.worker + length front.old ≤ turn.workers) × (later.worker + length back.old ≤ later.workers) }
-    requires numbers { (turn.base + length batch.now < 2 ^ 63) × (later.base + length batch.now < 2 ^ 63) }
-    ensures front_later { AreLater front.old front.new }
-    ensures back_later { AreLater back.old back.new }
-    ensures same { (length front_benches.new ≡ length front_benches.old) × (length back_benches.new ≡ length back_benches.old) }
-    ensures front { OnOk result.0 (AreWorks flow.now.hops turn.workers turn.base batch.now turn.worker front.old front_benches.new front.new) }
-    ensures back { OnOk result.1 (AreWorks flow.now.hops later.workers later.base batch.now later.worker back.old back_benches.new back.new) }
+    requires front { CanWork shift.now.worker.now.flow.now.hops first shift.now.batch.now
+        front.old front_benches.old }
+    requires back { CanWork shift.now.worker.now.flow.now.hops (first + length front.old)
+        shift.now.batch.now back.old back_benches.old }
+    ensures front { HaveWorked shift.now.worker.now.flow.now.hops first shift.now.batch.now
+        front.old front.new front_benches.old front_benches.new result.0 }
+    ensures back { HaveWorked shift.now.worker.now.flow.now.hops (first + length front.old)
+        shift.now.batch.now back.old back.new back_benches.old back_benches.new result.1 }
 {
+    let later = first + front.len() as u32;
     let mut one = || -> Result<(), OutOfMemory>
-        requires { IsSync R.row × IsSync G.row × (0 < length front.now) × (length front_benches.now ≡ length front.now) × All (HasNodes flow.now.hops) front.now × (turn.worker + length front.now ≤ turn.workers) × (turn.base + length batch.now < 2 ^ 63) }
-        ensures { AreLater front.entry.now front.exit.now × (length front_benches.exit.now ≡ length front_benches.entry.now) × OnOk result (AreWorks flow.entry.now.hops turn.workers turn.base batch.entry.now turn.worker front.entry.now front_benches.exit.now front.exit.now) }
-    { spread(rt, flow, gate, turn, batch, front, front_benches) };
+        requires { IsSync R.row × IsSync G.row
+            × CanWork shift.now.worker.now.flow.now.hops first shift.now.batch.now
+            front.now front_benches.now }
+        ensures { HaveWorked shift.entry.now.worker.now.flow.now.hops first
+            shift.entry.now.batch.now front.entry.now front.exit.now
+            front_benches.entry.now front_benches.exit.now result }
+    { share(rt, shift, first, front, front_benches) };
     let mut other = || -> Result<(), OutOfMemory>
-        requires { IsSync R.row × IsSync G.row × (0 < length back.now) × (length back_benches.now ≡ length back.now) × All (HasNodes flow.now.hops) back.now × (later.worker + length back.now ≤ later.workers) × (later.base + length batch.now < 2 ^ 63) }
-        ensures { AreLater back.entry.now back.exit.now × (length back_benches.exit.now ≡ length back_benches.entry.now) × OnOk result (AreWorks flow.entry.now.hops later.workers later.base batch.entry.now later.worker back.entry.now back_benches.exit.now back.exit.now) }
-    { spread(rt, flow, gate, later, batch, back, back_benches) };
+        requires { IsSync R.row × IsSync G.row
+            × CanWork shift.now.worker.now.flow.now.hops later shift.now.batch.now
+            back.now back_benches.now }
+        ensures { HaveWorked shift.entry.now.worker.now.flow.now.hops later
+            shift.entry.now.batch.now back.entry.now back.exit.now
+            back_benches.entry.now back_benches.exit.now result }
+    { share(rt, shift, later, back, back_benches) };
     join_mut(rt, &mut one, &mut other)
 }

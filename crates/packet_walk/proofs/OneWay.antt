@@ -1,5 +1,5 @@
 -- A walk under given versions ends in one way, and knows no more of a plan than its steps up to them.
-use Rattle.std.proofs.Common.{◌≡◌, ℕ, suc, ◌+◌, ◌≤◌, Bool, true, false, List, [], ◌∷◌, ◌++◌, take, arith, MatchBool, Result, Ok, Err, sym, ◌∙◌, subst, All}
+use Rattle.std.proofs.Common.{◌≡◌, ℕ, suc, ◌+◌, ◌≤◌, Bool, true, false, List, [], ◌∷◌, ◌++◌, take, arith, MatchBool, Result, Ok, Err, sym, ap, ◌∙◌, subst, All}
 use Rattle.ip_headers.specs.Packet.{ParsedPacket}
 use Rattle.ip_headers.specs.Written.{packet_octets, hides_payload}
 use Rattle.packet_label.specs.declared.denial.Denial.{Denial}
@@ -137,15 +137,6 @@ over_beginning plan hops packet versions end out m low x = of_over packet.is_ip 
 
 -- ---- no walk's versions begin those of another walk of the same packet
 
-first_version : {a b : ℕ} {xs ys : List ℕ} → a ∷ xs ≡ b ∷ ys → a ≡ b
-first_version {a} {b} {xs} {ys} is = cc
-
-later_versions : {a b : ℕ} {xs ys : List ℕ} → a ∷ xs ≡ b ∷ ys → xs ≡ ys
-later_versions {a} {b} {xs} {ys} is = cc
-
-both_versions : {a b : ℕ} {xs ys : List ℕ} → a ≡ b → xs ≡ ys → a ∷ xs ≡ b ∷ ys
-both_versions {a} {b} {xs} {ys} p q = cc
-
 behind_cut : (plan : PlanState) (k : ℕ) (hops : List Hop) (coming : Coming) (a b : List ℕ) (end end' : End) (out out' : List ℕ)
     → ((next : Coming) → IsWalk plan (k + 1) hops next a end out → IsWalk plan (k + 1) hops next b end' out' → a ≡ b)
     → (verdict : Result Passage Denial) → Behind plan k hops coming a end out verdict → Behind plan k hops coming b end' out' verdict → a ≡ b
@@ -159,17 +150,17 @@ walk_cut plan k [] coming a b r s end end' out out' is x y = x.0 ∙ sym y.0
 walk_cut plan k (hop ∷ hops) coming [] b r s end end' out out' is x y = absurd x
 walk_cut plan k (hop ∷ hops) coming (v ∷ a) [] r s end end' out out' is x y = absurd y
 walk_cut plan k (hop ∷ hops) coming (v ∷ a) (w ∷ b) r s end end' out out' is x y =
-    let first : v ≡ w = first_version is in
-    let rest : a ++ r ≡ b ++ s = later_versions is in
+    let first : v ≡ w = cc in
+    let rest : a ++ r ≡ b ++ s = cc in
     let p = as_judged plan k hop hops coming v a end out x in
     let q = as_judged plan k hop hops coming w b end' out' y in
     let same : q.0 ≡ p.0 = read_once coming q.0 p.0 q.1 p.1 in
     let there = subst (Judged plan k hop hops coming w b end' out') same q.2 in
     let now = subst (λ (n : ℕ). Judged plan k hop hops coming n b end' out' p.0) (sym first) there in
-    both_versions first
-    (behind_cut plan k hops coming a b end end' out out'
+    let behind = behind_cut plan k hops coming a b end end' out out'
     (λ next c d. walk_cut plan (k + 1) hops next a b r s end end' out out' rest c d)
-    (hop_verdict (network_after plan v) hop (octets_in coming) p.0) p.2 now)
+    (hop_verdict (network_after plan v) hop (octets_in coming) p.0) p.2 now in
+    ap (λ (n : ℕ). n ∷ a) first ∙ ap (λ (vs : List ℕ). w ∷ vs) behind
 
 of_cut : (ip : Bool) (plan : PlanState) (hops : List Hop) (octets a b r s : List ℕ) (end end' : End) (out out' : List ℕ) → a ++ r ≡ b ++ s
     → MatchBool ip (IsWalk plan 1 hops (from_outside octets) a end out) (Ends a end out (the_end.Denied 0 NotIp) [])

@@ -1,5 +1,5 @@
 -- A walk that goes on by one hop, and what was written is read back.
-use Rattle.std.proofs.Common.{◌≡◌, ◌⊎◌, inl, inr, ℕ, suc, ◌+◌, ◌<◌, ◌≤◌, Bool, true, false, List, [], ◌∷◌, ◌++◌, length, drop, take, get_or, arith, Some, slice_get, unwrap_or, MatchBool, Result, Ok, Err, refl, sym, ap, ◌∙◌, subst, le_refl, le_trans, append-nil}
+use Rattle.std.proofs.Common.{◌≡◌, ◌⊎◌, inl, inr, ℕ, suc, ◌+◌, ◌<◌, ◌≤◌, Bool, true, false, List, [], ◌∷◌, ◌++◌, length, drop, take, get_or, arith, Some, slice_get, unwrap_or, All, MatchBool, Result, Ok, Err, refl, sym, ap, ◌∙◌, subst, le_refl, append-nil}
 use Rattle.std.proofs.Math.Numerals.{suc-eq-add-one}
 use Rattle.std.proofs.Math.Seq.{drop-cons}
 use Rattle.std.proofs.lemmas.List.{length-append, length-drop, length-take-le, take_all}
@@ -17,6 +17,7 @@ use Rattle.packet_label.specs.declared.packet.Wire.{Wire}
 use Rattle.packet_label.specs.Written.{IsReadAs, written, settled_packet}
 use Rattle.packet_label.proofs.Law.{octets_are_a_packet_or_have_one_fault, written_packet_reads_back}
 use Rattle.flow_lines.specs.declared.hop.Hop.{Hop}
+use Rattle.flow_lines.specs.Hop.{node_of}
 use Rattle.node_tables.specs.Tables.{TableState, fresh}
 use Rattle.label_send.specs.Laws.{IsInRoom}
 use Rattle.shared_tables.specs.Plan.{PlanState, network_after}
@@ -24,7 +25,7 @@ use Rattle.packet_walk.specs.declared.hop.Given.TheVariants.{Goes, Arrives, Deni
 use Rattle.packet_walk.specs.declared.packet.PacketIn.{PacketIn}
 use Rattle.packet_walk.specs.declared.walked.End.{End}
 use Rattle.packet_walk.specs.declared.walked.End.TheVariants as the_end
-use Rattle.packet_walk.specs.Walk.{from_outside, from_hop, tables_of, hop_verdict, IsWalk, Ends, IsWalked, Rises}
+use Rattle.packet_walk.specs.Walk.{from_outside, from_hop, tables_of, hop_verdict, IsWalk, Ends, IsWalked}
 use Rattle.packet_walk.specs.inside.Hop.{ReadsBack, HasJudged}
 use Rattle.packet_walk.specs.inside.Way.{octets_behind, Comes, HasWalked}
 
@@ -171,9 +172,11 @@ module _ (plan : PlanState) (hops : List Hop) (packet : List ℕ) (began at : �
       (subst (λ (os : List ℕ). HasWalked plan (at + 1) (drop at hops) carrier octets seen seen before before (the_end.Sent carrier) os) (sym same)
       (walked_none plan (at + 1) (drop at hops) carrier octets seen before (omega (arith, last, length-drop at hops))))
 
-rises_later : (low high : ℕ) (vs : List ℕ) → Rises low high vs → low ≤ high
-rises_later low high [] h = h
-rises_later low high (v ∷ vs) h = le_trans h.0 (rises_later v high vs h.1)
+-- the node of the hop at this place is in the network
+pub node_at : (hops all : List Hop) (at : ℕ) (hop : Hop) (p q : PlanState) → hops ≡ all → p ≡ q → All (λ (x : Hop). node_of x < q.nodes) all → at < length hops → hop ≡ get_or hops at hop → node_of hop < p.nodes
+node_at hops all at hop p q same plan nodes within is =
+    let here = subst (λ (hs : List Hop). All (λ (x : Hop). node_of x < q.nodes) hs) (sym same) nodes in
+    subst (λ (r : PlanState). node_of hop < r.nodes) (sym plan) (subst (λ (x : Hop). node_of x < q.nodes) (sym is) (here at hop within))
 
 -- all hops of a packet of IP judged it
 pub walked_all : (plan : PlanState) (hops : List Hop) (carrier : Carrier) (seen now : ℕ) (packet : PacketIn) (after : List ℕ) (end : End) (out : List ℕ) → packet.is_ip ≡ true

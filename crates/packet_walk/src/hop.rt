@@ -40,7 +40,8 @@ pub fn hop_into(
     out: &mut Vec<u8>,
 ) -> Given
     requires { node_of hop.now < length network.now }
-    ensures { AnsweredOf packet.now (hop_verdict network.now hop.now packet.now) result room.new.local out.new.items }
+    ensures { AnsweredOf packet.now (hop_verdict network.now hop.now packet.now)
+        result room.new.local out.new.items }
 {
     match hop {
         Hop::Send {
@@ -88,7 +89,9 @@ fn send_at(
     room: &mut Room,
     out: &mut Vec<u8>,
 ) -> Given
-    ensures { Answered (passes sending (send_octets tables.now domain.now interface.now label.now packet.now)) result room.new.local out.new.items }
+    ensures { Answered
+        (passes sending (send_octets tables.now domain.now interface.now label.now packet.now))
+        result room.new.local out.new.items }
 {
     match send_into(
         tables,
@@ -113,7 +116,9 @@ fn forward_at(
     room: &mut Room,
     out: &mut Vec<u8>,
 ) -> Given
-    ensures { AnsweredOf packet.now (λ read. passes forwarding (judged_by (forward_of tables.now from.now to.now domain.now) read)) result room.new.local out.new.items }
+    ensures { AnsweredOf packet.now (λ read. passes forwarding
+        (judged_by (forward_of tables.now from.now to.now domain.now) read))
+        result room.new.local out.new.items }
 {
     match forward_into(tables, from, to, domain, packet, room, out) {
         Ok(carrier) => Given::Goes { carrier },
@@ -122,7 +127,10 @@ fn forward_at(
 }
 
 fn receive_at(tables: &Tables, interface: &Name, packet: &[u8], room: &mut Room) -> Given
-    ensures { (out : List ℕ) → AnsweredOf packet.now (λ read. passes arrives (judged_by (receive_of tables.now interface.now) read)) result room.new.local out }
+    ensures { (out : List ℕ)
+        → AnsweredOf packet.now
+        (λ read. passes arrives (judged_by (receive_of tables.now interface.now) read))
+        result room.new.local out }
 {
     match receive_into(tables, interface, packet, room) {
         Ok(receiver) => Given::Arrives { receiver },

@@ -16,13 +16,17 @@ ghost use Rattle.packet_walk.specs.NoOption.{HopHasNoOption, MeetsNoOption};
 
 /// Under given versions a packet's walk ends in one way, and leaves the same octets.
 pub fn walks_end_in_one_way()
-    ensures { (plan : PlanState) (hops : List Hop) (packet : PacketIn) (versions : List ℕ) (end end' : End) (out out' : List ℕ)
-        → IsWalkOf plan hops packet versions end out → IsWalkOf plan hops packet versions end' out' → (end ≡ end') × (out ≡ out') }
+    ensures { (plan : PlanState) (hops : List Hop) (packet : PacketIn)
+        (versions : List ℕ) (end end' : End) (out out' : List ℕ)
+        → IsWalkOf plan hops packet versions end out
+        → IsWalkOf plan hops packet versions end' out'
+        → (end ≡ end') × (out ≡ out') }
 {}
 
 /// A walk under no later version than m knows no more of a plan than its first m steps.
 pub fn walks_agree_on_a_beginning()
-    ensures { (plan : PlanState) (hops : List Hop) (packet : PacketIn) (versions : List ℕ) (end : End) (out : List ℕ) (m : ℕ)
+    ensures { (plan : PlanState) (hops : List Hop) (packet : PacketIn)
+        (versions : List ℕ) (end : End) (out : List ℕ) (m : ℕ)
         → All (λ v. v ≤ m) versions
         → IsWalkOf (record plan { steps = take m plan.steps }) hops packet versions end out
         → IsWalkOf plan hops packet versions end out }
@@ -30,24 +34,30 @@ pub fn walks_agree_on_a_beginning()
 
 /// A hop reads what comes to it in one way.
 pub fn hops_read_in_one_way()
-    ensures { (coming : Coming) (a b : Result (ParsedPacket Wire) CarryFault) → IsReadFrom coming a → IsReadFrom coming b → a ≡ b }
+    ensures { (coming : Coming) (a b : Result (ParsedPacket Wire) CarryFault)
+        → IsReadFrom coming a → IsReadFrom coming b → a ≡ b }
 {}
 
 /// A hop that has no option for a packet's label denies it, as Inexpressible where no earlier case of sending or forwarding holds.
 pub fn hops_without_an_option_deny()
-    ensures { (network : List TableState) (hop : Hop) (octets : List ℕ) (read : Result (ParsedPacket Wire) CarryFault) (why : Denial)
-        → HopHasNoOption network hop octets read why → hop_verdict network hop octets read ≡ Err why }
+    ensures { (network : List TableState) (hop : Hop) (octets : List ℕ)
+        (read : Result (ParsedPacket Wire) CarryFault) (why : Denial)
+        → HopHasNoOption network hop octets read why
+        → hop_verdict network hop octets read ≡ Err why }
 {}
 
 /// There the packet's walk ends, and no octet is left of it.
 pub fn walks_without_an_option_end_denied()
-    ensures { (plan : PlanState) (hops : List Hop) (packet : PacketIn) (versions : List ℕ) (end : End) (out : List ℕ) (at : ℕ)
-        (why : Denial) → IsWalkOf plan hops packet versions end out → MeetsNoOption plan hops packet versions at why
+    ensures { (plan : PlanState) (hops : List Hop) (packet : PacketIn)
+        (versions : List ℕ) (end : End) (out : List ℕ) (at : ℕ) (why : Denial)
+        → IsWalkOf plan hops packet versions end out
+        → MeetsNoOption plan hops packet versions at why
         → (end ≡ the_end.Denied at why) × (out ≡ []) }
 {}
 
 /// A walk's versions don't begin those of another walk of the packet.
 pub fn walks_are_cut_in_one_way()
-    ensures { (plan : PlanState) (hops : List Hop) (packet : PacketIn) (a b r s : List ℕ) (end end' : End) (out out' : List ℕ) → a ++ r ≡ b ++ s
+    ensures { (plan : PlanState) (hops : List Hop) (packet : PacketIn) (a b r s : List ℕ)
+        (end end' : End) (out out' : List ℕ) → a ++ r ≡ b ++ s
         → IsWalkOf plan hops packet a end out → IsWalkOf plan hops packet b end' out' → a ≡ b }
 {}

@@ -20,14 +20,18 @@ pub fn judge_at(
     lent: Box<Lent>,
 ) -> Result<Box<Lent>, OutOfMemory>
     requires { node_of hop.now < viewer.old.plan.nodes }
-    ensures ok { IfOk result (λ back. HasJudged viewer.old.plan viewer.old.seen viewer.new.seen hop.now packet.now back.value.given back.value.labels.local back.value.octets.items) }
+    ensures ok { IfOk result (λ back.
+        HasJudged viewer.old.plan viewer.old.seen viewer.new.seen hop.now packet.now
+        back.value.given back.value.labels.local back.value.octets.items) }
     ensures kept { (viewer.new.board ≡ viewer.old.board) × (viewer.new.plan ≡ viewer.old.plan) }
     ensures err { OnErr result (viewer.new ≡ viewer.old) }
 {
     viewer.look(
         move |_version, network| -> Box<Lent>
             requires { node_of hop.now < length network.now }
-            ensures { AnsweredOf packet.entry.now (hop_verdict network.now hop.entry.now packet.entry.now) result.value.given result.value.labels.local result.value.octets.items }
+            ensures { AnsweredOf packet.entry.now
+                (hop_verdict network.now hop.entry.now packet.entry.now)
+                result.value.given result.value.labels.local result.value.octets.items }
         {
             let mut lent = lent;
             let room: &mut Lent = &mut lent;

@@ -296,18 +296,14 @@ fn walks<R: Wait + Abort>(
         .expect(rt, "memory");
         assert!(rt; tell(rt, alloc, &walked).as_slice() == told.as_bytes());
         assert!(rt; out.as_slice() == *left);
-        room = walk_into(
-            &mut viewer,
-            &flow,
-            0,
-            2,
-            &packet,
-            room,
-            &mut slot,
-            &mut out,
-            &OpenGate,
-        )
-        .expect(rt, "memory");
+        let worker = Worker {
+            flow: &flow,
+            number: 0,
+            gate: &OpenGate,
+        };
+        room = walk_into(&worker, &mut viewer, 2, &packet, room, &mut slot, &mut out).expect(
+            rt, "memory",
+        );
         assert!(rt; tell(rt, alloc, shown.show(&slot)).as_slice() == told.as_bytes());
         assert!(rt; out.as_slice() == *left);
         drop(publisher.close(rt));

@@ -13,7 +13,8 @@ use crate::packet::PacketIn;
 use crate::room::WalkRoom;
 use crate::slot::WalkedSlot;
 use crate::walked::Walked;
-use flow_lines::{FlowLine, Hop};
+use crate::worker::Worker;
+use flow_lines::FlowLine;
 use mls_label::OutOfMemory;
 use packet_label::{Carrier, Denial};
 use shared_tables::Viewer;
@@ -36,42 +37,39 @@ pub fn walk<G: Gate>(
     gate: &G,
 ) -> Result<Walked, OutOfMemory>
     requires nodes { All (λ hop. node_of hop < viewer.old.plan.nodes) flow.now.hops }
-    ensures ok { IfOk result (λ walked. IsWalked viewer.old.plan flow.now.hops viewer.old.seen viewer.new.seen packet.now walked out.new.items) }
+    ensures ok { IfOk result (λ walked.
+        IsWalked viewer.old.plan flow.now.hops viewer.old.seen viewer.new.seen
+        packet.now walked out.new.items) }
     ensures kept { (viewer.new.board ≡ viewer.old.board) × (viewer.new.plan ≡ viewer.old.plan) }
     ensures seen { viewer.old.seen ≤ viewer.new.seen }
     ensures err { OnErr result (out.new.items ≡ []) }
 {
     out.clear();
     let room = WalkRoom::new(alloc)?;
-    let mut walked = WalkedSlot::new();
-    walk_into(
-        viewer,
+    let worker = Worker {
         flow,
-        worker,
-        number,
-        packet,
-        room,
-        &mut walked,
-        out,
+        number: worker,
         gate,
-    )?;
+    };
+    let mut walked = WalkedSlot::new();
+    walk_into(&worker, viewer, number, packet, room, &mut walked, out)?;
     Ok(walked.into_walked())
 }
 
 /// The same in a place, with labels and octets that are handed on. The place has any walk after an error.
 pub fn walk_into<G: Gate>(
+    worker: &Worker<'_, '_, G>,
     viewer: &mut Viewer,
-    flow: &FlowLine,
-    worker: u32,
     number: u64,
     packet: &PacketIn,
     room: WalkRoom,
     walked: &mut WalkedSlot,
     out: &mut Vec<u8>,
-    gate: &G,
 ) -> Result<WalkRoom, OutOfMemory>
-    requires nodes { All (λ hop. node_of hop < viewer.old.plan.nodes) flow.now.hops }
-    ensures ok { OnOk result (IsWalked viewer.old.plan flow.now.hops viewer.old.seen viewer.new.seen packet.now walked.new out.new.items) }
+    requires nodes { All (λ hop. node_of hop < viewer.old.plan.nodes) worker.now.flow.now.hops }
+    ensures ok { OnOk result
+        (IsWalked viewer.old.plan worker.now.flow.now.hops viewer.old.seen viewer.new.seen
+        packet.now walked.new out.new.items) }
     ensures kept { (viewer.new.board ≡ viewer.old.board) × (viewer.new.plan ≡ viewer.old.plan) }
     ensures seen { viewer.old.seen ≤ viewer.new.seen }
     ensures err { OnErr result (out.new.items ≡ []) }
@@ -83,10 +81,7 @@ pub fn walk_into<G: Gate>(
         return Ok(room);
     }
     let octets = packet.bytes.as_slice();
-    let hops = flow.hops.hops();
-    let ended = walk_hops(
-        viewer, hops, worker, number, octets, room, walked, out, gate,
-    );
+    let ended = walk_hops(worker, viewer, number, octets, room, walked, out);
     if ended.is_err() {
         out.clear();
     }
@@ -97,28 +92,28 @@ pub fn walk_into<G: Gate>(
 // Until the first look `walked` and `out` are left alone, with what the packet before left there: the atomic addition of a look would wait
 // for their cache lines.
 fn walk_hops<G: Gate>(
+    worker: &Worker<'_, '_, G>,
     viewer: &mut Viewer,
-    hops: &[Hop],
-    worker: u32,
     number: u64,
     packet: &[u8],
     room: WalkRoom,
     walked: &mut WalkedSlot,
     out: &mut Vec<u8>,
-    gate: &G,
 ) -> Result<WalkRoom, OutOfMemory>
-    requires nodes { All (λ hop. node_of hop < viewer.old.plan.nodes) hops.now }
-    requires few { length hops.now ≤ 16 }
-    ensures ok { OnOk result (HasWalked viewer.old.plan 1 hops.now Unlabelled packet.now viewer.old.seen viewer.new.seen [] walked.new.versions walked.new.end out.new.items) }
+    requires nodes { All (λ hop. node_of hop < viewer.old.plan.nodes) worker.now.flow.now.hops }
+    ensures ok { OnOk result
+        (HasWalked viewer.old.plan 1 worker.now.flow.now.hops Unlabelled packet.now
+        viewer.old.seen viewer.new.seen [] walked.new.versions walked.new.end out.new.items) }
     ensures kept { (viewer.new.board ≡ viewer.old.board) × (viewer.new.plan ≡ viewer.old.plan) }
     ensures seen { viewer.old.seen ≤ viewer.new.seen }
 {
+    let hops = worker.hops();
     let mut lent = room.lent;
     let mut carrier = Carrier::Unlabelled;
     let mut at = 0;
     while at < hops.len() {
         let k = at as u32 + 1;
-        gate.before_look(worker, number, k);
+        worker.gate.before_look(worker.number, number, k);
         lent = judge_at(viewer, &hops[at], coming(at, packet, out), lent)?;
         walked.judged_under(at, viewer.seen());
         match lent.given {

@@ -1,13 +1,12 @@
-use Rattle.std.proofs.Common.{rules, ◌≡◌, List, [], take, sym, subst, append-nil}
+use Rattle.std.proofs.Common.{rules, ◌≡◌, List, [], sym, subst, append-nil}
 use Rattle.label_flow.specs.Pair.{PairState}
-use Rattle.label_flow.proofs.Batches.{none_round, later_same, front_take, begun_none}
+use Rattle.label_flow.proofs.Batches.{none_round, later_same, front_part, begun_none}
 use Rattle.label_flow.proofs.rounds.batch_round.Goals as goal
 
 pub returns-in-Err-judge_batch-clause-took : goal.returns-in-Err-judge_batch-clause-took
 returns-in-Err-judge_batch-clause-took g c was hist took =
     let t = c.judge_batch.ensures.took was hist (c.fetch.ensures.took was hist took) in
-    let front = c.in-Ok-true.ensures.ok.front in
-    (take t.0 c.as_slice.result.now, t.1, t.2, rw c.as_slice.ensures.value (front_take _ _ _ t.0 front), t.3, tt)
+    (t.0, t.1, t.2, front_part _ _ _ t.0 c.in-Ok-true.ensures.ok.front t.3, t.4, tt)
 
 pub returns-in-Ok-false-clause-later : goal.returns-in-Ok-false-clause-later
 returns-in-Ok-false-clause-later g c = later_same _

@@ -1,19 +1,23 @@
 use Rattle.std.proofs.Common.{length, arith, ap, ◌∙◌}
-use Rattle.packet_walk.proofs.Walks.{behind_more, goes_more, goes_here, goes_denied, goes_out, put_length, put_all}
+use Rattle.packet_walk.proofs.Walks.{node_at, behind_more, goes_more, goes_here, goes_denied, goes_out, put_length, put_all}
 use Rattle.packet_walk.proofs.walking.walk_hops.Goals as goal
+
+pub judge_at-requires : goal.judge_at-requires
+judge_at-requires g c =
+    node_at _ _ _ _ _ _ c.hops-hops.ensures.hops c.loop-at.invariant.plan c.requires.nodes c.loop-at-test.true c.index-hops-at.is
 
 pub returns-in-Arrives-clause-ok : goal.returns-in-Arrives-clause-ok
 returns-in-Arrives-clause-ok g c =
     let h = c.loop-at.invariant in
     let judged = rw (h.plan, c.coming.ensures, rw c.deref.ensures at c.in-Arrives.is) at c.in_ok-lent.ensures.ok in
-    rw (c.deliver.ensures, c.deref-in-Arrives.ensures, c.judged_under.ensures, c.seen.ensures)
+    rw (← c.hops-hops.ensures.hops, c.deliver.ensures, c.deref-in-Arrives.ensures, c.judged_under.ensures, c.seen.ensures)
     (goes_here _ _ _ _ _ _ _ _ _ h.goes _ _ _ _ _ _ c.loop-at-test.true c.index-hops-at.is judged c.in_ok-leave-in-Arrives.ensures)
 
 pub returns-in-Denied-clause-ok : goal.returns-in-Denied-clause-ok
 returns-in-Denied-clause-ok g c =
     let h = c.loop-at.invariant in
     let judged = rw (h.plan, c.coming.ensures, rw c.deref.ensures at c.in-Denied.is) at c.in_ok-lent.ensures.ok in
-    rw (c.deny.ensures, c.judged_under.ensures, c.seen.ensures, c.clear.ensures.items)
+    rw (← c.hops-hops.ensures.hops, c.deny.ensures, c.judged_under.ensures, c.seen.ensures, c.clear.ensures.items)
     (goes_denied _ _ _ _ _ _ _ _ _ h.goes _ _ _ _ _ c.loop-at-test.true c.index-hops-at.is judged)
 
 pub loop-at-preserved : goal.loop-at-preserved
@@ -33,4 +37,4 @@ loop-at-preserved g c =
 pub returns-clause-ok : goal.returns-clause-ok
 returns-clause-ok g c =
     let h = c.loop-at.invariant in
-    rw (c.send.ensures, c.judged_by.ensures) (goes_out _ _ _ _ _ _ _ _ _ h.goes _ c.loop-at-test.false c.in_ok-leave.ensures)
+    rw (← c.hops-hops.ensures.hops, c.send.ensures, c.judged_by.ensures) (goes_out _ _ _ _ _ _ _ _ _ h.goes _ c.loop-at-test.false c.in_ok-leave.ensures)
