@@ -27,6 +27,7 @@ that."""
 # The repository's own checks: scripts with an exit status, each with its words.
 SCRIPTS = {
     "pages and trusted text": ["checks.py", "--pages"],
+    "rules on signatures": ["signatures_test.py"],
     "installing": ["install_test.py"],
     "netlabel and prove with a stand-in for rt": ["scripts_test.py"],
 }
