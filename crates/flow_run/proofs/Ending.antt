@@ -30,6 +30,7 @@ use Rattle.call_report.specs.Outside.{Outside, NoneFailed, NoWriteFailed}
 use Rattle.call_report.specs.Output.{Output, IsBegun, IsMade}
 use Rattle.call_report.specs.Printing.{Breaks}
 use Rattle.call_report.proofs.Law.{nothing_is_handed_on}
+use Rattle.flow_run.specs.declared.end.FlowPlace.{FlowPlace}
 use Rattle.flow_run.specs.declared.end.FlowEnd.{FlowEnd}
 use Rattle.flow_run.specs.declared.end.FlowEnd.TheVariants.{GoesOn, Broken, TooMany, Stopped}
 use Rattle.flow_run.specs.declared.end.FlowStop.{FlowStop}
@@ -43,7 +44,7 @@ use Rattle.flow_run.specs.Ends.{IsHandedOn, IsPrinted, IsEnd, HasEnded, HasMade,
 use Rattle.flow_run.specs.inside.Output.{IsAppended, HasHead}
 use Rattle.flow_run.specs.inside.Source.{records_left, frames_left, packets_left, heads_left, file_of, StandsBy, IsAtEnd, event_of, is_end, ReadsMove, IsFed}
 use Rattle.flow_run.specs.inside.Taken.{Moment, IsPrintedTo, kept_by, IsMoved, outside_of, HasTaken}
-use Rattle.flow_run.specs.inside.Flown.{IsStart, IsFresh, HasRead, HasCreated, CreatesMove, HasFlown, WaitsFor, IsBehind, stop_of, end_at}
+use Rattle.flow_run.specs.inside.Flown.{IsStart, EndsBehind, IsFresh, HasRead, HasCreated, CreatesMove, HasFlown, WaitsFor, IsBehind, stop_of, end_at}
 use Rattle.flow_run.proofs.Prints.{cut_off, print_goes}
 use Rattle.flow_run.proofs.Reading.{reads_more}
 use Rattle.flow_run.proofs.Steps.{fed_kept}
@@ -638,11 +639,11 @@ ends_unbegun plan names workers number most upto flow before after waits waits' 
     })
 
 -- a folder, a stream and a report that ended so
-pub ends_so : (plan : PlanState) (names : List (List ℕ)) (workers number most upto : ℕ) (flow : FlowLine) (before : Outside) (folder folder' : DepotState) (stream stream' : SinkState)
-    (waits still still' : List ℕ) (seen : List (List ℕ)) (end : FlowEnd) → folder' ≡ folder → stream' ≡ stream → still' ≡ still
-    → FlowEnds plan names workers number most upto flow before (record { folder = folder; stream = stream }) waits still seen end
-    → FlowEnds plan names workers number most upto flow before (record { folder = folder'; stream = stream' }) waits still' seen end
-ends_so plan names workers number most upto flow before folder folder' stream stream' waits still still' seen end same-folder same-stream same-waits ends =
-    subst (λ (x : DepotState). FlowEnds plan names workers number most upto flow before (record { folder = x; stream = stream' }) waits still' seen end) (sym same-folder)
-    (subst (λ (x : SinkState). FlowEnds plan names workers number most upto flow before (record { folder = folder; stream = x }) waits still' seen end) (sym same-stream)
-    (subst (λ (x : List ℕ). FlowEnds plan names workers number most upto flow before (record { folder = folder; stream = stream }) waits x seen end) (sym same-waits) ends))
+pub behind_so : (place : FlowPlace) (source : Source) (begun : DepotState) (printed : SinkState) (lines : List ℕ) (folder folder' : DepotState) (stream stream' : SinkState) (still still' : List ℕ)
+    (seen : List (List ℕ)) (end : FlowEnd) → folder' ≡ folder → stream' ≡ stream → still' ≡ still
+    → EndsBehind place source begun printed lines (record { folder = folder; stream = stream }) still seen end
+    → EndsBehind place source begun printed lines (record { folder = folder'; stream = stream' }) still' seen end
+behind_so place source begun printed lines folder folder' stream stream' still still' seen end same-folder same-stream same-waits ends =
+    subst (λ (x : DepotState). EndsBehind place source begun printed lines (record { folder = x; stream = stream' }) still' seen end) (sym same-folder)
+    (subst (λ (x : SinkState). EndsBehind place source begun printed lines (record { folder = folder; stream = x }) still' seen end) (sym same-stream)
+    (subst (λ (x : List ℕ). EndsBehind place source begun printed lines (record { folder = folder; stream = stream }) x seen end) (sym same-waits) ends))

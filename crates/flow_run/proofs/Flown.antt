@@ -68,8 +68,8 @@ pub ok_none : {T : Type 0} (result : Result T FlowStop) → IsOk result → stop
 ok_none (Ok given) ok = refl
 ok_none (Err stop) ok = absurd (let none : false ≡ true = ok in cc)
 
-pub no_stop : {P : Type 0} (stop : FlowStop) → Some stop ≡ None → P
-no_stop stop is = absurd (let none : Some stop ≡ None = is in cc)
+pub no_stop : {P : Type 0} (stop : FlowStop) (last : Option FlowStop) → last ≡ Some stop → last ≡ None → P
+no_stop stop last is none = absurd (let no : Some stop ≡ None = sym is ∙ none in cc)
 
 -- the tables and replies of a flow that goes on
 pub steps_flown : (plan : PlanState) (m from : ℕ) (end : FlowEnd) (driven : Result (Vec Reply Global) FlowStop) (network : List TableState) (old new : PublisherState)

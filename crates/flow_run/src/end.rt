@@ -7,7 +7,7 @@ use node_tables::{Network, Reply};
 use pcap_frames::CaptureFault;
 
 /// Where a flow stands in its script.
-#[derive(Drop)]
+#[derive(Clone, Copy)]
 pub struct FlowPlace<'a> {
     /// The flow's line.
     pub flow: &'a FlowLine,

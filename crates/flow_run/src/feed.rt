@@ -24,12 +24,12 @@ const PACKETS: usize = 1 << 27;
 
 /// Reads the packets of a flow, and gives what became of them to the report and the output.
 #[derive(Drop)]
-pub struct RunFeed<'d, 'o, 'r, 'p, 'f, D, S> {
+pub struct RunFeed<'d, 'o, 'r, 'f, D, S> {
     pub depot: &'d mut D,
     pub out: &'o mut S,
     pub report: &'r mut Report,
     pub alloc: Global,
-    pub place: &'p FlowPlace<'f>,
+    pub place: FlowPlace<'f>,
     pub source: Source,
     /// What waits for the output.
     pub octets: Vec<u8>,
@@ -92,7 +92,7 @@ fn hand_on<D: Depot, S: Sink>(
     }
 }
 
-impl<'d, 'o, 'r, 'p, 'f, D: Depot, S: Sink> Feed for RunFeed<'d, 'o, 'r, 'p, 'f, D, S> {
+impl<'d, 'o, 'r, 'f, D: Depot, S: Sink> Feed for RunFeed<'d, 'o, 'r, 'f, D, S> {
     type Stop = FlowStop;
 
     ghost use Rattle.std.specs.Prelude.{length};
@@ -107,7 +107,7 @@ impl<'d, 'o, 'r, 'p, 'f, D: Depot, S: Sink> Feed for RunFeed<'d, 'o, 'r, 'p, 'f,
 
     ghost stop = { λ f. f.stop };
 
-    ghost hops = { λ f. length f.place.now.flow.now.hops };
+    ghost hops = { λ f. length f.place.flow.now.hops };
 
     ghost ready = { λ f. IsReadyFeed D.state S.state f };
 
@@ -153,7 +153,7 @@ impl<'d, 'o, 'r, 'p, 'f, D: Depot, S: Sink> Feed for RunFeed<'d, 'o, 'r, 'p, 'f,
             self.out,
             self.report,
             octets,
-            self.place,
+            &self.place,
             &judged,
         ) {
             Ok(()) => Ok(()),

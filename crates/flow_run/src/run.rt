@@ -10,7 +10,7 @@ ghost use Rattle.flow_run.specs.inside.Board.{IsOpenFor};
 ghost use Rattle.flow_run.specs.inside.Output.{IsThere, AreSent};
 ghost use Rattle.flow_run.specs.inside.Source.{IsFed, is_end};
 ghost use Rattle.flow_run.specs.inside.Taken.{stop_in};
-ghost use Rattle.flow_run.specs.inside.Flown.{Gives, LeavesWaiting, WaitsFor, IsBehind, stop_of, end_at};
+ghost use Rattle.flow_run.specs.inside.Flown.{EndsBehind, Gives, IsFresh, LeavesWaiting, WaitsFor, IsBehind, stop_of, end_at};
 ghost use Rattle.flow_run.specs.inside.Feed.{IsSameFlow, IsNew, IsPrepared, GoesOnFrom, HasRound, HasTakenToEnd, HasFlownSince, EndsSince, last_moment};
 
 use crate::board::open_board;
@@ -18,7 +18,7 @@ use crate::end::{FlowEnd, FlowPlace, FlowStop};
 use crate::feed::RunFeed;
 use crate::output::{append_rest, create_output};
 use crate::runner::Runner;
-use crate::source::{Behind, begin_source};
+use crate::source::{Behind, Source, begin_source};
 use call_report::{FlowSeen, Report};
 use label_flow::{Gate, RoundStop, round};
 use net_io::{Depot, Sink};
@@ -43,25 +43,25 @@ fn drive<D: Depot + Send, S: Sink + Send, G: Gate + Sync, R: Threads + Wait + Sy
     runner: &Runner<'_, '_, R, G>,
     publisher: &mut Publisher,
     viewers: &mut [Viewer],
-    feed: &mut RunFeed<'_, '_, '_, '_, '_, D, S>,
+    feed: &mut RunFeed<'_, '_, '_, '_, D, S>,
 ) -> Result<Vec<Reply>, FlowStop>
-    requires stands { StandsAt feed.old.place.now }
-    requires board { IsOpenFor feed.old.place.now publisher.old viewers.old }
+    requires stands { StandsAt feed.old.place }
+    requires board { IsOpenFor feed.old.place publisher.old viewers.old }
     requires going { GoesOnFrom D.state S.state feed.old }
     ensures round { HasRound D.state S.state feed.old feed.new viewers.old viewers.new }
     ensures stop { feed.new.stop ≡ stop_in result }
     ensures fed { IsFed (D.state feed.new.depot.now) feed.new.source }
-    ensures there { IsThere feed.new.place.now.flow.now.output (D.state feed.new.depot.now) }
+    ensures there { IsThere feed.new.place.flow.now.output (D.state feed.new.depot.now) }
     ensures ended { OnOk result (is_end feed.new.source.behind ≡ true) }
     ensures plan { publisher.new.plan ≡ publisher.old.plan }
     ensures version { publisher.old.version ≤ publisher.new.version }
-    ensures replies { IfOk result (λ rs. (publisher.new.version ≡ feed.old.place.now.upto)
-        × (publisher.old.version + length rs.items ≡ feed.old.place.now.upto)
+    ensures replies { IfOk result (λ rs. (publisher.new.version ≡ feed.old.place.upto)
+        × (publisher.old.version + length rs.items ≡ feed.old.place.upto)
         × AreReplies publisher.old.plan publisher.old.version rs.items) }
 {
     let Runner { rt, alloc, gate } = runner;
     let FlowPlace { upto, flow, .. } = feed.place;
-    match round(*rt, *alloc, publisher, viewers, *upto, *flow, feed, *gate) {
+    match round(*rt, *alloc, publisher, viewers, upto, flow, feed, *gate) {
         Ok(replies) => Ok(replies),
         Err(RoundStop::Feed(stop)) => Err(stop),
         Err(RoundStop::OutOfMemory) => {
@@ -114,24 +114,24 @@ fn conclude(
 
 // What waits for the output is appended where nothing stopped the flow, and the flow ends.
 fn finish<D: Depot, S: Sink>(
-    feed: &mut RunFeed<'_, '_, '_, '_, '_, D, S>,
+    feed: &mut RunFeed<'_, '_, '_, '_, D, S>,
     network: Network,
     driven: Result<Vec<Reply>, FlowStop>,
 ) -> FlowEnd
-    requires there { IsThere feed.old.place.now.flow.now.output (D.state feed.old.depot.now) }
+    requires there { IsThere feed.old.place.flow.now.output (D.state feed.old.depot.now) }
     requires ended { OnOk driven (is_end feed.old.source.behind ≡ true) }
     requires stop { feed.old.stop ≡ stop_in driven }
     ensures same { IsSameFlow feed.old feed.new }
     ensures taken { HasTakenToEnd D.state S.state feed.old feed.new result }
-    ensures waits { WaitsFor feed.old.place.now.number result
+    ensures waits { WaitsFor feed.old.place.number result
         (last_moment D.state S.state feed.old feed.new result) feed.new.report.now.waiting.items }
     ensures sent { HasEnded result
-        → AreSent feed.old.place.now.flow.now.output feed.new.octets.items }
+        → AreSent feed.old.place.flow.now.output feed.new.octets.items }
     ensures behind { IsBehind result feed.new.source.behind }
     ensures gives { IfOk driven (λ replies. Gives result network replies.items) }
     ensures done { HasEnded result → IsOk driven }
     ensures fed { IsFed (D.state feed.old.depot.now) feed.old.source
-        → feed.old.place.now.flow.now.output ≢ Some feed.old.source.frames.name
+        → feed.old.place.flow.now.output ≢ Some feed.old.source.frames.name
         → IsFed (D.state feed.new.depot.now) feed.new.source }
 {
     match driven {
@@ -155,10 +155,10 @@ fn finish<D: Depot, S: Sink>(
 fn run_on<D: Depot + Send, S: Sink + Send, G: Gate + Sync, R: Threads + Wait + Sync>(
     runner: &Runner<'_, '_, R, G>,
     board: (Publisher, Vec<Viewer>),
-    feed: &mut RunFeed<'_, '_, '_, '_, '_, D, S>,
+    feed: &mut RunFeed<'_, '_, '_, '_, D, S>,
 ) -> FlowEnd
-    requires stands { StandsAt feed.old.place.now }
-    requires board { IsOpenFor feed.old.place.now board.0 board.1.items }
+    requires stands { StandsAt feed.old.place }
+    requires board { IsOpenFor feed.old.place board.0 board.1.items }
     requires prepared { IsPrepared D.state feed.old }
     ensures same { IsSameFlow feed.old feed.new }
     ensures flown { HasFlownSince D.state S.state feed.old feed.new result }
@@ -174,15 +174,16 @@ fn run_on<D: Depot + Send, S: Sink + Send, G: Gate + Sync, R: Threads + Wait + S
 fn run_made<D: Depot + Send, S: Sink + Send, G: Gate + Sync, R: Threads + Wait + Sync>(
     runner: &Runner<'_, '_, R, G>,
     network: Network,
-    feed: &mut RunFeed<'_, '_, '_, '_, '_, D, S>,
+    feed: &mut RunFeed<'_, '_, '_, '_, D, S>,
 ) -> FlowEnd
-    requires stands { StandsAt feed.old.place.now }
-    requires network { network ≡ tables_at feed.old.place.now }
+    requires stands { StandsAt feed.old.place }
+    requires network { network ≡ tables_at feed.old.place }
     requires prepared { IsPrepared D.state feed.old }
     ensures same { IsSameFlow feed.old feed.new }
     ensures flown { HasFlownSince D.state S.state feed.old feed.new result }
 {
-    match open_board(runner, feed.place, network) {
+    let place = feed.place;
+    match open_board(runner, &place, network) {
         Ok(board) => run_on(runner, board, feed),
         Err(_) => FlowEnd::Stopped(FlowStop::OutOfMemory),
     }
@@ -192,12 +193,14 @@ fn run_made<D: Depot + Send, S: Sink + Send, G: Gate + Sync, R: Threads + Wait +
 fn run_read<D: Depot + Send, S: Sink + Send, G: Gate + Sync, R: Threads + Wait + Sync>(
     runner: &Runner<'_, '_, R, G>,
     network: Network,
-    feed: &mut RunFeed<'_, '_, '_, '_, '_, D, S>,
+    feed: &mut RunFeed<'_, '_, '_, '_, D, S>,
 ) -> FlowEnd
-    requires stands { StandsAt feed.old.place.now }
-    requires network { network ≡ tables_at feed.old.place.now }
+    requires stands { StandsAt feed.old.place }
+    requires network { network ≡ tables_at feed.old.place }
     requires new { IsNew D.state feed.old }
-    ensures same { IsSameFlow feed.old feed.new }
+    ensures same { (feed.new.depot.ghost_name ≡ feed.old.depot.ghost_name)
+        × (feed.new.out.ghost_name ≡ feed.old.out.ghost_name)
+        × (feed.new.report.ghost_name ≡ feed.old.report.ghost_name) }
     ensures ends { EndsSince D.state S.state feed.old feed.new result }
 {
     let nanos = feed.source.frames.nanos();
@@ -209,6 +212,59 @@ fn run_read<D: Depot + Send, S: Sink + Send, G: Gate + Sync, R: Threads + Wait +
         Err(stop) => FlowEnd::Stopped(stop),
     }
 }
+
+// The flow of a source whose header was read, by a feed over what is lent to the flow.
+fn run_source<D: Depot + Send, S: Sink + Send, G: Gate + Sync, R: Threads + Wait + Sync>(
+    runner: &Runner<'_, '_, R, G>,
+    place: &FlowPlace<'_>,
+    network: Network,
+    source: Source,
+    report: &mut Report,
+    depot: &mut D,
+    out: &mut S,
+) -> (FlowSeen, FlowEnd)
+    requires stands { StandsAt place.now }
+    requires network { network ≡ tables_at place.now }
+    requires fresh { IsFresh place.now.flow.now.input place.now.most source }
+    requires fed { IsFed (D.state depot.old) source }
+    ensures { EndsBehind place.now source (D.state depot.old) (S.state out.old) report.old.waiting.items
+        (record { folder = D.state depot.new; stream = S.state out.new })
+        report.new.waiting.items result.0 result.1 }
+{
+    let alloc = runner.alloc;
+    let mut feed = RunFeed {
+        depot,
+        out,
+        report,
+        alloc,
+        place: *place,
+        source,
+        octets: Vec::new(alloc),
+        seen: FlowSeen::new(alloc),
+        passed: 0,
+        denied: 0,
+        stop: None,
+    };
+    let end = run_read(runner, network, &mut feed);
+    let RunFeed {
+        depot,
+        out,
+        report,
+        source: _source,
+        octets: _octets,
+        seen,
+        ..
+    } = feed;
+    end_loans(depot, out, report);
+    (seen, end)
+}
+
+// What was lent to a feed is as the feed left it. A proof has that of loans that are handed to a call.
+fn end_loans<D: Depot, S: Sink>(_depot: &mut D, _out: &mut S, _report: &mut Report)
+    ensures depot { D.state _depot.new ≡ D.state _depot.old }
+    ensures out { S.state _out.new ≡ S.state _out.old }
+    ensures report { _report.new.waiting.items ≡ _report.old.waiting.items }
+{}
 
 // How a flow ends whose input can't be begun.
 fn end_at(stop: FrameStop) -> FlowEnd
@@ -249,24 +305,7 @@ pub fn run_flow<D: Depot + Send, S: Sink + Send, G: Gate + Sync, R: Threads + Wa
         return (none, FlowEnd::Stopped(FlowStop::OutOfMemory));
     };
     match begin_source(alloc, depot, input, place.most) {
-        Ok(source) => {
-            let mut feed = RunFeed {
-                depot,
-                out,
-                report,
-                alloc,
-                place,
-                source,
-                octets: Vec::new(alloc),
-                seen: none,
-                passed: 0,
-                denied: 0,
-                stop: None,
-            };
-            let end = run_read(runner, network, &mut feed);
-            let RunFeed { seen, .. } = feed;
-            (seen, end)
-        }
+        Ok(source) => run_source(runner, place, network, source, report, depot, out),
         Err(stop) => (none, end_at(stop)),
     }
 }

@@ -1,5 +1,5 @@
 -- A feed as the flow that it carries. In each word `folder` and `stream` tell what the feed's folder and stream are.
-use Rattle.std.specs.Prelude.{ℕ, ◌≡◌, List, [], ◌++◌, length, Option, Some, None}
+use Rattle.std.specs.Prelude.{ℕ, ◌≡◌, List, [], length, Option, Some, None}
 use Rattle.net_io.specs.Depot.{DepotState}
 use Rattle.net_io.specs.Sink.{SinkState}
 use Rattle.packet_walk.specs.declared.packet.PacketIn.{PacketIn}
@@ -7,15 +7,13 @@ use Rattle.shared_tables.specs.Board.{ViewerState}
 use Rattle.label_flow.specs.Pair.{PairState}
 use Rattle.label_flow.specs.Feed.{AreBegun, AreWhole}
 use Rattle.label_flow.specs.Round.{IsRound}
-use Rattle.report_lines.specs.Flow.{flow_line}
 use Rattle.call_report.specs.Outside.{Outside}
 use Rattle.flow_run.specs.declared.end.FlowEnd.{FlowEnd}
 use Rattle.flow_run.specs.declared.feed.RunFeed.{RunFeed}
-use Rattle.flow_run.specs.Ends.{FlowEndsAt}
 use Rattle.flow_run.specs.inside.Output.{IsThere}
 use Rattle.flow_run.specs.inside.Source.{IsFed, left_in, due_in}
 use Rattle.flow_run.specs.inside.Taken.{Moment, HasTakenAt, IsGoing}
-use Rattle.flow_run.specs.inside.Flown.{IsFresh, HasRead, HasFlownAt, stop_of}
+use Rattle.flow_run.specs.inside.Flown.{IsFresh, EndsBehind, HasFlownAt, stop_of}
 
 -- where its flow is
 abbrev pub moment_of : {D S : Type 0} → (D → DepotState) → (S → SinkState) → RunFeed D S → Moment
@@ -46,20 +44,20 @@ due_of feed = due_in feed.source
 abbrev pub IsSameFlow : {D S : Type 0} → RunFeed D S → RunFeed D S → Type 0
 IsSameFlow old new =
     (new.depot.ghost_name ≡ old.depot.ghost_name) × (new.out.ghost_name ≡ old.out.ghost_name) × (new.report.ghost_name ≡ old.report.ghost_name)
-    × (new.place.now ≡ old.place.now)
+    × (new.place ≡ old.place)
 
 -- what each call of it needs, and leaves
 abbrev pub IsReadyFeed : {D S : Type 0} → (D → DepotState) → (S → SinkState) → RunFeed D S → Type 0
-IsReadyFeed folder stream feed = IsFed (folder feed.depot.now) feed.source × IsGoing feed.place.now.flow.now (moment_of folder stream feed)
+IsReadyFeed folder stream feed = IsFed (folder feed.depot.now) feed.source × IsGoing feed.place.flow.now (moment_of folder stream feed)
 
 -- since an earlier state of it these pairs were accepted
 abbrev pub HasTakenSince : {D S : Type 0} → (D → DepotState) → (S → SinkState) → RunFeed D S → RunFeed D S → List PairState → Type 0
 HasTakenSince folder stream was now pairs =
-    IsSameFlow was now × HasTakenAt now.place.now (moment_of folder stream was) (moment_of folder stream now) pairs
+    IsSameFlow was now × HasTakenAt now.place (moment_of folder stream was) (moment_of folder stream now) pairs
 
 -- nothing was read but the header of its input, and nothing has stopped it
 pub record IsNew {D S : Type 0} (folder : D → DepotState) (feed : RunFeed D S) : Type 0 where
-  pub fresh : IsFresh feed.place.now.flow.now.input feed.place.now.most feed.source
+  pub fresh : IsFresh feed.place.flow.now.input feed.place.most feed.source
   pub fed : IsFed (folder feed.depot.now) feed.source
   pub seen : feed.seen ≡ []
   pub passed : feed.passed ≡ 0
@@ -69,7 +67,7 @@ pub record IsNew {D S : Type 0} (folder : D → DepotState) (feed : RunFeed D S)
 -- and its output is there
 pub record IsPrepared {D S : Type 0} (folder : D → DepotState) (feed : RunFeed D S) : Type 0 where
   pub new : IsNew folder feed
-  pub there : IsThere feed.place.now.flow.now.output (folder feed.depot.now)
+  pub there : IsThere feed.place.flow.now.output (folder feed.depot.now)
 
 -- its flow goes on: nothing is fetched, nothing stands behind what was read, and nothing has stopped it
 pub record GoesOnFrom {D S : Type 0} (folder : D → DepotState) (stream : S → SinkState) (feed : RunFeed D S) : Type 0 where
@@ -82,7 +80,7 @@ pub record GoesOnFrom {D S : Type 0} (folder : D → DepotState) (stream : S →
 pub record HasRound {D S : Type 0} (folder : D → DepotState) (stream : S → SinkState) (old new : RunFeed D S) (olds news : List ViewerState) : Type 0 where
   pub packets : List PacketIn
   pub pairs : List PairState
-  pub round : IsRound old.place.now.flow.now.hops 0 packets pairs olds news
+  pub round : IsRound old.place.flow.now.hops 0 packets pairs olds news
   pub begun : AreBegun (left_of folder old) packets
   pub taken : HasTakenSince folder stream old new pairs
   pub whole : new.stop ≡ None → AreWhole (left_of folder old) packets
@@ -94,17 +92,16 @@ last_moment folder stream old new end = record (moment_of folder stream new) { l
 -- what it has taken up to here, it has taken up to that moment
 abbrev pub HasTakenToEnd : {D S : Type 0} → (D → DepotState) → (S → SinkState) → RunFeed D S → RunFeed D S → FlowEnd → Type 0
 HasTakenToEnd folder stream old new end =
-    (was : Moment) (pairs : List PairState) → HasTakenAt old.place.now was (moment_of folder stream old) pairs
-    → HasTakenAt old.place.now was (last_moment folder stream old new end) pairs
+    (was : Moment) (pairs : List PairState) → HasTakenAt old.place was (moment_of folder stream old) pairs
+    → HasTakenAt old.place was (last_moment folder stream old new end) pairs
 
 -- from here on its flow has come so far, and ends so
 abbrev pub HasFlownSince : {D S : Type 0} → (D → DepotState) → (S → SinkState) → RunFeed D S → RunFeed D S → FlowEnd → Type 0
 HasFlownSince folder stream old new end =
-    HasFlownAt old.place.now (moment_of folder stream old) (outside_at folder stream new) new.report.now.waiting.items new.seen end
+    HasFlownAt old.place (moment_of folder stream old) (outside_at folder stream new) new.report.now.waiting.items new.seen end
 
--- Its flow ends so, with the flow's line, where the header of its input has just been read behind that line.
+-- the same where the header of its input has just been read
 abbrev pub EndsSince : {D S : Type 0} → (D → DepotState) → (S → SinkState) → RunFeed D S → RunFeed D S → FlowEnd → Type 0
 EndsSince folder stream old new end =
-    (before : Outside) (waits : List ℕ) → HasRead old.place.now.flow.now old.place.now.most before.folder (folder old.depot.now) old.source
-    → stream old.out.now ≡ before.stream → old.report.now.waiting.items ≡ waits ++ flow_line old.place.now.number old.place.now.flow.now.input
-    → FlowEndsAt old.place.now before (outside_at folder stream new) waits new.report.now.waiting.items new.seen end
+    EndsBehind old.place old.source (folder old.depot.now) (stream old.out.now) old.report.now.waiting.items (outside_at folder stream new)
+    new.report.now.waiting.items new.seen end

@@ -1,6 +1,7 @@
 -- How a flow begins, and how far it has come where it ends.
 use Rattle.std.specs.Prelude.{ℕ, ◌≡◌, ◌≢◌, IsTrue, IsSome, List, [], ◌++◌, length, Option, Some, None, Ok}
 use Rattle.net_io.specs.Depot.{DepotState, octets_of, SameHeld}
+use Rattle.net_io.specs.Sink.{SinkState}
 use Rattle.net_io.specs.Faults.{Rose, SameCounts}
 use Rattle.flow_lines.specs.declared.flow.FlowLine.{FlowLine}
 use Rattle.pcap_frames.specs.declared.fault.FrameStop.{FrameStop}
@@ -14,7 +15,7 @@ use Rattle.label_flow.specs.Pair.{PairState}
 use Rattle.label_flow.specs.Feed.{AreBegun, AreWhole}
 use Rattle.label_flow.specs.Walked.{AreWalked}
 use Rattle.label_flow.specs.Schedule.{AreLawful, versions_in}
-use Rattle.report_lines.specs.Flow.{flow_end_line}
+use Rattle.report_lines.specs.Flow.{flow_line, flow_end_line}
 use Rattle.call_report.specs.Outside.{Outside}
 use Rattle.flow_run.specs.declared.end.FlowPlace.{FlowPlace}
 use Rattle.flow_run.specs.declared.end.FlowEnd.{FlowEnd}
@@ -26,7 +27,7 @@ use Rattle.flow_run.specs.declared.source.Source.{Source}
 use Rattle.flow_run.specs.declared.source.Behind.{Behind}
 use Rattle.flow_run.specs.declared.source.Behind.TheVariants as the_behind
 use Rattle.flow_run.specs.Place.{plan_at}
-use Rattle.flow_run.specs.Ends.{HasEnded, HasSteps}
+use Rattle.flow_run.specs.Ends.{HasEnded, HasSteps, FlowEndsAt}
 use Rattle.flow_run.specs.inside.Output.{HasHead, AreSent}
 use Rattle.flow_run.specs.inside.Source.{IsFed, packets_left, file_of}
 use Rattle.flow_run.specs.inside.Taken.{Moment, HasTaken}
@@ -155,3 +156,9 @@ pub record HasFlown (plan : PlanState) (names : List (List ℕ)) (workers number
 abbrev pub HasFlownAt : FlowPlace → Moment → Outside → List ℕ → List (List ℕ) → FlowEnd → Type 0
 HasFlownAt place was after waits seen end =
     HasFlown (plan_at place) place.names.now place.workers place.number place.upto place.flow.now was after waits seen end
+
+-- A flow ends so, where the header of its input has just been read behind the flow's line.
+abbrev pub EndsBehind : FlowPlace → Source → DepotState → SinkState → List ℕ → Outside → List ℕ → List (List ℕ) → FlowEnd → Type 0
+EndsBehind place source folder stream lines after waits' seen end =
+    (before : Outside) (waits : List ℕ) → HasRead place.flow.now place.most before.folder folder source
+    → stream ≡ before.stream → lines ≡ waits ++ flow_line place.number place.flow.now.input → FlowEndsAt place before after waits waits' seen end

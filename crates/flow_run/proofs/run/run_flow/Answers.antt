@@ -1,7 +1,7 @@
-use Rattle.std.proofs.Common.{rules, refl}
+use Rattle.std.proofs.Common.{refl}
 use Rattle.call_report.specs.Outside.{Outside}
 use Rattle.flow_run.specs.declared.source.Source.{Source}
-use Rattle.flow_run.proofs.Ending.{read_of, ends_lineless, ends_unbegun, ends_so}
+use Rattle.flow_run.proofs.Ending.{read_of, ends_lineless, ends_unbegun}
 use Rattle.flow_run.proofs.run.run_flow.Goals as goal
 
 pub returns-in_default : goal.returns-in_default
@@ -11,7 +11,7 @@ pub returns-in-Ok-begin_source : goal.returns-in-Ok-begin_source
 returns-in-Ok-begin_source g c =
     let before : Outside = record { folder = g.D.Depot.state c.args.depot.now; stream = g.S.Sink.state c.args.out.now } in
     let clauses = c.in-Ok-begin_source.ensures in
-    c.run_read-end.ensures.ends before c.args.report.now.waiting.items
+    c.run_source.ensures before c.args.report.now.waiting.items
     (read_of c.args.place.now.flow.now c.args.place.now.most before.folder _ c.in-Ok-begin_source.source clauses.fresh clauses.fed clauses.answer clauses.present clauses.frame)
     refl (rw c.from.ensures at c.in-Ok.ensures.ok)
 

@@ -14,13 +14,13 @@ returns-clause-same g c =
 
 pub returns-clause-flown : goal.returns-clause-flown
 returns-clause-flown g c =
-    let place = c.args.feed.now.place.now in
+    let place = c.args.feed.now.place in
     let plan : PlanState = record { nodes = length place.names.now; steps = place.steps.now } in
     let driven = c.drive-driven.ensures in
     let ended = c.finish.ensures in
     let round = driven.round in
     let feed = c.drive-driven.new.feed in
-    let same : feed.place.now ≡ place = round.taken.0.3 in
+    let same : feed.place ≡ place = round.taken.0.3 in
     let prepared = c.requires.prepared in
     let stands = c.requires.stands in
     let seats = rw (sym c.as_mut_slice-seats.ensures.value) at c.requires.board.seats in
