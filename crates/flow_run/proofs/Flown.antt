@@ -19,11 +19,8 @@ use Rattle.flow_run.specs.declared.end.FlowEnd.{FlowEnd}
 use Rattle.flow_run.specs.declared.end.FlowEnd.TheVariants.{GoesOn, Broken, TooMany, Stopped}
 use Rattle.flow_run.specs.declared.end.FlowStop.{FlowStop}
 use Rattle.flow_run.specs.Ends.{HasEnded, HasSteps}
-use Rattle.net_io.specs.Depot.{DepotState}
-use Rattle.net_io.specs.Sink.{SinkState}
 use Rattle.flow_lines.specs.declared.flow.FlowLine.{FlowLine}
 use Rattle.flow_run.specs.declared.end.FlowStop.TheVariants as the_stop
-use Rattle.flow_run.specs.declared.source.Source.{Source}
 use Rattle.label_flow.specs.Feed.{AreBegun}
 use Rattle.flow_run.specs.inside.Output.{IsThere}
 use Rattle.flow_run.specs.inside.Source.{IsFed, packets_left, file_of}

@@ -1,5 +1,5 @@
 -- A feed as the flow that it carries. In each word `folder` and `stream` tell what the feed's folder and stream are.
-use Rattle.std.specs.Prelude.{ℕ, ◌≡◌, List, [], length, Option, Some, None}
+use Rattle.std.specs.Prelude.{ℕ, ◌≡◌, List, [], Option, None}
 use Rattle.net_io.specs.Depot.{DepotState}
 use Rattle.net_io.specs.Sink.{SinkState}
 use Rattle.packet_walk.specs.declared.packet.PacketIn.{PacketIn}

@@ -1,6 +1,4 @@
-use Rattle.std.proofs.Common.{◌≡◌, refl, sym, ◌∙◌, Option, None, Some, []}
-use Rattle.flow_run.specs.declared.end.FlowStop.{FlowStop}
-use Rattle.flow_run.specs.inside.Feed.{IsSameFlow}
+use Rattle.std.proofs.Common.{refl, []}
 use Rattle.flow_run.proofs.Steps.{taken_begins, taken_out}
 use Rattle.flow_run.proofs.Flown.{no_stop}
 use Rattle.flow_run.proofs.run.drive.Goals as goal

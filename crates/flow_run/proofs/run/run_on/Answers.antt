@@ -1,7 +1,6 @@
 use Rattle.std.proofs.Common.{◌≡◌, length, refl, sym, ap, ◌∙◌, Some}
 use Rattle.shared_tables.specs.Plan.{PlanState}
 use Rattle.flow_run.specs.inside.Feed.{last_moment}
-use Rattle.flow_run.specs.inside.Taken.{HasTakenAt}
 use Rattle.flow_run.specs.declared.end.FlowPlace.{FlowPlace}
 use Rattle.flow_run.proofs.Flown.{round_walked, round_lawful, ok_none, steps_flown}
 use Rattle.flow_run.proofs.run.run_on.Goals as goal
