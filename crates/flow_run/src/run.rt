@@ -227,7 +227,8 @@ fn run_source<D: Depot + Send, S: Sink + Send, G: Gate + Sync, R: Threads + Wait
     requires network { network ≡ tables_at place.now }
     requires fresh { IsFresh place.now.flow.now.input place.now.most source }
     requires fed { IsFed (D.state depot.old) source }
-    ensures { EndsBehind place.now source (D.state depot.old) (S.state out.old) report.old.waiting.items
+    ensures { EndsBehind place.now source
+        (D.state depot.old) (S.state out.old) report.old.waiting.items
         (record { folder = D.state depot.new; stream = S.state out.new })
         report.new.waiting.items result.0 result.1 }
 {
