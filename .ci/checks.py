@@ -1,5 +1,5 @@
-"""The repository's own checks: links, citations, rows of docs/proved.md, docs/promises.md and docs/headline.md, trusted text, and calls of the proved
-program (not with --pages: none is built then)."""
+"""The repository's own checks: links, citations, rows of docs/proved.md, docs/promises.md and docs/headline.md, signatures, trusted text, and calls of
+the proved program (not with --pages: none is built then)."""
 import pathlib
 import re
 import subprocess
@@ -9,6 +9,7 @@ import tempfile
 sys.dont_write_bytecode = True
 import calls
 import headline
+import signatures
 import trusted
 
 top = pathlib.Path(__file__).resolve().parent.parent
@@ -48,6 +49,9 @@ for name, text in texts.items():
         named = set(re.findall(r"^\s*(?:ghost )?use Rattle\.(\w+)\.", text, re.M)) & set(crates)
         lacking = named - {found.group(1), *uses[found.group(1)]}
         failures += [f"{name}: names {crate}, which its crate's line of crates.txt lacks" for crate in sorted(lacking)]
+
+# Functions have few arguments, and clauses short lines.
+failures += signatures.faults({name: text for name, text in texts.items() if re.match(r"crates/\w+/src/.*\.rt$", name)})
 
 # docs/promises.md goes through what the one call ensures: each field of `CallEnds` stands in a row, those of its records one by one, and no row names another.
 ends = texts["crates/call_report/specs/CallEnds.antt"]

@@ -28,6 +28,7 @@ that."""
 SCRIPTS = {
     "pages and trusted text": ["checks.py", "--pages"],
     "what is trusted, over a small repository": ["trusted_test.py"],
+    "rules on signatures": ["signatures_test.py"],
     "installing": ["install_test.py"],
     "netlabel and prove with a stand-in for rt": ["scripts_test.py"],
 }

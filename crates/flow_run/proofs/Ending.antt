@@ -30,6 +30,7 @@ use Rattle.call_report.specs.Outside.{Outside, NoneFailed, NoWriteFailed}
 use Rattle.call_report.specs.Output.{Output, IsBegun, IsMade}
 use Rattle.call_report.specs.Printing.{Breaks}
 use Rattle.call_report.proofs.Law.{nothing_is_handed_on}
+use Rattle.flow_run.specs.declared.end.FlowPlace.{FlowPlace}
 use Rattle.flow_run.specs.declared.end.FlowEnd.{FlowEnd}
 use Rattle.flow_run.specs.declared.end.FlowEnd.TheVariants.{GoesOn, Broken, TooMany, Stopped}
 use Rattle.flow_run.specs.declared.end.FlowStop.{FlowStop}
@@ -40,10 +41,10 @@ use Rattle.flow_run.specs.declared.source.Behind.TheVariants as the_behind
 use Rattle.flow_run.specs.Input.{FlowInput, input_by, flow_input, packet_in}
 use Rattle.flow_run.specs.Run.{FlowRun, is_judged, is_denied, walked_lines, run_text, run_end, kept_frames, passed_in, denied_in}
 use Rattle.flow_run.specs.Ends.{IsHandedOn, IsPrinted, IsEnd, HasEnded, HasMade, RanShort, IsCause, IsRunOf, HasSteps, FlowEnds}
-use Rattle.flow_run.specs.inside.Output.{IsAppended}
+use Rattle.flow_run.specs.inside.Output.{IsAppended, HasHead}
 use Rattle.flow_run.specs.inside.Source.{records_left, frames_left, packets_left, heads_left, file_of, StandsBy, IsAtEnd, event_of, is_end, ReadsMove, IsFed}
 use Rattle.flow_run.specs.inside.Taken.{Moment, IsPrintedTo, kept_by, IsMoved, outside_of, HasTaken}
-use Rattle.flow_run.specs.inside.Flown.{IsStart, IsFresh, HasRead, HasCreated, HasHead, CreatesMove, HasFlown, WaitsFor, IsBehind, stop_of, end_at}
+use Rattle.flow_run.specs.inside.Flown.{IsStart, EndsBehind, IsFresh, HasRead, HasCreated, CreatesMove, HasFlown, WaitsFor, IsBehind, stop_of, end_at}
 use Rattle.flow_run.proofs.Prints.{cut_off, print_goes}
 use Rattle.flow_run.proofs.Reading.{reads_more}
 use Rattle.flow_run.proofs.Steps.{fed_kept}
@@ -547,7 +548,7 @@ module _ (plan : PlanState) (names : List (List ℕ)) (workers number most upto 
 -- ---- the output, where it can't be made; and the start where it can
 
 pub start_of : (flow : FlowLine) (most : ℕ) (before mid folder : DepotState) (source : Source) (octets : List ℕ) → flow.output ≢ Some flow.input → HasRead flow most before mid source
-    → HasCreated None flow.output mid folder → HasHead flow.output source octets → IsStart flow most before folder source octets
+    → HasCreated None flow.output mid folder → HasHead flow.output source.frames.header.nanos octets → IsStart flow most before folder source octets
 start_of flow most before mid folder source octets apart read created head =
     let ready : IsTrue before.tells → IsTrue mid.tells = λ told. subst IsTrue (sym read.told) told in
     record {
@@ -636,3 +637,13 @@ ends_unbegun plan names workers number most upto flow before after waits waits' 
       creates = only.creates;
       written = record { writes = ap (λ (s : SinkState). s.faults) stream; appends = only.appends };
     })
+
+-- a folder, a stream and a report that ended so
+pub behind_so : (place : FlowPlace) (source : Source) (begun : DepotState) (printed : SinkState) (lines : List ℕ) (folder folder' : DepotState) (stream stream' : SinkState) (still still' : List ℕ)
+    (seen : List (List ℕ)) (end : FlowEnd) → folder' ≡ folder → stream' ≡ stream → still' ≡ still
+    → EndsBehind place source begun printed lines (record { folder = folder; stream = stream }) still seen end
+    → EndsBehind place source begun printed lines (record { folder = folder'; stream = stream' }) still' seen end
+behind_so place source begun printed lines folder folder' stream stream' still still' seen end same-folder same-stream same-waits ends =
+    subst (λ (x : DepotState). EndsBehind place source begun printed lines (record { folder = x; stream = stream' }) still' seen end) (sym same-folder)
+    (subst (λ (x : SinkState). EndsBehind place source begun printed lines (record { folder = folder; stream = x }) still' seen end) (sym same-stream)
+    (subst (λ (x : List ℕ). EndsBehind place source begun printed lines (record { folder = folder; stream = stream }) x seen end) (sym same-waits) ends))

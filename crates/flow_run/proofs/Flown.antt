@@ -2,7 +2,7 @@
 use Rattle.std.proofs.Common.{◌≡◌, ◌<◌, ◌≤◌, ℕ, ◌+◌, true, false, List, [], length, take, All, Option, Some, None, Result, Ok, Err, refl, sym, ap, subst, ◌∙◌, arith, le_refl}
 use Rattle.std.proofs.lemmas.List.{length-take-le}
 use Rattle.flow_lines.specs.declared.hop.Hop.{Hop}
-use Rattle.std.specs.Prelude.{IsOk, OnOk, IfOk}
+use Rattle.std.specs.Prelude.{IsOk, IfOk}
 use Rattle.std.proofs.Common.{Vec, Global}
 use Rattle.node_tables.specs.declared.reply.Reply.{Reply}
 use Rattle.node_tables.specs.Tables.{TableState}
@@ -19,15 +19,12 @@ use Rattle.flow_run.specs.declared.end.FlowEnd.{FlowEnd}
 use Rattle.flow_run.specs.declared.end.FlowEnd.TheVariants.{GoesOn, Broken, TooMany, Stopped}
 use Rattle.flow_run.specs.declared.end.FlowStop.{FlowStop}
 use Rattle.flow_run.specs.Ends.{HasEnded, HasSteps}
-use Rattle.net_io.specs.Depot.{DepotState}
-use Rattle.net_io.specs.Sink.{SinkState}
 use Rattle.flow_lines.specs.declared.flow.FlowLine.{FlowLine}
 use Rattle.flow_run.specs.declared.end.FlowStop.TheVariants as the_stop
-use Rattle.flow_run.specs.declared.source.Source.{Source}
 use Rattle.label_flow.specs.Feed.{AreBegun}
 use Rattle.flow_run.specs.inside.Output.{IsThere}
 use Rattle.flow_run.specs.inside.Source.{IsFed, packets_left, file_of}
-use Rattle.flow_run.specs.inside.Taken.{Moment, moment_at}
+use Rattle.flow_run.specs.inside.Taken.{Moment, stop_in}
 use Rattle.flow_run.proofs.Steps.{taken_begins, taken_out}
 use Rattle.flow_run.specs.inside.Flown.{Gives, HasFlown}
 use Rattle.flow_run.proofs.Beginnings.{replies_first}
@@ -64,9 +61,12 @@ none_begun : (left : Option (List PacketIn)) → AreBegun left []
 none_begun None = tt
 none_begun (Some packets) = (packets, refl)
 
-pub ok_of : {T E : Type 0} (P : Type 0) (result : Result T E) → IsOk result → OnOk result P → P
-ok_of P (Ok given) ok fact = fact
-ok_of P (Err stop) ok fact = absurd (let none : false ≡ true = ok in cc)
+pub ok_none : {T : Type 0} (result : Result T FlowStop) → IsOk result → stop_in result ≡ None
+ok_none (Ok given) ok = refl
+ok_none (Err stop) ok = absurd (let none : false ≡ true = ok in cc)
+
+pub no_stop : {P : Type 0} (stop : FlowStop) (last : Option FlowStop) → last ≡ Some stop → last ≡ None → P
+no_stop stop last is none = absurd (let no : Some stop ≡ None = sym is ∙ none in cc)
 
 -- the tables and replies of a flow that goes on
 pub steps_flown : (plan : PlanState) (m from : ℕ) (end : FlowEnd) (driven : Result (Vec Reply Global) FlowStop) (network : List TableState) (old new : PublisherState)
@@ -87,34 +87,24 @@ steps_flown plan m from (Broken fault) driven network old new done gives are clo
 steps_flown plan m from TooMany driven network old new done gives are closed same is at = tt
 steps_flown plan m from (Stopped why) driven network old new done gives are closed same is at = tt
 
--- the same, of a folder, a stream and a report that ended so
-pub flown_at : (plan : PlanState) (names : List (List ℕ)) (workers number upto : ℕ) (flow : FlowLine) (was : Moment) (seen : List (List ℕ)) (end : FlowEnd)
-    (folder folder' : DepotState) (stream stream' : SinkState) (waits waits' : List ℕ) → folder' ≡ folder → stream' ≡ stream → waits' ≡ waits
-    → HasFlown plan names workers number upto flow was (record { folder = folder; stream = stream }) waits seen end
-    → HasFlown plan names workers number upto flow was (record { folder = folder'; stream = stream' }) waits' seen end
-flown_at plan names workers number upto flow was seen end folder folder' stream stream' waits waits' same-folder same-stream same-waits flown =
-    subst (λ (x : DepotState). HasFlown plan names workers number upto flow was (record { folder = x; stream = stream' }) waits' seen end) (sym same-folder)
-    (subst (λ (x : SinkState). HasFlown plan names workers number upto flow was (record { folder = folder; stream = x }) waits' seen end) (sym same-stream)
-    (subst (λ (x : List ℕ). HasFlown plan names workers number upto flow was (record { folder = folder; stream = stream }) x seen end) (sym same-waits) flown))
-
 -- no packet was read, since memory ran out
-pub flown_none : (plan : PlanState) (names : List (List ℕ)) (workers number upto : ℕ) (flow : FlowLine) (folder : DepotState) (stream : SinkState) (lines octets : List ℕ) (source : Source)
-    (waits : List ℕ) (seen : List (List ℕ)) → seen ≡ [] → flow.before ≤ upto → source.behind ≡ None → IsThere flow.output folder → IsFed folder source
-    → HasFlown plan names workers number upto flow (moment_at folder stream lines octets [] 0 0 source None) (record { folder = folder; stream = stream }) waits seen (Stopped the_stop.OutOfMemory)
-flown_none plan names workers number upto flow folder stream lines octets source waits seen none low behind there fed = record {
-  now = moment_at folder stream lines octets [] 0 0 source (Some the_stop.OutOfMemory);
+pub flown_none : (plan : PlanState) (names : List (List ℕ)) (workers number upto : ℕ) (flow : FlowLine) (was : Moment) (waits : List ℕ) → flow.before ≤ upto
+    → was.source.behind ≡ None → was.stop ≡ None → IsThere flow.output was.folder → IsFed was.folder was.source
+    → HasFlown plan names workers number upto flow was (record { folder = was.folder; stream = was.stream }) waits was.seen (Stopped the_stop.OutOfMemory)
+flown_none plan names workers number upto flow was waits low behind none there fed = record {
+  now = record was { stop = Some the_stop.OutOfMemory };
   packets = [];
   pairs = [];
-  taken = taken_out number names flow _ folder stream lines octets [] 0 0 source [] (taken_begins number names flow (moment_at folder stream lines octets [] 0 0 source None) refl behind there);
+  taken = taken_out number names flow was was [] (taken_begins number names flow was none behind there) none;
   folder = refl;
   stream = refl;
-  seen_is = none;
+  seen_is = refl;
   stop = refl;
   waits_are = tt;
   whole = λ ended. absurd ended;
   behind = tt;
   fed = fed;
-  begun = none_begun (packets_left folder.tells source (file_of folder source));
+  begun = none_begun (packets_left was.folder.tells was.source (file_of was.folder was.source));
   all = λ ended. absurd ended;
   walked = tt;
   lawful = record { count = refl; walks = λ k less. tt; rises = λ k less. low };

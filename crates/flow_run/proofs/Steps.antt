@@ -29,7 +29,7 @@ use Rattle.flow_run.specs.Run.{is_denied, passed_in, denied_in, walked_lines}
 use Rattle.flow_run.specs.Ends.{IsHandedOn}
 use Rattle.flow_run.specs.inside.Output.{IsAppended, IsThere, AppendsMove, HasAppended, frame_of}
 use Rattle.flow_run.specs.inside.Source.{IsSame, HasMoved, HasStepped, ReadsMove, pending, frames_left, heads_left, file_of, IsFed, StandsBy}
-use Rattle.flow_run.specs.inside.Taken.{Moment, moment_at, IsPrintedTo, print_stop, HasHanded, kept_by, IsMoved, outside_of, HasTaken, IsGoing}
+use Rattle.flow_run.specs.inside.Taken.{Moment, Outlets, outlets_at, IsPrintedTo, print_stop, HasHanded, kept_by, IsMoved, outside_of, HasTaken, IsGoing}
 use Rattle.flow_run.proofs.Outputs.{appended_more, appended_cut, appended_stops}
 use Rattle.flow_run.proofs.Prints.{cut_off, print_fails, print_goes, lines_more}
 use Rattle.flow_run.proofs.Reading.{reads_more, same_more, stands_same}
@@ -411,37 +411,35 @@ module _ (number : ℕ) (names : List (List ℕ)) (flow : FlowLine) (was now : M
         faults = omega (arith, taken.faults, hands.counts.no_less);
       }
 
-      handed_more : HasHanded new.stop (walked_line number place names flow.hops walked) flow.output (frame_of head walked.end packet) now.lines new.lines now.octets new.octets
-          now.folder new.folder now.stream new.stream → HasTaken number names flow was new (pairs ++ pair walked packet ∷ [])
+      handed_more : HasHanded new.stop (walked_line number place names flow.hops walked) flow.output (frame_of head walked.end packet) (outlets_at now) (outlets_at new)
+          → HasTaken number names flow was new (pairs ++ pair walked packet ∷ [])
       handed_more (inl done) = taken_handed done.0 done.1
       handed_more (inr failed) = taken_unprinted failed.0 failed.1 failed.2 failed.3 failed.4
 
       pub taken_more : (stop : Option FlowStop) → new.stop ≡ stop
-          → HasHanded stop (walked_line number place names flow.hops walked) flow.output (frame_of head walked.end packet) now.lines new.lines now.octets new.octets
-          now.folder new.folder now.stream new.stream → HasTaken number names flow was new (pairs ++ pair walked packet ∷ [])
+          → HasHanded stop (walked_line number place names flow.hops walked) flow.output (frame_of head walked.end packet) (outlets_at now) (outlets_at new)
+          → HasTaken number names flow was new (pairs ++ pair walked packet ∷ [])
       taken_more stop is handed =
-          handed_more (subst (λ (s : Option FlowStop). HasHanded s (walked_line number place names flow.hops walked) flow.output (frame_of head walked.end packet) now.lines new.lines
-          now.octets new.octets now.folder new.folder now.stream new.stream) (sym is) handed)
+          handed_more (subst (λ (s : Option FlowStop). HasHanded s (walked_line number place names flow.hops walked) flow.output (frame_of head walked.end packet)
+          (outlets_at now) (outlets_at new)) (sym is) handed)
 
 -- ---- what a feed needs, behind a packet
 
-handed_told : (stop : Option FlowStop) (text : List ℕ) (output : Option (List ℕ)) (frame waits waits' octets octets' : List ℕ) (a b : DepotState) (s t : SinkState)
-    → HasHanded stop text output frame waits waits' octets octets' a b s t → b.tells ≡ a.tells
-handed_told stop text output frame waits waits' octets octets' a b s t (inl done) = done.1.told
-handed_told stop text output frame waits waits' octets octets' a b s t (inr failed) = ap (λ (d : DepotState). d.tells) failed.3
+module _ (stop : Option FlowStop) (text : List ℕ) (output : Option (List ℕ)) (frame : List ℕ) (was now : Outlets) where
+  handed_told : HasHanded stop text output frame was now → now.folder.tells ≡ was.folder.tells
+  handed_told (inl done) = done.1.told
+  handed_told (inr failed) = ap (λ (d : DepotState). d.tells) failed.3
 
-handed_others : (stop : Option FlowStop) (text : List ℕ) (output : Option (List ℕ)) (frame waits waits' octets octets' : List ℕ) (a b : DepotState) (s t : SinkState)
-    → HasHanded stop text output frame waits waits' octets octets' a b s t → IsTrue a.tells → (name : List ℕ) → output ≢ Some name → b.held name ≡ a.held name
-handed_others stop text output frame waits waits' octets octets' a b s t (inl done) told name other = done.1.others told name other
-handed_others stop text output frame waits waits' octets octets' a b s t (inr failed) told name other = ap (λ (d : DepotState). d.held name) failed.3
+  handed_others : HasHanded stop text output frame was now → IsTrue was.folder.tells → (name : List ℕ) → output ≢ Some name → now.folder.held name ≡ was.folder.held name
+  handed_others (inl done) told name other = done.1.others told name other
+  handed_others (inr failed) told name other = ap (λ (d : DepotState). d.held name) failed.3
 
-handed_there : (stop : Option FlowStop) (text : List ℕ) (output : Option (List ℕ)) (frame waits waits' octets octets' : List ℕ) (a b : DepotState) (s t : SinkState)
-    → HasHanded stop text output frame waits waits' octets octets' a b s t → IsThere output a → IsThere output b
-handed_there stop text output frame waits waits' octets octets' a b s t (inl done) there =
-    λ told name is.
-    let here = done.1.here (subst IsTrue done.1.told told) name is in
-    (here.held ++ here.sent, here.now)
-handed_there stop text output frame waits waits' octets octets' a b s t (inr failed) there = subst (λ (d : DepotState). IsThere output d) (sym failed.3) there
+  handed_there : HasHanded stop text output frame was now → IsThere output was.folder → IsThere output now.folder
+  handed_there (inl done) there =
+      λ told name is.
+      let here = done.1.here (subst IsTrue done.1.told told) name is in
+      (here.held ++ here.sent, here.now)
+  handed_there (inr failed) there = subst (λ (d : DepotState). IsThere output d) (sym failed.3) there
 
 pub fed_kept : (a b : DepotState) (s s' : Source) → b.tells ≡ a.tells → (IsTrue a.tells → b.held s.frames.name ≡ a.held s.frames.name)
     → s'.frames ≡ s.frames → s'.most ≡ s.most → s'.read ≡ s.read → s'.behind ≡ s.behind → IsFed a s → IsFed b s'
@@ -458,30 +456,30 @@ fed_kept a b s s' told held frames most read behind fed = record {
   within = subst (λ n. s'.read ≤ n) (sym most) (subst (λ n. n ≤ s.most) (sym read) fed.within);
 }
 
-fed_handed : (flow : FlowLine) (now new : Moment) (stop : Option FlowStop) (text frame : List ℕ) → IsGoing flow now → IsFed now.folder now.source
-    → new.source.frames ≡ now.source.frames → new.source.most ≡ now.source.most → new.source.read ≡ now.source.read → new.source.behind ≡ now.source.behind
-    → HasHanded stop text flow.output frame now.lines new.lines now.octets new.octets now.folder new.folder now.stream new.stream → IsFed new.folder new.source
-fed_handed flow now new stop text frame going fed frames most read behind handed =
-    fed_kept now.folder new.folder now.source new.source (handed_told stop text flow.output frame _ _ _ _ now.folder new.folder now.stream new.stream handed)
-    (λ told. handed_others stop text flow.output frame _ _ _ _ now.folder new.folder now.stream new.stream handed told now.source.frames.name (λ is. going.apart (is ∙ ap Some going.input)))
-    frames most read behind fed
+module _ (flow : FlowLine) (now new : Moment) (stop : Option FlowStop) (text frame : List ℕ) (going : IsGoing flow now)
+    (handed : HasHanded stop text flow.output frame (outlets_at now) (outlets_at new)) (frames : new.source.frames ≡ now.source.frames) where
+  fed_handed : IsFed now.folder now.source → new.source.most ≡ now.source.most → new.source.read ≡ now.source.read → new.source.behind ≡ now.source.behind → IsFed new.folder new.source
+  fed_handed fed most read behind =
+      fed_kept now.folder new.folder now.source new.source (handed_told stop text flow.output frame (outlets_at now) (outlets_at new) handed)
+      (λ told. handed_others stop text flow.output frame (outlets_at now) (outlets_at new) handed told now.source.frames.name (λ is. going.apart (is ∙ ap Some going.input)))
+      frames most read behind fed
 
-going_handed : (flow : FlowLine) (now new : Moment) (stop : Option FlowStop) (text frame : List ℕ) (versions : List ℕ) (denied : Bool) → IsGoing flow now
-    → new.source.frames ≡ now.source.frames → new.seen ≡ now.seen ++ versions ∷ [] → new.passed ≡ now.passed + cond denied 0 1 → new.denied ≡ now.denied + cond denied 1 0
-    → HasHanded stop text flow.output frame now.lines new.lines now.octets new.octets now.folder new.folder now.stream new.stream → IsGoing flow new
-going_handed flow now new stop text frame versions denied going frames seen passed more handed = record {
-  input = ap (λ (r : Reader). r.name) frames ∙ going.input;
-  apart = going.apart;
-  present = handed_there stop text flow.output frame _ _ _ _ now.folder new.folder now.stream new.stream handed going.present;
-  counts = omega (arith, going.counts, ap length seen, length-append now.seen (versions ∷ []), passed, more, one_counts denied);
-}
+  going_handed : (versions : List ℕ) (denied : Bool) → new.seen ≡ now.seen ++ versions ∷ [] → new.passed ≡ now.passed + cond denied 0 1 → new.denied ≡ now.denied + cond denied 1 0 → IsGoing flow new
+  going_handed versions denied seen passed more = record {
+    input = ap (λ (r : Reader). r.name) frames ∙ going.input;
+    apart = going.apart;
+    present = handed_there stop text flow.output frame (outlets_at now) (outlets_at new) handed going.present;
+    counts = omega (arith, going.counts, ap length seen, length-append now.seen (versions ∷ []), passed, more, one_counts denied);
+  }
 
 pub ready_handed : (flow : FlowLine) (now new : Moment) (stop : Option FlowStop) (text frame : List ℕ) (versions : List ℕ) (denied : Bool) → IsFed now.folder now.source × IsGoing flow now
     → new.source.frames ≡ now.source.frames → new.source.most ≡ now.source.most → new.source.read ≡ now.source.read → new.source.behind ≡ now.source.behind
     → new.seen ≡ now.seen ++ versions ∷ [] → new.passed ≡ now.passed + cond denied 0 1 → new.denied ≡ now.denied + cond denied 1 0
-    → HasHanded stop text flow.output frame now.lines new.lines now.octets new.octets now.folder new.folder now.stream new.stream → IsFed new.folder new.source × IsGoing flow new
-ready_handed flow now new stop text frame versions denied ready frames most read behind seen passed more handed =
-    (fed_handed flow now new stop text frame ready.1 ready.0 frames most read behind handed, going_handed flow now new stop text frame versions denied ready.1 frames seen passed more handed)
+    → HasHanded stop text flow.output frame (outlets_at now) (outlets_at new) → IsFed new.folder new.source × IsGoing flow new
+ready_handed flow now new stop text frame versions denied ready frames most read behind seen passed more handed = (
+  fed_handed flow now new stop text frame ready.1 handed frames ready.0 most read behind,
+  going_handed flow now new stop text frame ready.1 handed frames versions denied seen passed more,
+)
 
 -- the first time that isn't used yet
 pub head_first : (source : Source) (d : FrameHead) (file : List ℕ) → source.at < length source.heads.items → d ≡ get_or source.heads.items source.at d
@@ -525,48 +523,57 @@ taken_begins number names flow was none fetched there = record {
   faults = le_refl _;
 }
 
--- the same under other names
-pub taken_at : (number number' : ℕ) (names names' : List (List ℕ)) (flow flow' : FlowLine) (was : Moment) (folder : DepotState) (stream : SinkState) (lines octets : List ℕ) (seen : List (List ℕ))
-    (passed denied : ℕ) (source : Source) (stop stop' : Option FlowStop) (pairs : List PairState) → number' ≡ number → names' ≡ names → flow' ≡ flow → stop' ≡ stop
-    → HasTaken number' names' flow' was (moment_at folder stream lines octets seen passed denied source stop') pairs
-    → HasTaken number names flow was (moment_at folder stream lines octets seen passed denied source stop) pairs
-taken_at number number' names names' flow flow' was folder stream lines octets seen passed denied source stop stop' pairs n m f s taken =
-    subst (λ (x : ℕ). HasTaken x names flow was (moment_at folder stream lines octets seen passed denied source stop) pairs) n
-    (subst (λ (x : List (List ℕ)). HasTaken number' x flow was (moment_at folder stream lines octets seen passed denied source stop) pairs) m
-    (subst (λ (x : FlowLine). HasTaken number' names' x was (moment_at folder stream lines octets seen passed denied source stop) pairs) f
-    (subst (λ (x : Option FlowStop). HasTaken number' names' flow' was (moment_at folder stream lines octets seen passed denied source x) pairs) s taken)))
+-- the same by the name of the stop
+pub taken_at : (number : ℕ) (names : List (List ℕ)) (flow : FlowLine) (was now : Moment) (stop : Option FlowStop) (pairs : List PairState) → now.stop ≡ stop
+    → HasTaken number names flow was now pairs → HasTaken number names flow was (record now { stop = stop }) pairs
+taken_at number names flow was now stop pairs is taken =
+    let text = walked_lines number (length was.seen + 1) names flow.hops pairs in
+    record {
+      folder_told = taken.folder_told;
+      stream_told = taken.stream_told;
+      lines = subst (λ (s : Option FlowStop). IsPrintedTo s text was.lines now.lines was.stream now.stream) is taken.lines;
+      seen = taken.seen;
+      passed = taken.passed;
+      denied = taken.denied;
+      source = taken.source;
+      heads = taken.heads;
+      output = λ told name at.
+          let octets = was.octets ++ frames_octets (kept_by (heads_left was.source (file_of was.folder was.source)) pairs) in
+          subst (λ (s : Option FlowStop). IsAppended s octets now.octets (was.folder.held name) (now.folder.held name)) is (taken.output told name at);
+      others = taken.others;
+      reads = taken.reads;
+      failed = λ at. taken.failed (is ∙ at);
+      creates = taken.creates;
+      still = taken.still;
+      moved = subst (λ (s : Option FlowStop). IsMoved flow s (outside_of was) (outside_of now)) is taken.moved;
+      faults = taken.faults;
+    }
 
 -- memory ran out behind what was done
-pub taken_out : (number : ℕ) (names : List (List ℕ)) (flow : FlowLine) (was : Moment) (folder : DepotState) (stream : SinkState) (lines octets : List ℕ) (seen : List (List ℕ))
-    (passed denied : ℕ) (source : Source) (pairs : List PairState) → HasTaken number names flow was (moment_at folder stream lines octets seen passed denied source None) pairs
-    → HasTaken number names flow was (moment_at folder stream lines octets seen passed denied source (Some the_stop.OutOfMemory)) pairs
-taken_out number names flow was folder stream lines octets seen passed denied source pairs taken =
-    taken_unkept number names flow was (moment_at folder stream lines octets seen passed denied source None) pairs taken refl
-    (moment_at folder stream lines octets seen passed denied source (Some the_stop.OutOfMemory)) refl refl refl refl refl refl refl refl refl
+pub taken_out : (number : ℕ) (names : List (List ℕ)) (flow : FlowLine) (was now : Moment) (pairs : List PairState) → HasTaken number names flow was now pairs → now.stop ≡ None
+    → HasTaken number names flow was (record now { stop = Some the_stop.OutOfMemory }) pairs
+taken_out number names flow was now pairs taken none =
+    taken_unkept number names flow was now pairs taken none (record now { stop = Some the_stop.OutOfMemory }) refl refl refl refl refl refl refl refl refl
 
 -- where the end is known, memory may still run out
-pub taken_ends : (number : ℕ) (names : List (List ℕ)) (flow : FlowLine) (was : Moment) (folder : DepotState) (stream : SinkState) (lines octets : List ℕ) (seen : List (List ℕ))
-    (passed denied : ℕ) (source : Source) (stop : Option FlowStop) (pairs : List PairState) → (stop ≡ None) ⊎ (stop ≡ Some the_stop.OutOfMemory)
-    → HasTaken number names flow was (moment_at folder stream lines octets seen passed denied source None) pairs
-    → HasTaken number names flow was (moment_at folder stream lines octets seen passed denied source stop) pairs
-taken_ends number names flow was folder stream lines octets seen passed denied source stop pairs (inl none) taken =
-    subst (λ (x : Option FlowStop). HasTaken number names flow was (moment_at folder stream lines octets seen passed denied source x) pairs) (sym none) taken
-taken_ends number names flow was folder stream lines octets seen passed denied source stop pairs (inr out) taken =
-    subst (λ (x : Option FlowStop). HasTaken number names flow was (moment_at folder stream lines octets seen passed denied source x) pairs) (sym out)
-    (taken_out number names flow was folder stream lines octets seen passed denied source pairs taken)
+pub taken_ends : (number : ℕ) (names : List (List ℕ)) (flow : FlowLine) (was now : Moment) (stop : Option FlowStop) (pairs : List PairState)
+    → (stop ≡ None) ⊎ (stop ≡ Some the_stop.OutOfMemory) → now.stop ≡ None → HasTaken number names flow was now pairs → HasTaken number names flow was (record now { stop = stop }) pairs
+taken_ends number names flow was now stop pairs (inl none) before taken = taken_at number names flow was now stop pairs (before ∙ sym none) taken
+taken_ends number names flow was now stop pairs (inr out) before taken =
+    subst (λ (x : Option FlowStop). HasTaken number names flow was (record now { stop = x }) pairs) (sym out) (taken_out number names flow was now pairs taken before)
 
 -- what waits is appended
-pub taken_appended : (number : ℕ) (names : List (List ℕ)) (flow : FlowLine) (was : Moment) (folder folder' : DepotState) (stream : SinkState) (lines octets octets' : List ℕ) (seen : List (List ℕ))
-    (passed denied : ℕ) (source : Source) (stop : Option FlowStop) (pairs : List PairState)
-    → HasTaken number names flow was (moment_at folder stream lines octets seen passed denied source None) pairs → HasAppended stop flow.output [] octets octets' folder folder'
-    → HasTaken number names flow was (moment_at folder' stream lines octets' seen passed denied source stop) pairs
-taken_appended number names flow was folder folder' stream lines octets octets' seen passed denied source stop pairs taken appended =
-    let ready : IsTrue was.folder.tells → IsTrue folder.tells = λ told. subst IsTrue (sym taken.folder_told) told in
+pub taken_appended : (number : ℕ) (names : List (List ℕ)) (flow : FlowLine) (was now : Moment) (folder' : DepotState) (octets' : List ℕ) (stop : Option FlowStop) (pairs : List PairState)
+    → HasTaken number names flow was now pairs → now.stop ≡ None → HasAppended stop flow.output [] now.octets octets' now.folder folder'
+    → HasTaken number names flow was (record now { folder = folder'; octets = octets'; stop = stop }) pairs
+taken_appended number names flow was now folder' octets' stop pairs taken none appended =
+    let ready : IsTrue was.folder.tells → IsTrue now.folder.tells = λ told. subst IsTrue (sym taken.folder_told) told in
     let text = was.octets ++ frames_octets (kept_by (heads_left was.source (file_of was.folder was.source)) pairs) in
     record {
       folder_told = appended.told ∙ taken.folder_told;
       stream_told = taken.stream_told;
-      lines = printed_by stop flow.output folder.appends folder'.appends appended.moved (walked_lines number (length was.seen + 1) names flow.hops pairs) was.lines lines was.stream stream taken.lines;
+      lines = printed_by stop flow.output now.folder.appends folder'.appends appended.moved (walked_lines number (length was.seen + 1) names flow.hops pairs) was.lines now.lines was.stream now.stream
+          (lines_none number names flow was now pairs taken none);
       seen = taken.seen;
       passed = taken.passed;
       denied = taken.denied;
@@ -574,12 +581,13 @@ taken_appended number names flow was folder folder' stream lines octets octets' 
       heads = taken.heads;
       output = λ told name is.
           subst (λ (t : List ℕ). IsAppended stop t octets' (was.folder.held name) (folder'.held name)) (append-nil text)
-          (appended_more stop text [] octets octets' (was.folder.held name) (folder.held name) (folder'.held name) (taken.output told name is) (appended.here (ready told) name is));
+          (appended_more stop text [] now.octets octets' (was.folder.held name) (now.folder.held name) (folder'.held name)
+          (subst (λ (s : Option FlowStop). IsAppended s text now.octets (was.folder.held name) (now.folder.held name)) none (taken.output told name is)) (appended.here (ready told) name is));
       others = λ told name other. appended.others (ready told) name other ∙ taken.others told name other;
-      reads = reads_after source.behind source.behind flow.input was.folder.reads folder.reads folder'.reads refl taken.reads appended.reads;
-      failed = λ is. absurd (no_read stop flow.output folder.appends folder'.appends appended.moved is);
+      reads = reads_after now.source.behind now.source.behind flow.input was.folder.reads now.folder.reads folder'.reads refl taken.reads appended.reads;
+      failed = λ is. absurd (no_read stop flow.output now.folder.appends folder'.appends appended.moved is);
       creates = λ name. appended.creates name ∙ taken.creates name;
       still = λ no_output name. appended.still no_output name ∙ taken.still no_output name;
-      moved = moved_more flow stop was (moment_at folder stream lines octets seen passed denied source None) (moment_at folder' stream lines octets' seen passed denied source stop) taken.moved appended.moved refl;
+      moved = moved_more flow stop was now (record now { folder = folder'; octets = octets'; stop = stop }) (moved_none number names flow was now pairs taken none) appended.moved refl;
       faults = taken.faults;
     }

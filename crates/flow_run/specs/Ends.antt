@@ -107,5 +107,5 @@ pub record FlowEnds (plan : PlanState) (names : List (List ℕ)) (workers number
   pub stream_told : after.stream.tells ≡ before.stream.tells
 
 -- the same of a flow at its place
-abbrev pub FlowEndsAt : FlowPlace → FlowLine → Outside → Outside → List ℕ → List ℕ → List (List ℕ) → FlowEnd → Type 0
-FlowEndsAt place flow before after waits waits' seen end = FlowEnds (plan_at place) place.names.now place.workers place.number place.most place.upto flow before after waits waits' seen end
+abbrev pub FlowEndsAt : FlowPlace → Outside → Outside → List ℕ → List ℕ → List (List ℕ) → FlowEnd → Type 0
+FlowEndsAt place before after waits waits' seen end = FlowEnds (plan_at place) place.names.now place.workers place.number place.most place.upto place.flow.now before after waits waits' seen end

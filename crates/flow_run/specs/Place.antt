@@ -1,6 +1,5 @@
 -- Where a flow stands in its script, and what the call that carries it out needs of that.
 use Rattle.std.specs.Prelude.{◌≢◌, ◌<◌, ◌≤◌, ◌^◌, List, length, All, Some}
-use Rattle.flow_lines.specs.declared.flow.FlowLine.{FlowLine}
 use Rattle.flow_lines.specs.Hop.{node_of}
 use Rattle.node_tables.specs.Tables.{TableState}
 use Rattle.node_tables.specs.Steps.{tables_after}
@@ -9,19 +8,19 @@ use Rattle.flow_run.specs.declared.end.FlowPlace.{FlowPlace}
 
 -- A flow stands at a place of its script: each node that it or a step names is there, its steps stand between those above it and the script's end,
 -- there are 1 to 16 workers, and it doesn't write to what it reads.
-pub record StandsAt (place : FlowPlace) (flow : FlowLine) : Type 0 where
+pub record StandsAt (place : FlowPlace) : Type 0 where
   pub workers : (0 < place.workers) × (place.workers ≤ 16)
   pub nodes : length place.names.now ≤ 32
   pub steps : length place.steps.now < 2 ^ 32
   pub step_nodes : All (λ step. step.node < length place.names.now) place.steps.now
-  pub hop_nodes : All (λ hop. node_of hop < length place.names.now) flow.hops
-  pub beside : (flow.before ≤ place.upto) × (place.upto ≤ length place.steps.now)
-  pub apart : flow.output ≢ Some flow.input
+  pub hop_nodes : All (λ hop. node_of hop < length place.names.now) place.flow.now.hops
+  pub beside : (place.flow.now.before ≤ place.upto) × (place.upto ≤ length place.steps.now)
+  pub apart : place.flow.now.output ≢ Some place.flow.now.input
 
 -- all steps of the script, on its nodes
 abbrev pub plan_at : FlowPlace → PlanState
 plan_at place = record { nodes = length place.names.now; steps = place.steps.now }
 
 -- the nodes' tables in front of a flow
-abbrev pub tables_at : FlowPlace → FlowLine → List TableState
-tables_at place flow = tables_after (length place.names.now) place.steps.now flow.before
+abbrev pub tables_at : FlowPlace → List TableState
+tables_at place = tables_after (length place.names.now) place.steps.now place.flow.now.before

@@ -5,8 +5,8 @@ ghost use Rattle.flow_run.specs.Place.{StandsAt, tables_at};
 ghost use Rattle.flow_run.specs.inside.Board.{IsOpenFor};
 
 use crate::end::FlowPlace;
+use crate::runner::Runner;
 use command_forms::Step;
-use flow_lines::FlowLine;
 use mls_label::OutOfMemory;
 use node_tables::Network;
 use shared_tables::{Board, Plan, Publisher, Viewer};
@@ -27,20 +27,20 @@ fn first_steps(alloc: Global, steps: &[Step], upto: usize) -> Result<Vec<Step>, 
 }
 
 /// Opens a board at the version in front of a flow, with the steps up to the next one, and a viewer for each worker.
-pub(crate) fn open_board<R: Wait>(
-    rt: &R,
-    alloc: Global,
+pub(crate) fn open_board<R: Wait, G>(
+    runner: &Runner<'_, '_, R, G>,
     place: &FlowPlace<'_>,
-    flow: &FlowLine,
     network: Network,
 ) -> Result<(Publisher, Vec<Viewer>), OutOfMemory>
-    requires stands { StandsAt place.now flow.now }
-    requires network { network ≡ tables_at place.now flow.now }
-    ensures { IfOk result (λ begun. IsOpenFor place.now flow.now begun.0 begun.1.items) }
+    requires stands { StandsAt place.now }
+    requires network { network ≡ tables_at place.now }
+    ensures { IfOk result (λ begun. IsOpenFor place.now begun.0 begun.1.items) }
 {
+    let alloc = runner.alloc;
     let steps = first_steps(alloc, place.steps, place.upto as usize)?;
     let plan = Plan::from_steps(alloc, steps, place.names.len())?;
-    match Board::begin(rt, alloc, network, plan, flow.before, place.workers) {
+    let before = place.flow.before;
+    match Board::begin(runner.rt, alloc, network, plan, before, place.workers) {
         Ok(begun) => Ok(begun),
         Err(_) => Err(OutOfMemory),
     }

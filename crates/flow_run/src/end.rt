@@ -2,12 +2,15 @@
 
 use address_text::Name;
 use command_forms::Step;
+use flow_lines::FlowLine;
 use node_tables::{Network, Reply};
 use pcap_frames::CaptureFault;
 
 /// Where a flow stands in its script.
-#[derive(Drop)]
+#[derive(Clone, Copy)]
 pub struct FlowPlace<'a> {
+    /// The flow's line.
+    pub flow: &'a FlowLine,
     /// The flow's number, counted from 1.
     pub number: u32,
     /// How many packets may still be read.

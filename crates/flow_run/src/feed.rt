@@ -1,22 +1,20 @@
 //! The feed of a flow.
 
-ghost use Rattle.std.specs.Prelude.{◌≡◌, ◌≤◌, ◌<◌, ◌+◌, ◌^◌, ◌++◌, ◌∷◌, [], None, Some, length, OnOk, OnErr, IfErr, if◌then◌else◌};
+ghost use Rattle.std.specs.Prelude.{◌≡◌, ◌≤◌, ◌<◌, ◌+◌, ◌^◌, ◌++◌, ◌∷◌, [], length, OnOk, OnErr, IfErr, if◌then◌else◌};
 ghost use Rattle.flow_run.specs.declared.end.FlowStop.TheVariants.{OutOfMemory as NoMemoryStop};
-ghost use Rattle.report_lines.specs.Flow.{walked_line};
 ghost use Rattle.flow_run.specs.Run.{is_denied as is_denied_end};
-ghost use Rattle.flow_run.specs.inside.Output.{IsThere, frame_of};
-ghost use Rattle.flow_run.specs.inside.Taken.{HasHanded, stop_in};
+ghost use Rattle.flow_run.specs.inside.Output.{IsThere};
+ghost use Rattle.flow_run.specs.inside.Judged.{judged_frame, judged_line};
+ghost use Rattle.flow_run.specs.inside.Taken.{HasHanded, outlets, stop_in};
 
-use crate::end::FlowStop;
-use crate::lines::print_walked;
+use crate::end::{FlowPlace, FlowStop};
+use crate::judged::Judged;
+use crate::lines::print_judged;
 use crate::output::{add_frame, is_denied};
 use crate::source::{Source, fetch_batch};
-use address_text::Name;
 use call_report::{FlowSeen, Report};
-use flow_lines::FlowLine;
 use label_flow::{Feed, PacketIn, Walked};
 use net_io::{Depot, IoFault, Sink};
-use pcap_frames::FrameHead;
 use std::alloc::Global;
 
 /// The most hops of a flow, and more packets than a call reads.
@@ -26,14 +24,12 @@ const PACKETS: usize = 1 << 27;
 
 /// Reads the packets of a flow, and gives what became of them to the report and the output.
 #[derive(Drop)]
-pub struct RunFeed<'d, 'o, 'r, 'n, 'f, D, S> {
+pub struct RunFeed<'d, 'o, 'r, 'f, D, S> {
     pub depot: &'d mut D,
     pub out: &'o mut S,
     pub report: &'r mut Report,
     pub alloc: Global,
-    pub number: u64,
-    pub names: &'n [Name],
-    pub flow: &'f FlowLine,
+    pub place: FlowPlace<'f>,
     pub source: Source,
     /// What waits for the output.
     pub octets: Vec<u8>,
@@ -79,52 +75,43 @@ fn hand_on<D: Depot, S: Sink>(
     out: &mut S,
     report: &mut Report,
     octets: &mut Vec<u8>,
-    number: u64,
-    place: u64,
-    names: &[Name],
-    flow: &FlowLine,
-    head: FrameHead,
-    walked: &Walked,
-    packet: &[u8],
+    place: &FlowPlace<'_>,
+    judged: &Judged<'_>,
 ) -> Result<(), FlowStop>
-    requires there { IsThere flow.now.output (D.state depot.old) }
-    requires short { length packet.now ≤ 262144 }
-    ensures { HasHanded (stop_in result) (walked_line number place names.now flow.now.hops walked.now) flow.now.output (frame_of head walked.now.end packet.now)
-        report.old.waiting.items report.new.waiting.items octets.old.items octets.new.items (D.state depot.old) (D.state depot.new) (S.state out.old) (S.state out.new) }
+    requires there { IsThere place.now.flow.now.output (D.state depot.old) }
+    requires short { length judged.now.packet.now ≤ 262144 }
+    ensures { HasHanded (stop_in result)
+        (judged_line place.now judged.now) place.now.flow.now.output (judged_frame judged.now)
+        (outlets (D.state depot.old) (S.state out.old) report.old.waiting.items octets.old.items)
+        (outlets (D.state depot.new) (S.state out.new) report.new.waiting.items octets.new.items) }
 {
-    match print_walked(report, out, number, place, names, flow.hops.hops(), walked) {
-        Ok(()) => add_frame(depot, &flow.output, octets, head, walked, packet),
+    match print_judged(report, out, place, judged) {
+        Ok(()) => add_frame(depot, &place.flow.output, octets, judged),
         Err(IoFault::Failed) => Err(FlowStop::Print),
         Err(IoFault::OutOfMemory) => Err(FlowStop::OutOfMemory),
     }
 }
 
-impl<'d, 'o, 'r, 'n, 'f, D: Depot, S: Sink> Feed for RunFeed<'d, 'o, 'r, 'n, 'f, D, S> {
+impl<'d, 'o, 'r, 'f, D: Depot, S: Sink> Feed for RunFeed<'d, 'o, 'r, 'f, D, S> {
     type Stop = FlowStop;
 
-    ghost use Rattle.std.specs.Prelude.{◌≡◌, ◌-◌, length};
-    ghost use Rattle.flow_run.specs.inside.Source.{IsFed, packets_left, is_end, file_of};
-    ghost use Rattle.flow_run.specs.inside.Taken.{IsGoing, HasTaken, moment_at};
+    ghost use Rattle.std.specs.Prelude.{length};
+    ghost use Rattle.flow_run.specs.inside.Source.{is_end};
+    ghost use Rattle.flow_run.specs.inside.Feed.{left_of, due_of, IsReadyFeed, HasTakenSince};
 
-    ghost left = { λ f. packets_left (D.state f.depot.now).tells f.source (file_of (D.state f.depot.now) f.source) };
+    ghost left = { λ f. left_of D.state f };
 
     ghost ended = { λ f. is_end f.source.behind };
 
-    ghost due = { λ f. length f.source.heads.items - f.source.at };
+    ghost due = { λ f. due_of f };
 
     ghost stop = { λ f. f.stop };
 
-    ghost hops = { λ f. length f.flow.now.hops };
+    ghost hops = { λ f. length f.place.flow.now.hops };
 
-    ghost ready = { λ f. IsFed (D.state f.depot.now) f.source
-        × IsGoing f.flow.now (moment_at (D.state f.depot.now) (S.state f.out.now) f.report.now.waiting.items f.octets.items f.seen f.passed f.denied f.source f.stop) };
+    ghost ready = { λ f. IsReadyFeed D.state S.state f };
 
-    ghost took = { λ was f pairs.
-        (f.depot.ghost_name ≡ was.depot.ghost_name) × (f.out.ghost_name ≡ was.out.ghost_name) × (f.report.ghost_name ≡ was.report.ghost_name)
-        × (f.number ≡ was.number) × (f.names.now ≡ was.names.now) × (f.flow.now ≡ was.flow.now)
-        × HasTaken f.number f.names.now f.flow.now
-        (moment_at (D.state was.depot.now) (S.state was.out.now) was.report.now.waiting.items was.octets.items was.seen was.passed was.denied was.source was.stop)
-        (moment_at (D.state f.depot.now) (S.state f.out.now) f.report.now.waiting.items f.octets.items f.seen f.passed f.denied f.source f.stop) pairs };
+    ghost took = { λ was f pairs. HasTakenSince D.state S.state was f pairs };
 
     fn fetch(&mut self, batch: &mut Vec<PacketIn>) -> Result<bool, FlowStop> {
         match self.stop {
@@ -153,20 +140,21 @@ impl<'d, 'o, 'r, 'n, 'f, D: Depot, S: Sink> Feed for RunFeed<'d, 'o, 'r, 'n, 'f,
             }
         }
         count(&mut self.passed, &mut self.denied, walked);
-        let head = self.source.heads[self.source.at];
+        let judged = Judged {
+            number: self.seen.len() as u64,
+            head: self.source.heads[self.source.at],
+            walked,
+            packet,
+        };
         self.source.at += 1;
+        let octets = &mut self.octets;
         match hand_on(
             self.depot,
             self.out,
             self.report,
-            &mut self.octets,
-            self.number,
-            self.seen.len() as u64,
-            self.names,
-            self.flow,
-            head,
-            walked,
-            packet,
+            octets,
+            &self.place,
+            &judged,
         ) {
             Ok(()) => Ok(()),
             Err(stop) => {

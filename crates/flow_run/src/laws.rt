@@ -13,20 +13,25 @@ ghost use Rattle.flow_run.specs.Laws.{IsOfPassed, run_without};
 
 /// An output capture is made of frames of packets that weren't denied.
 pub fn outputs_are_of_packets_that_passed()
-    ensures { (run : FlowRun) → All (IsOfPassed run.input.frames run.pairs) (kept_frames run.input.frames run.pairs) }
+    ensures { (run : FlowRun)
+        → All (IsOfPassed run.input.frames run.pairs) (kept_frames run.input.frames run.pairs) }
 {}
 
 /// It is what it would be if a packet that was denied hadn't come.
 pub fn denied_packets_leave_no_frame()
-    ensures { (run : FlowRun) (n : ℕ) (pair : PairState) → slice_get run.pairs n ≡ Some pair → is_denied pair.walked.end ≡ true
+    ensures { (run : FlowRun) (n : ℕ) (pair : PairState)
+        → slice_get run.pairs n ≡ Some pair → is_denied pair.walked.end ≡ true
         → output_capture run ≡ output_capture (run_without n run) }
 {}
 
 /// A packet that comes to a hop which has no option for its label ends denied there, as Inexpressible where no earlier case holds, and no
 /// frame of the output stems from it.
 pub fn packets_without_an_option_leave_no_frame()
-    ensures { (plan : PlanState) (run : FlowRun) (seen : List (List ℕ)) (n at : ℕ) (packet : PacketIn) (pair : PairState) (why : Denial)
-        → IsRun plan run seen → slice_get (packets_in run.input) n ≡ Some packet → slice_get run.pairs n ≡ Some pair
+    ensures { (plan : PlanState) (run : FlowRun) (seen : List (List ℕ)) (n at : ℕ)
+        (packet : PacketIn) (pair : PairState) (why : Denial)
+        → IsRun plan run seen → slice_get (packets_in run.input) n ≡ Some packet
+        → slice_get run.pairs n ≡ Some pair
         → MeetsNoOption plan run.flow.hops packet pair.walked.versions at why
-        → (pair.walked.end ≡ the_end.Denied at why) × (output_capture run ≡ output_capture (run_without n run)) }
+        → (pair.walked.end ≡ the_end.Denied at why)
+        × (output_capture run ≡ output_capture (run_without n run)) }
 {}

@@ -6,14 +6,17 @@
 mod board;
 mod end;
 mod feed;
+mod judged;
 pub mod laws;
 mod lines;
 mod output;
 mod run;
+mod runner;
 mod source;
 
 pub use end::{FlowEnd, FlowPlace, FlowStop};
 pub use run::run_flow;
+pub use runner::Runner;
 
 #[cfg(test)]
 mod tests;

@@ -1,29 +1,36 @@
 //! The lines of packets.
 
-ghost use Rattle.report_lines.specs.Flow.{walked_line};
 ghost use Rattle.call_report.specs.Printing.{HandsOn};
+ghost use Rattle.flow_run.specs.inside.Judged.{judged_line};
 
-use address_text::Name;
+use crate::end::FlowPlace;
+use crate::judged::Judged;
 use call_report::Report;
-use flow_lines::Hop;
 use mls_label::OutOfMemory;
 use net_io::{IoFault, Sink};
-use packet_walk::Walked;
 use report_lines::write_walked;
 
 /// Adds the line of a packet, and hands on what waits where that is a piece.
-pub(crate) fn print_walked<S: Sink>(
+pub(crate) fn print_judged<S: Sink>(
     report: &mut Report,
     out: &mut S,
-    flow: u64,
-    number: u64,
-    names: &[Name],
-    hops: &[Hop],
-    walked: &Walked,
+    place: &FlowPlace<'_>,
+    judged: &Judged<'_>,
 ) -> Result<(), IoFault>
-    ensures { HandsOn (walked_line flow number names.now hops.now walked.now) report.old.waiting.items report.new.waiting.items result (S.state out.old) (S.state out.new) }
+    ensures { HandsOn (judged_line place.now judged.now)
+        report.old.waiting.items report.new.waiting.items
+        result (S.state out.old) (S.state out.new) }
 {
-    match write_walked(flow, number, names, hops, walked, &mut report.waiting) {
+    let flow = u64::from(place.number);
+    let hops = place.flow.hops.hops();
+    match write_walked(
+        flow,
+        judged.number,
+        place.names,
+        hops,
+        judged.walked,
+        &mut report.waiting,
+    ) {
         Ok(()) => report.pass(out),
         Err(OutOfMemory) => Err(IoFault::OutOfMemory),
     }

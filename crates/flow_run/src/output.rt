@@ -1,17 +1,19 @@
 //! What waits for the output of a flow.
 
-ghost use Rattle.std.specs.Prelude.{◌≡◌, ◌≤◌, ℕ, List, [], length, Some, OnOk, IfOk};
-ghost use Rattle.pcap_frames.specs.Written.{capture_head_octets, frame_octets};
+ghost use Rattle.std.specs.Prelude.{◌≡◌, ◌≤◌, [], length, Some, OnOk, IfOk};
+ghost use Rattle.pcap_frames.specs.Written.{frame_octets};
 ghost use Rattle.flow_run.specs.Run.{is_denied};
-ghost use Rattle.flow_run.specs.inside.Output.{HasAppended, IsThere, frame_of};
+ghost use Rattle.flow_run.specs.inside.Output.{HasAppended, IsThere, AreSent, HasHead};
+ghost use Rattle.flow_run.specs.inside.Judged.{judged_frame};
 ghost use Rattle.flow_run.specs.inside.Taken.{stop_in};
 ghost use Rattle.flow_run.specs.inside.Flown.{HasCreated};
 
 use crate::end::FlowStop;
+use crate::judged::Judged;
 use flow_lines::FileName;
 use net_io::{Depot, IoFault, append_all};
 use packet_walk::{End, Walked};
-use pcap_frames::{FrameHead, write_frame, write_head};
+use pcap_frames::{write_frame, write_head};
 use std::alloc::Global;
 
 /// How many octets are gathered before they are appended.
@@ -24,7 +26,8 @@ pub(crate) fn append_waiting<D: Depot>(
     octets: &mut Vec<u8>,
 ) -> Result<(), FlowStop>
     requires { IsThere (Some name.now) (D.state depot.old) }
-    ensures appended { HasAppended (stop_in result) (Some name.now) [] octets.old.items octets.new.items (D.state depot.old) (D.state depot.new) }
+    ensures appended { HasAppended (stop_in result) (Some name.now) []
+        octets.old.items octets.new.items (D.state depot.old) (D.state depot.new) }
     ensures empty { OnOk result (octets.new.items ≡ []) }
 {
     match append_all(depot, name.text(), octets.as_slice()) {
@@ -52,14 +55,15 @@ fn add_kept<D: Depot>(
     depot: &mut D,
     name: &FileName,
     octets: &mut Vec<u8>,
-    head: FrameHead,
-    packet: &[u8],
+    judged: &Judged<'_>,
 ) -> Result<(), FlowStop>
     requires there { IsThere (Some name.now) (D.state depot.old) }
-    requires short { length packet.now ≤ 262144 }
-    ensures { HasAppended (stop_in result) (Some name.now) (frame_octets head packet.now) octets.old.items octets.new.items (D.state depot.old) (D.state depot.new) }
+    requires short { length judged.now.packet.now ≤ 262144 }
+    ensures { HasAppended (stop_in result) (Some name.now)
+        (frame_octets judged.now.head judged.now.packet.now)
+        octets.old.items octets.new.items (D.state depot.old) (D.state depot.new) }
 {
-    let Ok(()) = write_frame(head, packet, octets) else {
+    let Ok(()) = write_frame(judged.head, judged.packet, octets) else {
         return Err(FlowStop::OutOfMemory);
     };
     if octets.len() < PIECE {
@@ -73,19 +77,18 @@ pub(crate) fn add_frame<D: Depot>(
     depot: &mut D,
     output: &Option<FileName>,
     octets: &mut Vec<u8>,
-    head: FrameHead,
-    walked: &Walked,
-    packet: &[u8],
+    judged: &Judged<'_>,
 ) -> Result<(), FlowStop>
     requires there { IsThere output.now (D.state depot.old) }
-    requires short { length packet.now ≤ 262144 }
-    ensures { HasAppended (stop_in result) output.now (frame_of head walked.now.end packet.now) octets.old.items octets.new.items (D.state depot.old) (D.state depot.new) }
+    requires short { length judged.now.packet.now ≤ 262144 }
+    ensures { HasAppended (stop_in result) output.now (judged_frame judged.now)
+        octets.old.items octets.new.items (D.state depot.old) (D.state depot.new) }
 {
-    if is_denied(walked) {
+    if is_denied(judged.walked) {
         return Ok(());
     }
     match output {
-        Some(name) => add_kept(depot, name, octets, head, packet),
+        Some(name) => add_kept(depot, name, octets, judged),
         None => Ok(()),
     }
 }
@@ -97,8 +100,9 @@ pub(crate) fn create_output<D: Depot>(
     output: &Option<FileName>,
     nanos: bool,
 ) -> Result<Vec<u8>, FlowStop>
-    ensures created { HasCreated (stop_in result) output.now (D.state depot.old) (D.state depot.new) }
-    ensures head { IfOk result (λ octets. (name : List ℕ) → output.now ≡ Some name → octets.items ≡ capture_head_octets nanos) }
+    ensures created { HasCreated (stop_in result) output.now
+        (D.state depot.old) (D.state depot.new) }
+    ensures head { IfOk result (λ octets. HasHead output.now nanos octets.items) }
 {
     let mut octets = Vec::new(alloc);
     let Some(name) = output else {
@@ -121,8 +125,9 @@ pub(crate) fn append_rest<D: Depot>(
     octets: &mut Vec<u8>,
 ) -> Result<(), FlowStop>
     requires { IsThere output.now (D.state depot.old) }
-    ensures appended { HasAppended (stop_in result) output.now [] octets.old.items octets.new.items (D.state depot.old) (D.state depot.new) }
-    ensures empty { OnOk result ((name : List ℕ) → output.now ≡ Some name → octets.new.items ≡ []) }
+    ensures appended { HasAppended (stop_in result) output.now []
+        octets.old.items octets.new.items (D.state depot.old) (D.state depot.new) }
+    ensures sent { OnOk result (AreSent output.now octets.new.items) }
 {
     match output {
         Some(name) => append_waiting(depot, name, octets),

@@ -1,6 +1,6 @@
 //! The packets of a capture, read in batches.
 
-ghost use Rattle.std.specs.Prelude.{◌≡◌, ◌≤◌, ◌<◌, ◌⊎◌, IsTrue, ◌+◌, ◌-◌, [], length, drop, None, Some, IsSome, is_some, option_map, if◌then◌else◌, IfOk, IfErr, IfSome, true, false, vec_len, vec_capacity};
+ghost use Rattle.std.specs.Prelude.{◌≡◌, ◌≤◌, ◌<◌, ◌⊎◌, IsTrue, ◌+◌, [], length, drop, None, Some, IsSome, is_some, option_map, if◌then◌else◌, OnErr, IfOk, IfErr, IfSome, true, false, vec_len, vec_capacity};
 ghost use Rattle.net_io.specs.Depot.{octets_of, OnlyReads};
 ghost use Rattle.pcap_frames.specs.Header.{capture_header};
 ghost use Rattle.pcap_frames.specs.Reader.{IsReady, IsAnswerOf, SpeaksOf};
@@ -8,7 +8,7 @@ ghost use Rattle.pcap_frames.specs.Ip.{ip_part_of};
 ghost use Rattle.label_flow.specs.Feed.{HasFetched};
 ghost use Rattle.flow_run.specs.Input.{packet_in};
 ghost use Rattle.flow_run.specs.inside.Flown.{IsFresh};
-ghost use Rattle.flow_run.specs.inside.Source.{IsAmid, StandsBy, HasGot, HasOnlyRead, IsFed, HasFilled, HasStepped, packets_left, pending, is_end, file_of};
+ghost use Rattle.flow_run.specs.inside.Source.{IsAmid, StandsBy, HasGot, HasOnlyRead, IsFed, HasFilled, HasStepped, left_in, due_in, pending, is_end, file_of};
 
 use crate::end::FlowStop;
 use flow_lines::FileName;
@@ -75,7 +75,8 @@ fn without_front(octets: Vec<u8>, front: usize) -> Vec<u8>
 
 // The packet of a frame.
 fn packet_of(link: u32, octets: Vec<u8>) -> PacketIn
-    ensures { (head : FrameHead) → result ≡ packet_in link (record { head = head; octets = octets.items }) }
+    ensures { (head : FrameHead)
+        → result ≡ packet_in link (record { head = head; octets = octets.items }) }
 {
     let Some(front) = front_of(link, &octets) else {
         let bytes = Octets::of(octets);
@@ -101,7 +102,8 @@ fn front_of(link: u32, octets: &[u8]) -> Option<usize>
 fn has_room(batch: &mut Vec<PacketIn>, heads: &mut Vec<FrameHead>) -> bool
     ensures batch { batch.new.items ≡ batch.old.items }
     ensures heads { heads.new.items ≡ heads.old.items }
-    ensures free { IsTrue result → (vec_len batch.new < vec_capacity batch.new) × (vec_len heads.new < vec_capacity heads.new) }
+    ensures free { IsTrue result → (vec_len batch.new < vec_capacity batch.new)
+        × (vec_len heads.new < vec_capacity heads.new) }
 {
     batch.reserve(1).is_ok() && heads.reserve(1).is_ok()
 }
@@ -114,15 +116,20 @@ fn read_one<D: Depot>(
     batch: &mut Vec<PacketIn>,
 ) -> Option<Behind>
     requires ready { IsReady (D.state depot.old) source.old.frames }
-    requires amid { IsTrue (D.state depot.old).tells → IsAmid source.old (file_of (D.state depot.old) source.old) }
+    requires amid { IsTrue (D.state depot.old).tells
+        → IsAmid source.old (file_of (D.state depot.old) source.old) }
     requires within { source.old.read ≤ source.old.most }
     ensures within { source.new.read ≤ source.new.most }
     ensures ready { IsReady (D.state depot.new) source.new.frames }
-    ensures reads { HasOnlyRead result source.old.frames.name (D.state depot.old) (D.state depot.new) }
-    ensures stands { IsTrue (D.state depot.old).tells → StandsBy result source.new (file_of (D.state depot.old) source.old) }
-    ensures got { HasGot (D.state depot.old).tells (file_of (D.state depot.old) source.old) source.old source.new batch.old.items batch.new.items }
+    ensures reads { HasOnlyRead result source.old.frames.name
+        (D.state depot.old) (D.state depot.new) }
+    ensures stands { IsTrue (D.state depot.old).tells
+        → StandsBy result source.new (file_of (D.state depot.old) source.old) }
+    ensures got { HasGot (D.state depot.old).tells (file_of (D.state depot.old) source.old)
+        source.old source.new batch.old.items batch.new.items }
     ensures behind { source.new.behind ≡ source.old.behind }
-    ensures count { length batch.new.items ≡ length batch.old.items + (if is_some result then 0 else 1) }
+    ensures count { length batch.new.items
+        ≡ length batch.old.items + (if is_some result then 0 else 1) }
 {
     if !has_room(batch, &mut source.heads) {
         return Some(Behind::NoMemory);
@@ -148,7 +155,8 @@ fn read_one<D: Depot>(
 // Empties the batch, whose buffers are kept for what is read next.
 fn give_back(source: &mut Source, batch: &mut Vec<PacketIn>)
     ensures empty { (batch.new.items ≡ []) × (source.new.heads.items ≡ []) × (source.new.at ≡ 0) }
-    ensures same { (source.new.frames ≡ source.old.frames) × (source.new.most ≡ source.old.most) × (source.new.read ≡ source.old.read) × (source.new.behind ≡ source.old.behind) }
+    ensures same { (source.new.frames ≡ source.old.frames) × (source.new.most ≡ source.old.most)
+        × (source.new.read ≡ source.old.read) × (source.new.behind ≡ source.old.behind) }
 {
     mem::swap(batch, &mut source.spare);
     batch.clear();
@@ -159,15 +167,19 @@ fn give_back(source: &mut Source, batch: &mut Vec<PacketIn>)
 // Reads until the batch is full, or up to what stands behind the last packet.
 fn fill<D: Depot>(alloc: Global, depot: &mut D, source: &mut Source, batch: &mut Vec<PacketIn>)
     requires ready { IsReady (D.state depot.old) source.old.frames }
-    requires amid { IsTrue (D.state depot.old).tells → IsAmid source.old (file_of (D.state depot.old) source.old) }
+    requires amid { IsTrue (D.state depot.old).tells
+        → IsAmid source.old (file_of (D.state depot.old) source.old) }
     requires within { source.old.read ≤ source.old.most }
     requires begins { source.old.behind ≡ None }
     requires empty { batch.old.items ≡ [] }
     ensures within { source.new.read ≤ source.new.most }
     ensures ready { IsReady (D.state depot.new) source.new.frames }
-    ensures reads { HasOnlyRead source.new.behind source.old.frames.name (D.state depot.old) (D.state depot.new) }
-    ensures stands { IsTrue (D.state depot.old).tells → StandsBy source.new.behind source.new (file_of (D.state depot.old) source.old) }
-    ensures got { HasGot (D.state depot.old).tells (file_of (D.state depot.old) source.old) source.old source.new batch.old.items batch.new.items }
+    ensures reads { HasOnlyRead source.new.behind source.old.frames.name
+        (D.state depot.old) (D.state depot.new) }
+    ensures stands { IsTrue (D.state depot.old).tells
+        → StandsBy source.new.behind source.new (file_of (D.state depot.old) source.old) }
+    ensures got { HasGot (D.state depot.old).tells (file_of (D.state depot.old) source.old)
+        source.old source.new batch.old.items batch.new.items }
     ensures few { length batch.new.items ≤ 1024 }
     ensures some { (0 < length batch.new.items) ⊎ IsSome source.new.behind }
 {
@@ -186,7 +198,8 @@ fn fill<D: Depot>(alloc: Global, depot: &mut D, source: &mut Source, batch: &mut
 fn fill_on<D: Depot>(alloc: Global, depot: &mut D, source: &mut Source, batch: &mut Vec<PacketIn>)
     requires fed { IsFed (D.state depot.old) source.old }
     requires empty { batch.old.items ≡ [] }
-    ensures { HasFilled (D.state depot.old) (D.state depot.new) source.old source.new batch.new.items }
+    ensures { HasFilled (D.state depot.old) (D.state depot.new)
+        source.old source.new batch.new.items }
 {
     if source.behind.is_some() {
         return;
@@ -217,13 +230,15 @@ pub(crate) fn fetch_batch<D: Depot>(
     batch: &mut Vec<PacketIn>,
 ) -> Result<bool, FlowStop>
     requires fed { IsFed (D.state depot.old) source.old }
-    requires due { length source.old.heads.items - source.old.at ≡ 0 }
+    requires due { due_in source.old ≡ 0 }
     ensures fed { IsFed (D.state depot.new) source.new }
-    ensures fetched { IfOk result (λ more. HasFetched (packets_left (D.state depot.old).tells source.old (file_of (D.state depot.old) source.old)) more batch.new.items
-        (packets_left (D.state depot.new).tells source.new (file_of (D.state depot.new) source.new)) (length source.new.heads.items - source.new.at)) }
+    ensures fetched { IfOk result (λ more. HasFetched (left_in (D.state depot.old) source.old)
+        more batch.new.items (left_in (D.state depot.new) source.new) (due_in source.new)) }
     ensures ended { IfOk result (λ more. more ≡ false → is_end source.new.behind ≡ true) }
-    ensures left { IfErr result (λ stop. packets_left (D.state depot.new).tells source.new (file_of (D.state depot.new) source.new) ≡ packets_left (D.state depot.old).tells source.old (file_of (D.state depot.old) source.old)) }
-    ensures stop { IfErr result (λ stop. (length source.new.heads.items - source.new.at ≡ 0) × (pending source.new.behind ≡ Some stop)) }
+    ensures left { OnErr result (left_in (D.state depot.new) source.new
+        ≡ left_in (D.state depot.old) source.old) }
+    ensures stop { IfErr result (λ stop. (due_in source.new ≡ 0)
+        × (pending source.new.behind ≡ Some stop)) }
     ensures stepped { HasStepped source.old source.new (D.state depot.old) (D.state depot.new) }
     ensures at { source.new.at ≤ length source.new.heads.items }
 {
@@ -244,9 +259,13 @@ pub(crate) fn begin_source<D: Depot>(
 ) -> Result<Source, FrameStop>
     ensures fresh { IfOk result (λ source. IsFresh name.now most source) }
     ensures fed { IfOk result (λ source. IsFed (D.state depot.new) source) }
-    ensures answer { IsTrue (D.state depot.old).tells → IsAnswerOf (λ source. source.frames.header) result (capture_header (octets_of ((D.state depot.old).held name.now))) }
-    ensures present { IsTrue (D.state depot.old).tells → SpeaksOf ((D.state depot.old).held name.now) result }
-    ensures frame { OnlyReads FrameStop.ReadFault result name.now (D.state depot.old) (D.state depot.new) }
+    ensures answer { IsTrue (D.state depot.old).tells
+        → IsAnswerOf (λ source. source.frames.header) result
+        (capture_header (octets_of ((D.state depot.old).held name.now))) }
+    ensures present { IsTrue (D.state depot.old).tells
+        → SpeaksOf ((D.state depot.old).held name.now) result }
+    ensures frame { OnlyReads FrameStop.ReadFault result name.now
+        (D.state depot.old) (D.state depot.new) }
 {
     match Frames::begin(alloc, depot, name.text()) {
         Ok(frames) => Ok(Source {

@@ -215,6 +215,7 @@ fn called(
     let steps = steps_of(rt, alloc);
     let network = fresh(rt, alloc, &steps);
     let place = FlowPlace {
+        flow: &flow,
         number: 3,
         most,
         upto: 4,
@@ -227,17 +228,12 @@ fn called(
     };
     let mut sink = MemorySink::new(alloc, &[write], 4096).expect(rt, "memory");
     let mut report = Report::new(alloc);
-    let (seen, end) = run_flow(
+    let runner = Runner {
         rt,
         alloc,
-        &place,
-        &flow,
-        network,
-        &mut report,
-        depot,
-        &mut sink,
-        &gate,
-    );
+        gate: &gate,
+    };
+    let (seen, end) = run_flow(&runner, &place, network, &mut report, depot, &mut sink);
     let flushed = report.flush(&mut sink);
     assert!(rt; flushed.is_ok());
     let printed = Vec::from_slice(alloc, sink.bytes()).expect(rt, "memory");

@@ -25,7 +25,9 @@ pub fn answer_steps<S: Sink>(
     requires nodes { All (λ (step : StepValue). step.node < length names.now) steps.now }
     requires within { upto ≤ length steps.now }
     requires fresh { network.old ≡ tables_after (length names.now) steps.now 0 }
-    ensures replies { HandsOn (replies_text names.now steps.now 0 upto) report.old.waiting.items report.new.waiting.items result (S.state out.old) (S.state out.new) }
+    ensures replies { HandsOn (replies_text names.now steps.now 0 upto)
+        report.old.waiting.items report.new.waiting.items
+        result (S.state out.old) (S.state out.new) }
     ensures tables { OnOk result (network.new ≡ tables_after (length names.now) steps.now upto) }
 {
     let mut done = 0;
@@ -48,8 +50,11 @@ fn answer_step<S: Sink>(
     requires nodes { All (λ (step : StepValue). step.node < length names.now) steps.now }
     requires within { place < length steps.now }
     requires tables { network.old ≡ tables_after (length names.now) steps.now place }
-    ensures replied { HandsOn (reply_line_at names.now steps.now place) report.old.waiting.items report.new.waiting.items result (S.state out.old) (S.state out.new) }
-    ensures applied { OnOk result (network.new ≡ tables_after (length names.now) steps.now (place + 1)) }
+    ensures replied { HandsOn (reply_line_at names.now steps.now place)
+        report.old.waiting.items report.new.waiting.items
+        result (S.state out.old) (S.state out.new) }
+    ensures applied { OnOk result (network.new
+        ≡ tables_after (length names.now) steps.now (place + 1)) }
 {
     let Ok(reply) = network.apply(&steps[place]) else {
         return Err(IoFault::OutOfMemory);
@@ -68,8 +73,11 @@ pub(crate) fn hand_on_replies<S: Sink>(
 ) -> Result<(), IoFault>
     requires nodes { All (λ (step : StepValue). step.node < length names.now) steps.now }
     requires within { from + length replies.now ≤ length steps.now }
-    requires given { AreReplies (record { nodes = length names.now; steps = steps.now }) from replies.now }
-    ensures { HandsOn (replies_text names.now steps.now from (length replies.now)) report.old.waiting.items report.new.waiting.items result (S.state out.old) (S.state out.new) }
+    requires given { AreReplies (record { nodes = length names.now; steps = steps.now })
+        from replies.now }
+    ensures { HandsOn (replies_text names.now steps.now from (length replies.now))
+        report.old.waiting.items report.new.waiting.items
+        result (S.state out.old) (S.state out.new) }
 {
     let mut done = 0;
     while done < replies.len() {
@@ -91,7 +99,9 @@ fn hand_on_at<S: Sink>(
     requires nodes { All (λ (step : StepValue). step.node < length names.now) steps.now }
     requires within { place < length steps.now }
     requires given { reply_at (length names.now) steps.now place ≡ Some reply.now }
-    ensures { HandsOn (reply_line_at names.now steps.now place) report.old.waiting.items report.new.waiting.items result (S.state out.old) (S.state out.new) }
+    ensures { HandsOn (reply_line_at names.now steps.now place)
+        report.old.waiting.items report.new.waiting.items
+        result (S.state out.old) (S.state out.new) }
 {
     let step = &steps[place];
     let name = &names[step.node];
@@ -106,7 +116,9 @@ fn hand_on<S: Sink>(
     report: &mut Report,
     out: &mut S,
 ) -> Result<(), IoFault>
-    ensures { HandsOn (reply_text number name.now reply.now) report.old.waiting.items report.new.waiting.items result (S.state out.old) (S.state out.new) }
+    ensures { HandsOn (reply_text number name.now reply.now)
+        report.old.waiting.items report.new.waiting.items
+        result (S.state out.old) (S.state out.new) }
 {
     match write_reply(number, name, reply, &mut report.waiting) {
         Ok(()) => report.pass(out),

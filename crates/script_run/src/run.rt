@@ -1,6 +1,6 @@
 //! The flows of a script.
 
-ghost use Rattle.std.specs.Prelude.{◌≡◌, ◌+◌, ◌-◌, ◌<◌, ◌≤◌, ◌^◌, ◌++◌, ℕ, List, [], length};
+ghost use Rattle.std.specs.Prelude.{◌≡◌, ◌+◌, ◌<◌, ◌≤◌, ◌^◌, ◌++◌, ℕ, List, [], length, slice_get, Some};
 ghost use Rattle.net_io.specs.Sink.{SinkState};
 ghost use Rattle.node_tables.specs.Steps.{tables_after};
 ghost use Rattle.label_commands.specs.Script.{before};
@@ -16,7 +16,7 @@ ghost use Rattle.script_run.specs.inside.Turn.{HasFirst};
 use crate::replies::answer_steps;
 use crate::turn::{Next, end_turn};
 use call_report::{OutOfMemory, Report, Seen, Status};
-use flow_run::{FlowPlace, run_flow};
+use flow_run::{FlowPlace, Runner, run_flow};
 use label_commands::Script;
 use label_flow::Gate;
 use net_io::{Depot, Sink};
@@ -52,8 +52,9 @@ pub fn run_script<D: Depot + Send, S: Sink + Send, G: Gate + Sync, R: Threads + 
         (record { folder = D.state depot.old; stream = S.state out.old })
         (record { folder = D.state depot.new; stream = S.state out.new }) result.0 result.1 }
 {
+    let runner = Runner { rt, alloc, gate };
     match begin(alloc, script, out) {
-        Ok(next) => run_flows(rt, alloc, script, workers, next, depot, out, gate),
+        Ok(next) => run_flows(&runner, script, workers, next, depot, out),
         Err(status) => (Seen::none(alloc), status),
     }
 }
@@ -89,22 +90,23 @@ fn steps_above(script: &Script, flow: usize) -> u32
 
 /// Runs the flows, one after the other.
 fn run_flows<D: Depot + Send, S: Sink + Send, G: Gate + Sync, R: Threads + Wait + Sync>(
-    rt: &R,
-    alloc: Global,
+    runner: &Runner<'_, '_, R, G>,
     script: &Script,
     workers: usize,
     next: Next,
     depot: &mut D,
     out: &mut S,
-    gate: &G,
 ) -> (Seen, Status)
     requires workers { (0 < workers) × (workers ≤ 16) }
     requires sound { (own : List ℕ) × IsSoundScript own script.now }
-    requires network { next.network ≡ tables_after (length script.now.nodes) script.now.steps (before script.now 0) }
-    ensures { (start : SinkState) → IsUnderWay (first_replies script.now) next.report.waiting.items start (S.state out.old)
+    requires network { next.network
+        ≡ tables_after (length script.now.nodes) script.now.steps (before script.now 0) }
+    ensures { (start : SinkState)
+        → IsUnderWay (first_replies script.now) next.report.waiting.items start (S.state out.old)
         → ScriptEnds script.now workers (record { folder = D.state depot.old; stream = start })
         (record { folder = D.state depot.new; stream = S.state out.new }) result.0 result.1 }
 {
+    let alloc = runner.alloc;
     let flows = script.flows.as_slice();
     let mut next = next;
     let mut left = PACKETS_LIMIT;
@@ -119,21 +121,10 @@ fn run_flows<D: Depot + Send, S: Sink + Send, G: Gate + Sync, R: Threads + Wait 
             network,
             mut report,
         } = next;
-        let flow = &flows[done];
-        let (lists, end) = run_flow(
-            rt,
-            alloc,
-            &place,
-            flow,
-            network,
-            &mut report,
-            depot,
-            out,
-            gate,
-        );
+        let (lists, end) = run_flow(runner, &place, network, &mut report, depot, out);
         left = left.saturating_sub(lists.len() as u64);
         seen.push_reserved(lists);
-        match end_turn(alloc, &place, flow, end, report, out) {
+        match end_turn(alloc, &place, end, report, out) {
             Ok(after) => next = after,
             Err(status) => return (Seen::of(seen), status),
         }
@@ -145,7 +136,9 @@ fn run_flows<D: Depot + Send, S: Sink + Send, G: Gate + Sync, R: Threads + Wait 
 /// Where a flow stands, counted from 0, where so many packets may still be read.
 fn place_of(script: &Script, workers: usize, flow: usize, most: u64) -> FlowPlace<'_>
     requires steps { length script.now.steps < 2 ^ 32 }
-    requires flow { flow < 2 ^ 32 - 1 }
+    requires few { length script.now.flows < 2 ^ 32 }
+    requires flow { flow < length script.now.flows }
+    ensures flow { slice_get script.now.flows flow ≡ Some result.flow.now }
     ensures number { result.number ≡ flow + 1 }
     ensures most { result.most ≡ most }
     ensures upto { result.upto ≡ before script.now (flow + 1) }
@@ -153,7 +146,9 @@ fn place_of(script: &Script, workers: usize, flow: usize, most: u64) -> FlowPlac
     ensures names { result.names.now ≡ script.now.nodes }
     ensures steps { result.steps.now ≡ script.now.steps }
 {
+    let flows = script.flows.as_slice();
     FlowPlace {
+        flow: &flows[flow],
         number: flow as u32 + 1,
         most,
         upto: steps_above(script, flow + 1),
@@ -165,7 +160,8 @@ fn place_of(script: &Script, workers: usize, flow: usize, most: u64) -> FlowPlac
 
 /// Ends the report behind the last flow.
 fn end_done<S: Sink>(report: Report, out: &mut S) -> Status
-    ensures { Printed (report.waiting.items ++ done_line) [] Done result (S.state out.old) (S.state out.new) }
+    ensures { Printed (report.waiting.items ++ done_line) [] Done
+        result (S.state out.old) (S.state out.new) }
 {
     let mut report = report;
     match report.waiting.extend_from_slice(done()) {

@@ -6,12 +6,12 @@ ghost use Rattle.report_lines.specs.Capture.{capture_line};
 ghost use Rattle.call_report.specs.declared.status.Status.TheVariants.{WrongCapture};
 ghost use Rattle.call_report.specs.Printing.{Printed};
 ghost use Rattle.flow_run.specs.declared.end.FlowEnd.TheVariants.{Stopped};
+ghost use Rattle.flow_run.specs.Place.{plan_at};
 ghost use Rattle.flow_run.specs.Ends.{HasSteps};
-ghost use Rattle.script_run.specs.inside.Turn.{IsTurnEnd};
+ghost use Rattle.script_run.specs.inside.Turn.{IsTurnEnd, IsTurnEndAt};
 
 use crate::replies::hand_on_replies;
 use call_report::{OutOfMemory, Report, Status};
-use flow_lines::FlowLine;
 use flow_run::{FlowEnd, FlowPlace, FlowStop};
 use net_io::Sink;
 use node_tables::Network;
@@ -33,20 +33,21 @@ pub(crate) struct Next {
 pub(crate) fn end_turn<S: Sink>(
     alloc: Global,
     place: &FlowPlace<'_>,
-    flow: &FlowLine,
     end: FlowEnd,
     report: Report,
     out: &mut S,
 ) -> Result<Next, Status>
-    requires nodes { All (λ (step : StepValue). step.node < length place.now.names.now) place.now.steps.now }
+    requires nodes { All (λ (step : StepValue). step.node < length place.now.names.now)
+        place.now.steps.now }
     requires upto { place.now.upto ≤ length place.now.steps.now }
-    requires steps { HasSteps (record { nodes = length place.now.names.now; steps = place.now.steps.now }) flow.now.before place.now.upto end }
-    ensures { IsTurnEnd place.now.names.now place.now.steps.now place.now.number flow.now.before place.now.upto end report.waiting.items (S.state out.old) (S.state out.new) result }
+    requires steps { HasSteps (plan_at place.now) place.now.flow.now.before place.now.upto end }
+    ensures { IsTurnEndAt place.now end
+        report.waiting.items (S.state out.old) (S.state out.new) result }
 {
     match end {
         FlowEnd::GoesOn { network, replies } => {
             let mut report = report;
-            let from = flow.before as usize;
+            let from = place.flow.before as usize;
             match hand_on_replies(place.names, place.steps, from, &replies, &mut report, out) {
                 Ok(()) => Ok(Next { network, report }),
                 Err(fault) => Err(Status::after_write(fault)),
@@ -66,7 +67,8 @@ fn end_broken<S: Sink>(
     report: Report,
     out: &mut S,
 ) -> Status
-    ensures { Printed report.waiting.items (capture_line number fault) WrongCapture result (S.state out.old) (S.state out.new) }
+    ensures { Printed report.waiting.items (capture_line number fault) WrongCapture
+        result (S.state out.old) (S.state out.new) }
 {
     let mut line = Vec::new(alloc);
     match write_capture(u64::from(number), fault, &mut line) {
@@ -77,7 +79,8 @@ fn end_broken<S: Sink>(
 
 /// Ends the report at a flow that was stopped: what waits is printed where a call of the folder has failed.
 fn end_stopped<S: Sink>(why: FlowStop, report: Report, out: &mut S) -> Status
-    ensures { IsTurnEnd [] [] 0 0 0 (Stopped why) report.waiting.items (S.state out.old) (S.state out.new) (Err result) }
+    ensures { IsTurnEnd [] [] 0 0 0 (Stopped why)
+        report.waiting.items (S.state out.old) (S.state out.new) (Err result) }
 {
     match why {
         FlowStop::Read => report.end(out, b"", Status::ReadFault),

@@ -1,12 +1,12 @@
 -- How a flow begins, and how far it has come where it ends.
 use Rattle.std.specs.Prelude.{ℕ, ◌≡◌, ◌≢◌, IsTrue, IsSome, List, [], ◌++◌, length, Option, Some, None, Ok}
 use Rattle.net_io.specs.Depot.{DepotState, octets_of, SameHeld}
+use Rattle.net_io.specs.Sink.{SinkState}
 use Rattle.net_io.specs.Faults.{Rose, SameCounts}
 use Rattle.flow_lines.specs.declared.flow.FlowLine.{FlowLine}
 use Rattle.pcap_frames.specs.declared.fault.FrameStop.{FrameStop}
 use Rattle.pcap_frames.specs.declared.fault.FrameStop.TheVariants as frame_stop
 use Rattle.pcap_frames.specs.Header.{capture_header}
-use Rattle.pcap_frames.specs.Written.{capture_head_octets}
 use Rattle.packet_walk.specs.declared.packet.PacketIn.{PacketIn}
 use Rattle.node_tables.specs.declared.reply.Reply.{Reply}
 use Rattle.node_tables.specs.Tables.{TableState}
@@ -15,19 +15,20 @@ use Rattle.label_flow.specs.Pair.{PairState}
 use Rattle.label_flow.specs.Feed.{AreBegun, AreWhole}
 use Rattle.label_flow.specs.Walked.{AreWalked}
 use Rattle.label_flow.specs.Schedule.{AreLawful, versions_in}
-use Rattle.report_lines.specs.Flow.{flow_end_line}
+use Rattle.report_lines.specs.Flow.{flow_line, flow_end_line}
 use Rattle.call_report.specs.Outside.{Outside}
 use Rattle.flow_run.specs.declared.end.FlowPlace.{FlowPlace}
 use Rattle.flow_run.specs.declared.end.FlowEnd.{FlowEnd}
 use Rattle.flow_run.specs.declared.end.FlowEnd.TheVariants.{GoesOn, Broken, TooMany, Stopped}
 use Rattle.flow_run.specs.declared.end.FlowStop.{FlowStop}
+use Rattle.flow_run.specs.declared.run.Totals.{Totals}
 use Rattle.flow_run.specs.declared.end.FlowStop.TheVariants as the_stop
 use Rattle.flow_run.specs.declared.source.Source.{Source}
 use Rattle.flow_run.specs.declared.source.Behind.{Behind}
 use Rattle.flow_run.specs.declared.source.Behind.TheVariants as the_behind
 use Rattle.flow_run.specs.Place.{plan_at}
-use Rattle.flow_run.specs.Ends.{HasEnded, HasSteps}
-use Rattle.flow_run.specs.inside.Output.{IsThere}
+use Rattle.flow_run.specs.Ends.{HasEnded, HasSteps, FlowEndsAt}
+use Rattle.flow_run.specs.inside.Output.{HasHead, AreSent}
 use Rattle.flow_run.specs.inside.Source.{IsFed, packets_left, file_of}
 use Rattle.flow_run.specs.inside.Taken.{Moment, HasTaken}
 
@@ -40,12 +41,6 @@ pub record IsFresh (input : List ℕ) (most : ℕ) (source : Source) : Type 0 wh
   pub behind : source.behind ≡ None
   pub heads : source.heads.items ≡ []
   pub at : source.at ≡ 0
-
--- a flow's input was begun, and its output is there
-pub record IsPrepared (place : FlowPlace) (flow : FlowLine) (source : Source) (folder : DepotState) : Type 0 where
-  pub fresh : IsFresh flow.input place.most source
-  pub fed : IsFed folder source
-  pub there : IsThere flow.output folder
 
 -- the numbers of failed makings: none has moved, unless it stopped for that
 abbrev pub CreatesMove : Option FlowStop → Option (List ℕ) → (List ℕ → ℕ) → (List ℕ → ℕ) → Type 0
@@ -67,10 +62,6 @@ pub record HasCreated (stop : Option FlowStop) (output : Option (List ℕ)) (old
   pub still : output ≡ None → SameCounts old.creates new.creates
   pub moved : CreatesMove stop output old.creates new.creates
 
--- the head of a capture waits for the output, if there is one
-abbrev pub HasHead : Option (List ℕ) → Source → List ℕ → Type 0
-HasHead output source octets = (name : List ℕ) → output ≡ Some name → octets ≡ capture_head_octets source.frames.header.nanos
-
 -- The header of a flow's input was read.
 pub record HasRead (flow : FlowLine) (most : ℕ) (before folder : DepotState) (source : Source) : Type 0 where
   pub told : folder.tells ≡ before.tells
@@ -91,7 +82,7 @@ pub record IsStart (flow : FlowLine) (most : ℕ) (before folder : DepotState) (
   pub present : IsTrue before.tells → IsSome (before.held flow.input)
   pub here : IsTrue before.tells → (name : List ℕ) → flow.output ≡ Some name → folder.held name ≡ Some []
   pub others : IsTrue before.tells → (name : List ℕ) → flow.output ≢ Some name → folder.held name ≡ before.held name
-  pub head : HasHead flow.output source octets
+  pub head : HasHead flow.output source.frames.header.nanos octets
   pub fed : IsFed folder source
   pub reads : SameCounts before.reads folder.reads
   pub creates : SameCounts before.creates folder.creates
@@ -116,16 +107,23 @@ Gives (Broken fault) tables answers = Unit {0}
 Gives TooMany tables answers = Unit {0}
 Gives (Stopped why) tables answers = Unit {0}
 
--- what waits for the stream at the end
+-- what waits for the stream at the end of a flow of these totals, behind these lines
+abbrev pub LeavesWaiting : Totals → FlowEnd → List ℕ → List ℕ → Type 0
+LeavesWaiting totals (GoesOn network replies) lines waits = waits ≡ lines ++ flow_end_line totals.number totals.packets totals.passed totals.denied
+LeavesWaiting totals (Broken fault) lines waits = waits ≡ lines
+LeavesWaiting totals TooMany lines waits = waits ≡ lines
+LeavesWaiting totals (Stopped the_stop.Read) lines waits = waits ≡ lines
+LeavesWaiting totals (Stopped the_stop.Create) lines waits = waits ≡ lines
+LeavesWaiting totals (Stopped the_stop.Append) lines waits = waits ≡ lines
+LeavesWaiting totals (Stopped the_stop.Print) lines waits = Unit {0}
+LeavesWaiting totals (Stopped the_stop.OutOfMemory) lines waits = Unit {0}
+
+-- the totals of a flow of this number at a moment
+abbrev pub totals_at : ℕ → Moment → Totals
+totals_at number now = record { number = number; packets = length now.seen; passed = now.passed; denied = now.denied }
+
 abbrev pub WaitsFor : ℕ → FlowEnd → Moment → List ℕ → Type 0
-WaitsFor number (GoesOn network replies) now waits = waits ≡ now.lines ++ flow_end_line number (length now.seen) now.passed now.denied
-WaitsFor number (Broken fault) now waits = waits ≡ now.lines
-WaitsFor number TooMany now waits = waits ≡ now.lines
-WaitsFor number (Stopped the_stop.Read) now waits = waits ≡ now.lines
-WaitsFor number (Stopped the_stop.Create) now waits = waits ≡ now.lines
-WaitsFor number (Stopped the_stop.Append) now waits = waits ≡ now.lines
-WaitsFor number (Stopped the_stop.Print) now waits = Unit {0}
-WaitsFor number (Stopped the_stop.OutOfMemory) now waits = Unit {0}
+WaitsFor number end now waits = LeavesWaiting (totals_at number now) end now.lines waits
 
 -- what stands behind the last packet
 abbrev pub IsBehind : FlowEnd → Option Behind → Type 0
@@ -145,7 +143,7 @@ pub record HasFlown (plan : PlanState) (names : List (List ℕ)) (workers number
   pub seen_is : seen ≡ now.seen
   pub stop : now.stop ≡ stop_of end
   pub waits_are : WaitsFor number end now waits
-  pub whole : HasEnded end → (name : List ℕ) → flow.output ≡ Some name → now.octets ≡ []
+  pub whole : HasEnded end → AreSent flow.output now.octets
   pub behind : IsBehind end now.source.behind
   pub fed : IsFed now.folder now.source
   pub begun : AreBegun (packets_left was.folder.tells was.source (file_of was.folder was.source)) packets
@@ -155,5 +153,12 @@ pub record HasFlown (plan : PlanState) (names : List (List ℕ)) (workers number
   pub steps : HasSteps plan flow.before upto end
 
 -- the same of a flow at its place
-abbrev pub HasFlownAt : FlowPlace → FlowLine → Moment → Outside → List ℕ → List (List ℕ) → FlowEnd → Type 0
-HasFlownAt place flow was after waits seen end = HasFlown (plan_at place) place.names.now place.workers place.number place.upto flow was after waits seen end
+abbrev pub HasFlownAt : FlowPlace → Moment → Outside → List ℕ → List (List ℕ) → FlowEnd → Type 0
+HasFlownAt place was after waits seen end =
+    HasFlown (plan_at place) place.names.now place.workers place.number place.upto place.flow.now was after waits seen end
+
+-- A flow ends so, where the header of its input has just been read behind the flow's line.
+abbrev pub EndsBehind : FlowPlace → Source → DepotState → SinkState → List ℕ → Outside → List ℕ → List (List ℕ) → FlowEnd → Type 0
+EndsBehind place source folder stream lines after waits' seen end =
+    (before : Outside) (waits : List ℕ) → HasRead place.flow.now place.most before.folder folder source
+    → stream ≡ before.stream → lines ≡ waits ++ flow_line place.number place.flow.now.input → FlowEndsAt place before after waits waits' seen end

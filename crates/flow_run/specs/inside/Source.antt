@@ -34,6 +34,13 @@ packets_left false source file = None
 abbrev pub file_of : DepotState → Source → List ℕ
 file_of folder source = octets_of (folder.held source.frames.name)
 
+abbrev pub left_in : DepotState → Source → Option (List PacketIn)
+left_in folder source = packets_left folder.tells source (file_of folder source)
+
+-- how many packets were read whose times aren't used yet
+abbrev pub due_in : Source → ℕ
+due_in source = length source.heads.items - source.at
+
 -- the times of the frames that aren't used yet
 abbrev pub heads_left : Source → List ℕ → List FrameHead
 heads_left source file = drop source.at source.heads.items ++ map (λ frame. frame.head) (frames_left source file)

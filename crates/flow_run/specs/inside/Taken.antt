@@ -13,6 +13,7 @@ use Rattle.label_flow.specs.Pair.{PairState}
 use Rattle.label_flow.specs.Schedule.{versions_in}
 use Rattle.call_report.specs.Outside.{Outside, NoWriteFailed}
 use Rattle.call_report.specs.Printing.{Breaks, HandsOn}
+use Rattle.flow_run.specs.declared.end.FlowPlace.{FlowPlace}
 use Rattle.flow_run.specs.declared.end.FlowStop.{FlowStop}
 use Rattle.flow_run.specs.declared.end.FlowStop.TheVariants as the_stop
 use Rattle.flow_run.specs.declared.source.Source.{Source}
@@ -39,13 +40,18 @@ abbrev pub stop_in : {T : Type 0} → Result T FlowStop → Option FlowStop
 stop_in (Ok given) = None
 stop_in (Err stop) = Some stop
 
-abbrev pub moment_at : DepotState → SinkState → List ℕ → List ℕ → List (List ℕ) → ℕ → ℕ → Source → Option FlowStop → Moment
-moment_at folder stream lines octets seen passed denied source stop =
-    record { folder = folder; stream = stream; lines = lines; octets = octets; seen = seen; passed = passed; denied = denied; source = source; stop = stop }
+-- where a flow's lines and octets go: the folder and the stream, and what waits for the stream and for the output
+pub record Outlets : Type 0 where
+  pub folder : DepotState
+  pub stream : SinkState
+  pub lines : List ℕ
+  pub octets : List ℕ
 
--- in front of its first packet
-abbrev pub first_moment : DepotState → SinkState → List ℕ → List ℕ → Source → Moment
-first_moment folder stream lines octets source = moment_at folder stream lines octets [] 0 0 source None
+abbrev pub outlets : DepotState → SinkState → List ℕ → List ℕ → Outlets
+outlets folder stream lines octets = record { folder = folder; stream = stream; lines = lines; octets = octets }
+
+abbrev pub outlets_at : Moment → Outlets
+outlets_at moment = outlets moment.folder moment.stream moment.lines moment.octets
 
 -- the stop where a write was refused
 abbrev pub print_stop : IoFault → FlowStop
@@ -53,10 +59,11 @@ print_stop io.Failed = the_stop.Print
 print_stop io.OutOfMemory = the_stop.OutOfMemory
 
 -- A line was printed, and then octets added to an output; or the print has failed, and then nothing was added.
-abbrev pub HasHanded : Option FlowStop → List ℕ → Option (List ℕ) → List ℕ → List ℕ → List ℕ → List ℕ → List ℕ → DepotState → DepotState → SinkState → SinkState → Type 0
-HasHanded stop line output frame waits waits' octets octets' folder folder' stream stream' =
-    (IsHandedOn line waits waits' stream stream' × HasAppended stop output frame octets octets' folder folder')
-    ⊎ ((fault : IoFault) × (stop ≡ Some (print_stop fault)) × HandsOn {T = Unit {0}} line waits waits' (Err fault) stream stream' × (folder' ≡ folder) × (octets' ≡ octets))
+abbrev pub HasHanded : Option FlowStop → List ℕ → Option (List ℕ) → List ℕ → Outlets → Outlets → Type 0
+HasHanded stop line output frame was now =
+    (IsHandedOn line was.lines now.lines was.stream now.stream × HasAppended stop output frame was.octets now.octets was.folder now.folder)
+    ⊎ ((fault : IoFault) × (stop ≡ Some (print_stop fault)) × HandsOn {T = Unit {0}} line was.lines now.lines (Err fault) was.stream now.stream
+    × (now.folder ≡ was.folder) × (now.octets ≡ was.octets))
 
 -- a text was printed up to this stop
 abbrev pub IsPrintedTo : Option FlowStop → List ℕ → List ℕ → List ℕ → SinkState → SinkState → Type 0
@@ -106,6 +113,10 @@ pub record HasTaken (number : ℕ) (names : List (List ℕ)) (flow : FlowLine) (
   pub still : flow.output ≡ None → SameCounts was.folder.appends now.folder.appends
   pub moved : IsMoved flow now.stop (outside_of was) (outside_of now)
   pub faults : was.stream.faults ≤ now.stream.faults
+
+-- the same in a flow at its place
+abbrev pub HasTakenAt : FlowPlace → Moment → Moment → List PairState → Type 0
+HasTakenAt place was now pairs = HasTaken place.number place.names.now place.flow.now was now pairs
 
 -- What is true of a flow at each moment, and what its calls need.
 pub record IsGoing (flow : FlowLine) (now : Moment) : Type 0 where

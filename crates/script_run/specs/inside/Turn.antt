@@ -14,6 +14,7 @@ use Rattle.call_report.specs.declared.status.Status.{Status}
 use Rattle.call_report.specs.declared.status.Status.TheVariants.{ReadFault, WriteFault, WrongCapture, OutOfMemory, Limit}
 use Rattle.call_report.specs.Numbers.{write_status}
 use Rattle.call_report.specs.Printing.{HandsOn, IsUnderWay, Printed}
+use Rattle.flow_run.specs.declared.end.FlowPlace.{FlowPlace}
 use Rattle.flow_run.specs.declared.end.FlowEnd.{FlowEnd}
 use Rattle.flow_run.specs.declared.end.FlowEnd.TheVariants.{GoesOn, Broken, TooMany, Stopped}
 use Rattle.flow_run.specs.declared.end.FlowStop.TheVariants as stop
@@ -52,6 +53,10 @@ IsTurnEnd names steps number from upto (Stopped stop.Create) waits a b result = 
 IsTurnEnd names steps number from upto (Stopped stop.Append) waits a b result = HasKept waits WriteFault a b result
 IsTurnEnd names steps number from upto (Stopped stop.Print) waits a b result = HasCeased WriteFault a b result
 IsTurnEnd names steps number from upto (Stopped stop.OutOfMemory) waits a b result = HasCeased OutOfMemory a b result
+
+-- by the flow's place
+abbrev pub IsTurnEndAt : FlowPlace → FlowEnd → List ℕ → SinkState → SinkState → Result Next Status → Type 0
+IsTurnEndAt place end waits a b result = IsTurnEnd place.names.now place.steps.now place.number place.flow.now.before place.upto end waits a b result
 
 -- the replies to the steps above the first flow were handed on, and the first flow comes; or they were not all printed
 abbrev pub HasFirst : Script → SinkState → SinkState → Result Next Status → Type 0

@@ -11,12 +11,12 @@ pub returns-in-Ok-begin_source : goal.returns-in-Ok-begin_source
 returns-in-Ok-begin_source g c =
     let before : Outside = record { folder = g.D.Depot.state c.args.depot.now; stream = g.S.Sink.state c.args.out.now } in
     let clauses = c.in-Ok-begin_source.ensures in
-    c.run_read.ensures before c.args.report.now.waiting.items
-    (read_of c.args.flow.now c.args.place.now.most before.folder _ c.in-Ok-begin_source.source clauses.fresh clauses.fed clauses.answer clauses.present clauses.frame)
+    c.run_source.ensures before c.args.report.now.waiting.items
+    (read_of c.args.place.now.flow.now c.args.place.now.most before.folder _ c.in-Ok-begin_source.source clauses.fresh clauses.fed clauses.answer clauses.present clauses.frame)
     refl (rw c.from.ensures at c.in-Ok.ensures.ok)
 
 pub returns-in-Err : goal.returns-in-Err
 returns-in-Err g c =
     let clauses = c.in-Err.ensures in
     rw (c.new-none.ensures, c.end_at.ensures)
-    (ends_unbegun _ _ _ _ _ _ c.args.flow.now _ _ _ _ (λ (s : Source). s.frames.header) c.in-Err.stop c.requires.stands.beside.0 (rw c.from.ensures at c.in-Ok.ensures.ok) refl clauses.answer clauses.present clauses.frame)
+    (ends_unbegun _ _ _ _ _ _ c.args.place.now.flow.now _ _ _ _ (λ (s : Source). s.frames.header) c.in-Err.stop c.requires.stands.beside.0 (rw c.from.ensures at c.in-Ok.ensures.ok) refl clauses.answer clauses.present clauses.frame)

@@ -11,7 +11,7 @@ use Rattle.script_run.proofs.Names.{input_is_kept}
 use Rattle.script_run.proofs.Answering.{at_place}
 use Rattle.script_run.proofs.Underway.{under_way_at_first}
 use Rattle.script_run.proofs.Turning.{network_next, next_begins, call_ends}
-use Rattle.script_run.proofs.Starting.{ends_between, ends_behind, above_is, at_lent}
+use Rattle.script_run.proofs.Starting.{ends_between, ends_behind, above_is}
 use Rattle.script_run.proofs.run.run_flows.Goals as goal
 
 pub loop-done-init : goal.loop-done-init
@@ -43,8 +43,8 @@ pub run_flow-lists-requires-clause-stands : goal.run_flow-lists-requires-clause-
 run_flow-lists-requires-clause-stands g c =
     let script = c.args.script.now in
     let k = c.loop-done.done in
-    let flow = c.index-flows-done.result in
-    let at : slice_get script.flows k ≡ Some flow = at_lent script.flows c.as_slice-flows.result.now k flow c.as_slice-flows.ensures c.loop-done-test.true c.index-flows-done.is in
+    let flow = c.place_of-place.result.flow.now in
+    let at : slice_get script.flows k ≡ Some flow = c.place_of-place.ensures.flow in
     let place = c.place_of-place.ensures in
     let sound = c.requires.sound.1 in
     let order = sound.order k in
@@ -63,8 +63,8 @@ pub run_flow-lists-requires-clause-network : goal.run_flow-lists-requires-clause
 run_flow-lists-requires-clause-network g c =
     let script = c.args.script.now in
     let k = c.loop-done.done in
-    let flow = c.index-flows-done.result in
-    let at : slice_get script.flows k ≡ Some flow = at_lent script.flows c.as_slice-flows.result.now k flow c.as_slice-flows.ensures c.loop-done-test.true c.index-flows-done.is in
+    let flow = c.place_of-place.result.flow.now in
+    let at : slice_get script.flows k ≡ Some flow = c.place_of-place.ensures.flow in
     λ κs lives. rw (c.place_of-place.ensures.names, c.place_of-place.ensures.steps) (rw (above_is script k flow at) at c.loop-done.invariant.tables)
 
 pub returns-in-Err : goal.returns-in-Err
@@ -72,8 +72,8 @@ returns-in-Err g c = λ start way.
     let script = c.args.script.now in
     let k = c.loop-done.done in
     let inv = c.loop-done.invariant in
-    let flow = c.index-flows-done.result in
-    let at : slice_get script.flows k ≡ Some flow = at_lent script.flows c.as_slice-flows.result.now k flow c.as_slice-flows.ensures c.loop-done-test.true c.index-flows-done.is in
+    let flow = c.place_of-place.result.flow.now in
+    let at : slice_get script.flows k ≡ Some flow = c.place_of-place.ensures.flow in
     let first : Outside = record { folder = g.D.Depot.state c.args.depot.now; stream = start } in
     let now : Outside = record { folder = g.D.Depot.state c.loop-done.depot; stream = g.S.Sink.state c.loop-done.out } in
     let mid : Outside = record { folder = g.D.Depot.state c.run_flow-lists.new.depot; stream = g.S.Sink.state c.run_flow-lists.new.out } in
@@ -88,8 +88,8 @@ loop-done-preserved g c =
     let script = c.args.script.now in
     let k = c.loop-done.done in
     let inv = c.loop-done.invariant in
-    let flow = c.index-flows-done.result in
-    let at : slice_get script.flows k ≡ Some flow = at_lent script.flows c.as_slice-flows.result.now k flow c.as_slice-flows.ensures c.loop-done-test.true c.index-flows-done.is in
+    let flow = c.place_of-place.result.flow.now in
+    let at : slice_get script.flows k ≡ Some flow = c.place_of-place.ensures.flow in
     let ran = rw (c.place_of-place.ensures.names, c.place_of-place.ensures.steps, c.place_of-place.ensures.number, c.place_of-place.ensures.most, c.place_of-place.ensures.upto, c.place_of-place.ensures.workers) at c.run_flow-lists.ensures in
     let ends = rw (c.place_of-place.ensures.names, c.place_of-place.ensures.steps, c.place_of-place.ensures.number, c.place_of-place.ensures.upto) at c.in-Ok.ensures in
     let longer : c.push_reserved.new.self.items ≡ c.loop-done.seen.items ++ c.run_flow-lists.result.0 ∷ [] = rw c.reserve.ensures.items at c.push_reserved.ensures.items in

@@ -5,19 +5,14 @@ use Rattle.flow_run.proofs.feed.RunFeedFeed.accept.Goals as goal
 
 pub returns-in-Err-clause-cut : goal.returns-in-Err-clause-cut
 returns-in-Err-clause-cut g c was h t =
-    inl (t.0, t.1, t.2, t.3, t.4, t.5, taken_unkept _ _ _ _ _ _ t.6 c.in-None.is _ refl refl refl refl c.in-Err.ensures.err refl refl refl (ap Some c.in-Err.ensures.stop))
+    inl (t.0, taken_unkept _ _ _ _ _ _ t.1 c.in-None.is _ refl refl refl refl c.in-Err.ensures.err refl refl refl (ap Some c.in-Err.ensures.stop))
 
 pub returns-in-Ok-hand_on-clause-took : goal.returns-in-Ok-hand_on-clause-took
 returns-in-Ok-hand_on-clause-took g c was h t = (
   t.0,
-  t.1,
-  t.2,
-  t.3,
-  t.4,
-  t.5,
-  taken_more _ _ _ _ _ _ t.6 c.in-None.is c.args.walked.now c.args.packet.now c.index-head.result.now _ c.len.result
+  taken_more _ _ _ _ _ _ t.1 c.in-None.is c.args.walked.now c.args.packet.now c.index.result.now _ c.len.result
       c.in-Ok.ensures.ok c.len.ensures c.count.ensures.passed c.count.ensures.denied (record { name = refl; header = refl; most = refl }) refl
-      (λ file. head_first c.args.self.now.source c.index-head.result.now file (omega (arith, c.requires.due)) (search (rules, c.index-head.ensures)))
+      (λ file. head_first c.args.self.now.source c.index.result.now file (omega (arith, c.requires.due)) (search (rules, c.index.ensures)))
       None c.in-None.is c.in-Ok-hand_on.ensures,
 )
 
@@ -25,14 +20,9 @@ pub returns-in-Err-hand_on-clause-cut : goal.returns-in-Err-hand_on-clause-cut
 returns-in-Err-hand_on-clause-cut g c was h t =
     inr (
       t.0,
-      t.1,
-      t.2,
-      t.3,
-      t.4,
-      t.5,
-      taken_more _ _ _ _ _ _ t.6 c.in-None.is c.args.walked.now c.args.packet.now c.index-head.result.now _ c.len.result
+      taken_more _ _ _ _ _ _ t.1 c.in-None.is c.args.walked.now c.args.packet.now c.index.result.now _ c.len.result
           c.in-Ok.ensures.ok c.len.ensures c.count.ensures.passed c.count.ensures.denied (record { name = refl; header = refl; most = refl }) refl
-          (λ file. head_first c.args.self.now.source c.index-head.result.now file (omega (arith, c.requires.due)) (search (rules, c.index-head.ensures)))
+          (λ file. head_first c.args.self.now.source c.index.result.now file (omega (arith, c.requires.due)) (search (rules, c.index.ensures)))
           (Some c.in-Err-hand_on.stop) refl c.in-Err-hand_on.ensures,
     )
 

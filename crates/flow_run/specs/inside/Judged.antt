@@ -1,0 +1,14 @@
+-- What a judged packet gives to the report and to the output.
+use Rattle.std.specs.Prelude.{List, ℕ}
+use Rattle.report_lines.specs.Flow.{walked_line}
+use Rattle.flow_run.specs.declared.end.FlowPlace.{FlowPlace}
+use Rattle.flow_run.specs.declared.judged.Judged.{Judged}
+use Rattle.flow_run.specs.inside.Output.{frame_of}
+
+-- its line
+abbrev pub judged_line : FlowPlace → Judged → List ℕ
+judged_line place judged = walked_line place.number judged.number place.names.now place.flow.now.hops judged.walked.now
+
+-- and the octets of its frame
+abbrev pub judged_frame : Judged → List ℕ
+judged_frame judged = frame_of judged.head judged.walked.now.end judged.packet.now
