@@ -1,32 +1,16 @@
 -- How `check` ends, over plain values.
-use Rattle.std.proofs.Common.{◌≡◌, ◌≢◌, ◌<◌, ℕ, ◌+◌, ◌-◌, replicate, get_or, List, [], ◌∷◌, ◌++◌, length, Option, Some, None, Result, Ok, Err, refl, sym, ap, subst, ◌∙◌, append_assoc, length-append, arith, inl, inr}
-use Rattle.std.specs.Prelude.{IsTrue, All, Contains, OnOk, OnErr, slice_get, option_map}
-use Rattle.std.proofs.lemmas.Bool.{lt-ltb}
-use Rattle.std.proofs.lemmas.List.{append-nil, length-replicate}
-use Rattle.std.proofs.lemmas.Option.{slice_get_within, get_or_from_slice_get, slice_get-get_or, unwrap_or-slice_get}
-use Rattle.net_io.specs.Depot.{octets_of}
+use Rattle.std.proofs.Common.{◌≡◌, ℕ, List, [], ◌∷◌, Option, Some, None, Result, Ok, Err, refl, sym, ap, subst, ◌∙◌, arith}
+use Rattle.std.specs.Prelude.{IsTrue, Contains}
 use Rattle.net_io.specs.Faults.{SameCounts}
-use Rattle.net_io.specs.Sink.{SinkState}
-use Rattle.net_io.specs.declared.fault.IoFault.{IoFault}
-use Rattle.script_lines.specs.declared.stop.LimitName.TheVariants.{Octets}
-use Rattle.command_forms.specs.declared.command.Step.{Step}
 use Rattle.line_forms.specs.Form.{with_translations}
 use Rattle.label_commands.specs.declared.script.Script.{Script}
 use Rattle.label_commands.specs.declared.stop.ScriptStop.{ScriptStop}
 use Rattle.label_commands.specs.declared.stop.ScriptStop.TheVariants as stop
-use Rattle.label_commands.specs.Script.{read_text, IsScriptStop}
-use Rattle.node_tables.specs.declared.reply.Reply.{Reply}
-use Rattle.node_tables.specs.Tables.{TableState, fresh}
-use Rattle.node_tables.specs.Effect.{reply_of}
-use Rattle.node_tables.specs.Steps.{step_applied, step_reply, tables_after}
-use Rattle.node_tables.proofs.Law.{steps_apply_one_by_one, nodes_keep_their_number}
-use Rattle.reply_lines.specs.Reply.{reply_text, name_at, reply_line_at, replies_text}
-use Rattle.reply_lines.proofs.Law.{no_steps_have_no_replies, replies_come_one_by_one, a_step_is_answered_at_its_node}
+use Rattle.label_commands.specs.Script.{read_text}
 use Rattle.netlabel_run.specs.declared.command.Command.{Command}
 use Rattle.netlabel_run.specs.declared.command.Command.TheVariants.{Check}
 use Rattle.call_report.specs.declared.status.Status.{Status}
-use Rattle.call_report.specs.declared.status.Status.TheVariants.{Done, WrongScript, Limit}
-use Rattle.report_lines.specs.Script.{limit_line, script_stop_line}
+use Rattle.call_report.specs.declared.status.Status.TheVariants.{Done}
 use Rattle.call_report.specs.CallEnds.{CallEnds}
 use Rattle.netlabel_run.specs.ScriptFile.{script_read}
 use Rattle.netlabel_run.specs.Check.{check_text, script_report, CheckReport, script_status, CheckStatus}
@@ -35,9 +19,7 @@ use Rattle.call_report.specs.Report.{Report, late_report}
 use Rattle.call_report.specs.Stages.{reading_stage}
 use Rattle.call_report.specs.Outside.{Outside}
 use Rattle.call_report.specs.Numbers.{status_number}
-use Rattle.call_report.specs.Printing.{HandsOn, Printed}
-use Rattle.netlabel_run.specs.inside.Stopping.{script_due}
-use Rattle.call_report.proofs.Law.{nothing_is_handed_on, texts_join, a_failing_text_fails_with_more}
+use Rattle.call_report.specs.Printing.{Printed}
 use Rattle.netlabel_run.proofs.Endings.{ends_printed}
 use Rattle.netlabel_run.specs.inside.Ending.{IsOnlyRead, ReadsScript}
 use Rattle.netlabel_run.proofs.Requests.{knows_reading}

@@ -1,14 +1,13 @@
 -- The words of the command line, one by one.
 use Rattle.std.proofs.Common.{◌≡◌, ◌≢◌, ◌<◌, ◌^◌, ◌⊎◌, inl, inr, ℕ, List, [], ◌∷◌, length, get_or, sym, ap, subst, ◌∙◌, arith}
-use Rattle.std.specs.Prelude.{IsTrue, codes, string_bytes, String}
+use Rattle.std.specs.Prelude.{codes, string_bytes, String}
 use Rattle.std.specs.Fmt.{decimal}
 use Rattle.std.specs.declared.alloc.Global.{Global}
 use Rattle.std.proofs.lemmas.Fmt.{decimal_injective}
 use Rattle.std.proofs.lemmas.List.{length-map}
 use Rattle.mls_label.specs.declared.label.Label.{Label}
-use Rattle.flow_lines.specs.FileName.{is_file_name}
 use Rattle.netlabel_run.specs.declared.command.Command.TheVariants.{Judge, Check, Show, Run}
-use Rattle.netlabel_run.specs.Words.{texts_of, IsLevel, NamesWorkers, AsksToRun, plainly, with_workers, IsForm}
+use Rattle.netlabel_run.specs.Words.{texts_of, IsLevel, NamesWorkers, plainly, with_workers, IsForm}
 
 -- words whose level is none ask for nothing
 pub no_level : (doi level file : List ℕ) → ((l : Label) → IsLevel level l → ⊥) → IsForm (codes "judge" ∷ doi ∷ level ∷ file ∷ []) → ⊥

@@ -1,5 +1,5 @@
 -- Where no command of a script stands beside a flow, folders that hold the same script and captures have one report, and one list of outputs.
-use Rattle.std.proofs.Common.{◌≡◌, ℕ, List, [], Option, Some, None, Result, Ok, Err, sym, subst}
+use Rattle.std.proofs.Common.{◌≡◌, ℕ, List, [], Option, Some, None, Result, Ok, Err, subst}
 use Rattle.std.specs.Prelude.{All}
 use Rattle.flow_lines.specs.declared.flow.FlowLine.{FlowLine}
 use Rattle.label_commands.specs.declared.script.Script.{Script}

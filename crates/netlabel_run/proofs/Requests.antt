@@ -3,8 +3,7 @@ use Rattle.std.proofs.Common.{◌≡◌, ◌<◌, ◌≤◌, ℕ, replicate, Lis
 use Rattle.std.specs.Prelude.{IsTrue}
 use Rattle.std.proofs.lemmas.List.{length-replicate}
 use Rattle.mls_label.specs.declared.label.Label.{Label}
-use Rattle.net_io.specs.Depot.{DepotState, octets_of, SameHeld, OnlyReads}
-use Rattle.net_io.specs.Faults.{SameCounts}
+use Rattle.net_io.specs.Depot.{DepotState, octets_of, OnlyReads}
 use Rattle.netlabel_run.specs.declared.command.Command.TheVariants.{Judge}
 use Rattle.call_report.specs.declared.status.Status.TheVariants.{Done, NoForm, Limit}
 use Rattle.netlabel_run.specs.Judge.{IsVerdict, JudgeReport, absent, too_long, judged, JudgeStatus, packet_limit}

@@ -1,7 +1,7 @@
 -- The flows of a script that have run: what is printed of them begins their report, and where they end.
-use Rattle.std.proofs.Common.{◌≡◌, ◌≢◌, ◌<◌, ◌≤◌, ℕ, zero, suc, ◌+◌, ◌-◌, Bool, true, false, List, [], ◌∷◌, ◌++◌, length, map, take, Option, Some, None, refl, sym, ap, subst, ◌∙◌, append_assoc, append-nil, arith, inl, inr}
-use Rattle.std.specs.Prelude.{IsTrue, IsSome, All, not, is_some, if◌then◌else◌, ◌&&◌, ◌==◌}
-use Rattle.std.specs.List.{concat, filter_map, cons_option, list_all}
+use Rattle.std.proofs.Common.{◌≡◌, ◌≢◌, ◌<◌, ℕ, zero, suc, ◌+◌, ◌-◌, Bool, true, false, List, [], ◌∷◌, ◌++◌, length, map, take, Option, Some, None, refl, sym, ap, subst, ◌∙◌, append_assoc, append-nil, arith, inl, inr}
+use Rattle.std.specs.Prelude.{IsTrue, All, not, is_some, if◌then◌else◌, ◌&&◌, ◌==◌}
+use Rattle.std.specs.List.{concat, cons_option, list_all}
 use Rattle.std.specs.Option.{option_map}
 use Rattle.std.proofs.lemmas.List.Elements.{All-nil, All-cons}
 use Rattle.flow_lines.specs.declared.flow.FlowLine.{FlowLine}
@@ -13,7 +13,7 @@ use Rattle.call_report.specs.Output.{Output}
 use Rattle.call_report.specs.Stages.{Stage, input_in_hand, output_in_hand}
 use Rattle.report_lines.specs.Fixed.{done_line}
 use Rattle.flow_run.specs.Input.{flow_input}
-use Rattle.flow_run.specs.Run.{FlowRun, IsRun, is_judged, goes_on, run_text, run_end, run_output, output_capture}
+use Rattle.flow_run.specs.Run.{FlowRun, is_judged, goes_on, run_text, run_end, run_output, output_capture}
 use Rattle.script_run.specs.Runs.{plan_of, AreRuns, AreWholeRuns, is_done, last_event}
 use Rattle.script_run.specs.Report.{first_replies, replies_behind, turn_text, text_so_far, pause_text, runs_report, runs_outputs}
 use Rattle.script_run.specs.Ends.{last_of, due_body, due_line}

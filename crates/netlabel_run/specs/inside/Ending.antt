@@ -1,5 +1,5 @@
 -- What is known at the end of a call that makes no file, and of one that reads a script.
-use Rattle.std.specs.Prelude.{◌≡◌, ◌++◌, IsTrue, ℕ, List, [], ◌∷◌, Contains, Option, Some, None, Result, Ok, Err}
+use Rattle.std.specs.Prelude.{◌≡◌, ◌++◌, IsTrue, ℕ, List, [], ◌∷◌, Contains, Option, Some, None, Ok, Err}
 use Rattle.net_io.specs.Depot.{DepotState, SameHeld}
 use Rattle.net_io.specs.Faults.{SameCounts}
 use Rattle.label_commands.specs.declared.script.Script.{Script}

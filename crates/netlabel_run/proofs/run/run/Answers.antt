@@ -1,4 +1,4 @@
-use Rattle.std.proofs.Common.{◌≡◌, ℕ, subst, sym, ap, [], Some}
+use Rattle.std.proofs.Common.{ℕ, subst, sym, ap, [], Some}
 use Rattle.net_io.specs.Depot.{DepotState}
 use Rattle.net_io.specs.Sink.{SinkState}
 use Rattle.line_forms.specs.Form.{with_translations}
