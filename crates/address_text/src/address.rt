@@ -48,7 +48,8 @@ fn width_of_octets(octets: &[u8]) -> u8
 /// Reads a whole text as an address: four decimal numbers with dots between (RFC 791), or groups of hexadecimal digits with
 /// colons between, of which one `::` may stand for zero groups (RFC 4291 section 2.2, without its dotted form).
 pub fn read_address(text: &[u8]) -> Option<Address>
-    ensures read { MatchOption result ((a : Address) → IsAddressText text.now a → ⊥) (IsAddressText text.now) }
+    ensures read { MatchOption result ((a : Address) → IsAddressText text.now a → ⊥)
+        (IsAddressText text.now) }
     ensures value { result ≡ address_of_text text.now }
 {
     if let Ok(four) = Ipv4Addr::parse_ascii(text) {

@@ -17,7 +17,8 @@ pub fn computed_addresses_are_of_the_text()
 
 /// A text is the text of one address at most.
 pub fn a_text_has_one_address()
-    ensures { (text : List ℕ) (a b : Address) → IsAddressText text a → IsAddressText text b → a ≡ b }
+    ensures { (text : List ℕ) (a b : Address) → IsAddressText text a → IsAddressText text b
+        → a ≡ b }
 {}
 
 /// An address's written form is a text of that address.
@@ -27,7 +28,8 @@ pub fn written_address_reads_back()
 
 /// A text is the text of one prefix at most.
 pub fn a_text_has_one_prefix()
-    ensures { (text : List ℕ) (a b : AddressBlock) → IsPrefixText text a → IsPrefixText text b → a ≡ b }
+    ensures { (text : List ℕ) (a b : AddressBlock) → IsPrefixText text a → IsPrefixText text b
+        → a ≡ b }
 {}
 
 /// A prefix's written form is a text of that prefix.

@@ -49,7 +49,8 @@ pub fn begin_with(mut octets: &[u8], bits: u8, mut wanted: &[u8]) -> bool
 /// The parts of a text in front of the first such octet and behind it.
 pub fn split_once(text: &[u8], octet: u8) -> Option<(&[u8], &[u8])>
     ensures { MatchOption result (slice_split (λ c. c == octet) text.now ≡ text.now ∷ [])
-        (λ parts. slice_split (λ c. c == octet) text.now ≡ parts.0.now ∷ slice_split (λ c. c == octet) parts.1.now) }
+        (λ parts. slice_split (λ c. c == octet) text.now ≡ parts.0.now ∷ slice_split
+        (λ c. c == octet) parts.1.now) }
 {
     let place = place_of(text, octet)?;
     Some((&text[..place], &text[place + 1..]))

@@ -37,7 +37,9 @@ pub fn read_calipso(bytes: &[u8]) -> Result<(Calipso, usize), CalipsoFault>
 
 /// The same with the label in place of the one that is lent, which is as it was after a fault.
 pub fn read_calipso_into(bytes: &[u8], label: &mut Label) -> Result<CalipsoHead, CalipsoFault>
-    ensures ok { IfOk result (λ head. ReadsFront IsCalipso bytes.now (record { doi = head.doi; label = label.new }) head.length) }
+    ensures ok { IfOk result
+        (λ head. ReadsFront IsCalipso bytes.now
+        (record { doi = head.doi; label = label.new }) head.length) }
     ensures err { IfErr result (λ fault. IsFaulty bytes.now fault) }
 {
     let length = read_layout(bytes)?;
@@ -64,7 +66,8 @@ fn test_checksum(option: &[u8]) -> Result<(), CalipsoFault>
 // What a whole option says: its label in place of the one that is lent, and its DOI.
 fn read_value(option: &[u8], label: &mut Label) -> u32
     requires { IsLaidOut option.now (length option.now) }
-    ensures { IsCalipsoShape option.now (record { doi = result; label = label.new }, checksum_at option.now) }
+    ensures { IsCalipsoShape option.now
+        (record { doi = result; label = label.new }, checksum_at option.now) }
 {
     label.level = option[7];
     read_bitmap(&option[10..], &mut label.cats);

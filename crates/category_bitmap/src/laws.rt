@@ -7,7 +7,8 @@ ghost use Rattle.category_bitmap.specs.Bitmap.{bitmap_cats, octets_needed, bitma
 
 /// A written bitmap reads back as the set that it was written from, in as many octets as that needs or more.
 pub fn written_bitmap_reads_back()
-    ensures { (cats : List ℕ) (n : ℕ) → IsCats cats → octets_needed cats ≤ n → bitmap_cats (bitmap_of cats n) ≡ cats }
+    ensures { (cats : List ℕ) (n : ℕ) → IsCats cats → octets_needed cats ≤ n
+        → bitmap_cats (bitmap_of cats n) ≡ cats }
 {}
 
 /// A written bitmap holds octets.
@@ -17,5 +18,6 @@ pub fn written_bitmaps_hold_octets()
 
 /// So many octets suffice for a set just where each of its categories stands in one of them.
 pub fn octets_suffice_for_low_categories()
-    ensures { (cats : List ℕ) (n : ℕ) → (octets_needed cats ≤ n) ↔ ((c : ℕ) → IsTrue (has cats c) → c / 8 < n) }
+    ensures { (cats : List ℕ) (n : ℕ)
+        → (octets_needed cats ≤ n) ↔ ((c : ℕ) → IsTrue (has cats c) → c / 8 < n) }
 {}

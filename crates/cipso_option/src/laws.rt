@@ -28,10 +28,12 @@ pub fn written_option_reads_back()
 
 /// An option has from 10 to 40 octets.
 pub fn options_have_10_to_40_octets()
-    ensures { (bytes : List ℕ) (value : Cipso) → IsCipso bytes value → (10 ≤ length bytes) × (length bytes ≤ 40) }
+    ensures { (bytes : List ℕ) (value : Cipso) → IsCipso bytes value → (10 ≤ length bytes)
+        × (length bytes ≤ 40) }
 {}
 
 /// An option's second octet is its length.
 pub fn second_octet_is_the_length()
-    ensures { (bytes : List ℕ) (value : Cipso) → IsCipso bytes value → slice_index bytes 1 ≡ length bytes }
+    ensures { (bytes : List ℕ) (value : Cipso) → IsCipso bytes value
+        → slice_index bytes 1 ≡ length bytes }
 {}

@@ -38,7 +38,9 @@ pub fn read_cipso(bytes: &[u8]) -> Result<(Cipso, usize), WireFault>
 
 /// The same with the label in place of the one that is lent, which is any label after a fault.
 pub fn read_cipso_into(bytes: &[u8], label: &mut Label) -> Result<CipsoHead, WireFault>
-    ensures ok { IfOk result (λ head. ReadsFront IsCipso bytes.now (record { doi = head.doi; tag = head.tag; label = label.new }) head.length) }
+    ensures ok { IfOk result
+        (λ head. ReadsFront IsCipso bytes.now
+        (record { doi = head.doi; tag = head.tag; label = label.new }) head.length) }
     ensures err { IfErr result (λ e. FailsFront IsCipso bytes.now e) }
 {
     read_start(bytes)?;

@@ -45,7 +45,8 @@ fn read_bits(bytes: &[u8], size: usize, cats: &mut CatSet) -> Result<(), WireFau
 
 fn read_enumeration(bytes: &[u8], count: usize, cats: &mut CatSet) -> Result<(), WireFault>
     requires { count ≤ MOST_CATEGORIES }
-    ensures ok { OnOk result (ReadsFront (IsSized (2 * count) (IsBody Two)) bytes.now cats.new (2 * count)) }
+    ensures ok { OnOk result
+        (ReadsFront (IsSized (2 * count) (IsBody Two)) bytes.now cats.new (2 * count)) }
     ensures err { IfErr result (λ e. FailsFront (IsSized (2 * count) (IsBody Two)) bytes.now e) }
 {
     cats.clear();
@@ -62,7 +63,8 @@ fn read_enumeration(bytes: &[u8], count: usize, cats: &mut CatSet) -> Result<(),
 
 fn read_ranges(bytes: &[u8], count: usize, cats: &mut CatSet) -> Result<(), WireFault>
     requires { count ≤ 2 * MOST_RANGES }
-    ensures ok { OnOk result (ReadsFront (IsSized (2 * count) (IsBody Five)) bytes.now cats.new (2 * count)) }
+    ensures ok { OnOk result
+        (ReadsFront (IsSized (2 * count) (IsBody Five)) bytes.now cats.new (2 * count)) }
     ensures err { IfErr result (λ e. FailsFront (IsSized (2 * count) (IsBody Five)) bytes.now e) }
 {
     cats.clear();
@@ -82,7 +84,8 @@ fn read_ranges(bytes: &[u8], count: usize, cats: &mut CatSet) -> Result<(), Wire
 // The bottom at this place, where it is there; one that is left out is 0.
 fn bottom_in(bytes: &[u8], at: usize, is_there: bool, low: u16, top: u16) -> Result<u16, WireFault>
     requires { at ≤ length bytes.now }
-    ensures ok { IfOk result (λ bottom. MatchBool is_there (IsNumberAt bytes.now at low top bottom) (bottom ≡ 0)) }
+    ensures ok { IfOk result
+        (λ bottom. MatchBool is_there (IsNumberAt bytes.now at low top bottom) (bottom ≡ 0)) }
     ensures err { IfErr result (λ e. IsTrue is_there × FaultsInNumber bytes.now at low top e) }
 {
     if is_there {

@@ -21,7 +21,8 @@ pub(crate) struct Header {
 
 /// The tag with this type octet: 1, 2 or 5.
 pub fn tag_of_type(octet: u8) -> Option<Tag>
-    ensures { MatchOption result ((tag : Tag) → tag_type tag ≡ octet → ⊥) (λ tag. tag_type tag ≡ octet) }
+    ensures { MatchOption result ((tag : Tag) → tag_type tag ≡ octet → ⊥)
+        (λ tag. tag_type tag ≡ octet) }
 {
     match octet {
         1 => Some(Tag::One),

@@ -20,26 +20,31 @@ pub fn complete_rows_are_commands()
 
 /// A command's row and parameters make that command.
 pub fn commands_are_what_they_say()
-    ensures { (command : NodeCommand) → command_of (said_of command).row (said_of command).fields ≡ Some command }
+    ensures { (command : NodeCommand)
+        → command_of (said_of command).row (said_of command).fields ≡ Some command }
 {}
 
 /// The words of a command's written form say that command, also behind blanks, and behind `netlabelctl`.
 pub fn written_command_reads_back()
     ensures { (led : Bool) (end : ℕ) (blanks : List ℕ) (command : NodeCommand)
         → All (λ octet. IsTrue (is_blank octet)) blanks → IsCommand command
-        → read_said with_translations (line_rows led with_translations) end (words_of_line (blanks ++ command_text command))
+        → read_said with_translations (line_rows led with_translations) end
+        (words_of_line (blanks ++ command_text command))
         ≡ Ok (said_of command) }
 {}
 
 /// A command's written form is of octets that a line may hold, so it has no LF.
 pub fn written_command_is_plain()
-    ensures { (command : NodeCommand) → IsCommand command → All (λ octet. IsTrue (is_plain octet)) (command_text command) }
+    ensures { (command : NodeCommand) → IsCommand command
+        → All (λ octet. IsTrue (is_plain octet)) (command_text command) }
 {}
 
 /// Its words are the row's fixed words and those of the parameters that are given, one octet apart, also behind blanks.
 pub fn written_command_has_its_words()
-    ensures { (blanks : List ℕ) (command : NodeCommand) → All (λ octet. IsTrue (is_blank octet)) blanks → IsCommand command
-        → words_of_line (blanks ++ command_text command) ≡ placed (length blanks) (texts_of_said (said_of command)) }
+    ensures { (blanks : List ℕ) (command : NodeCommand)
+        → All (λ octet. IsTrue (is_blank octet)) blanks → IsCommand command
+        → words_of_line (blanks ++ command_text command) ≡ placed (length blanks)
+        (texts_of_said (said_of command)) }
 {}
 
 /// The numbers of a command whose parameters have values of their forms are within their bounds.

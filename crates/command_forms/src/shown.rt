@@ -133,7 +133,9 @@ impl<'a> Shown<'a> {
 
 /// The word `default` where there is no name, else how the parameter's words begin.
 fn key_of(domain: Option<Option<&Name>>, parameter: Parameter) -> &'static str
-    ensures { result.now ≡ (if is_default (option_map option_copied domain.entry) then codes "default" else key_text parameter) }
+    ensures { result.now ≡
+        (if is_default
+        (option_map option_copied domain.entry) then codes "default" else key_text parameter) }
 {
     match domain {
         Some(None) => "default",

@@ -69,7 +69,8 @@ fn append_doi(doi: &Option<Doi>, out: &mut Vec<u8>) -> Result<(), OutOfMemory>
 
 fn append_tags(tags: Option<&Tags>, out: &mut Vec<u8>) -> Result<(), OutOfMemory>
     ensures ok { OnOk result
-        (out.new.items ≡ out.old.items ++ text_or_none (list_text tag_number_text) (option_copied tags.entry)) }
+        (out.new.items ≡ out.old.items
+        ++ text_or_none (list_text tag_number_text) (option_copied tags.entry)) }
     ensures value { OnOk result (IfSome (option_copied tags.entry) AreTags) }
     ensures err { OnErr result (out.new.items ≡ out.old.items) }
 {
@@ -87,7 +88,8 @@ fn append_list<E: ListEntry>(
     out: &mut Vec<u8>,
 ) -> Result<(), OutOfMemory>
     ensures ok { OnOk result
-        (out.new.items ≡ out.old.items ++ text_or_none (list_text E.text_of) (option_copied list.entry)) }
+        (out.new.items ≡ out.old.items
+        ++ text_or_none (list_text E.text_of) (option_copied list.entry)) }
     ensures value { OnOk result (IfSome (option_copied list.entry) (AreEntries E.is_entry)) }
     ensures err { OnErr result (out.new.items ≡ out.old.items) }
 {
@@ -102,8 +104,10 @@ fn append_list<E: ListEntry>(
 
 fn append_domain(domain: Option<Option<&Name>>, out: &mut Vec<u8>) -> Result<(), OutOfMemory>
     ensures ok { OnOk result
-        (out.new.items ≡ out.old.items ++ text_or_none (text_or_none (λ name. name)) (option_map option_copied domain.entry)) }
-    ensures value { OnOk result (IfSome (option_map option_copied domain.entry) (λ name. IfSome name IsNameText)) }
+        (out.new.items ≡ out.old.items
+        ++ text_or_none (text_or_none (λ name. name)) (option_map option_copied domain.entry)) }
+    ensures value { OnOk result
+        (IfSome (option_map option_copied domain.entry) (λ name. IfSome name IsNameText)) }
     ensures err { OnErr result (out.new.items ≡ out.old.items) }
 {
     match domain {
@@ -125,7 +129,8 @@ fn append_name(name: Option<&Name>, out: &mut Vec<u8>) -> Result<(), OutOfMemory
 }
 
 fn append_prefix(prefix: &Option<Prefix>, out: &mut Vec<u8>) -> Result<(), OutOfMemory>
-    ensures ok { OnOk result (out.new.items ≡ out.old.items ++ text_or_none prefix_text prefix.now) }
+    ensures ok { OnOk result
+        (out.new.items ≡ out.old.items ++ text_or_none prefix_text prefix.now) }
     ensures value { OnOk result (IfSome prefix.now IsBlock) }
     ensures err { OnErr result (out.new.items ≡ out.old.items) }
 {
@@ -139,7 +144,8 @@ fn append_prefix(prefix: &Option<Prefix>, out: &mut Vec<u8>) -> Result<(), OutOf
 }
 
 fn append_protocol(protocol: &Option<MapProtocol>, out: &mut Vec<u8>) -> Result<(), OutOfMemory>
-    ensures ok { OnOk result (out.new.items ≡ out.old.items ++ text_or_none map_protocol_text protocol.now) }
+    ensures ok { OnOk result
+        (out.new.items ≡ out.old.items ++ text_or_none map_protocol_text protocol.now) }
     ensures value { OnOk result (IfSome protocol.now (λ p. IsTrue (is_map_protocol p))) }
     ensures err { OnErr result (out.new.items ≡ out.old.items) }
 {
@@ -166,7 +172,8 @@ fn append_range(range: Option<&KeptRange>, out: &mut Vec<u8>) -> Result<(), OutO
 
 fn append_level(level: Option<&KeptRange>, out: &mut Vec<u8>) -> Result<(), OutOfMemory>
     ensures ok { OnOk result
-        (out.new.items ≡ out.old.items ++ text_or_none receiver_range_text (option_copied level.entry)) }
+        (out.new.items ≡ out.old.items
+        ++ text_or_none receiver_range_text (option_copied level.entry)) }
     ensures value { OnOk result (IfSome (option_copied level.entry) IsMlsRange) }
     ensures err { OnErr result (out.new.items ≡ out.old.items) }
 {
@@ -177,7 +184,8 @@ fn append_level(level: Option<&KeptRange>, out: &mut Vec<u8>) -> Result<(), OutO
 }
 
 fn append_address(address: &Option<Address>, out: &mut Vec<u8>) -> Result<(), OutOfMemory>
-    ensures ok { OnOk result (out.new.items ≡ out.old.items ++ text_or_none address_text address.now) }
+    ensures ok { OnOk result
+        (out.new.items ≡ out.old.items ++ text_or_none address_text address.now) }
     ensures value { OnOk result (IfSome address.now IsAddress) }
     ensures err { OnErr result (out.new.items ≡ out.old.items) }
 {
@@ -191,7 +199,9 @@ fn append_address(address: &Option<Address>, out: &mut Vec<u8>) -> Result<(), Ou
 }
 
 fn append_four(four: &Option<[u8; 4]>, out: &mut Vec<u8>) -> Result<(), OutOfMemory>
-    ensures ok { OnOk result (out.new.items ≡ out.old.items ++ text_or_none (λ octets. address_text (V4 octets)) four.now) }
+    ensures ok { OnOk result
+        (out.new.items ≡ out.old.items
+        ++ text_or_none (λ octets. address_text (V4 octets)) four.now) }
     ensures value { OnOk result (IfSome four.now (IsOctetsOf 4)) }
     ensures err { OnErr result (out.new.items ≡ out.old.items) }
 {
@@ -206,7 +216,9 @@ fn append_four(four: &Option<[u8; 4]>, out: &mut Vec<u8>) -> Result<(), OutOfMem
 }
 
 fn append_six(six: &Option<[u8; 16]>, out: &mut Vec<u8>) -> Result<(), OutOfMemory>
-    ensures ok { OnOk result (out.new.items ≡ out.old.items ++ text_or_none (λ octets. address_text (V6 octets)) six.now) }
+    ensures ok { OnOk result
+        (out.new.items ≡ out.old.items
+        ++ text_or_none (λ octets. address_text (V6 octets)) six.now) }
     ensures value { OnOk result (IfSome six.now (IsOctetsOf 16)) }
     ensures err { OnErr result (out.new.items ≡ out.old.items) }
 {

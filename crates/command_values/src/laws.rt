@@ -44,7 +44,8 @@ pub fn written_map_protocol_reads_back()
 
 /// A range's text is that of a static entry with this range.
 pub fn written_static_range_reads_back()
-    ensures { (range : LabelRange) → IsMlsRange range → static_range_of_text (range_text range) ≡ Some range }
+    ensures { (range : LabelRange) → IsMlsRange range
+        → static_range_of_text (range_text range) ≡ Some range }
 {}
 
 /// A receiver's level is written so that it reads back.
@@ -55,7 +56,8 @@ pub fn written_receiver_range_reads_back()
 
 /// The text of an IPv4 address is that of its octets.
 pub fn written_four_octets_read_back()
-    ensures { (octets : List ℕ) → IsOctetsOf 4 octets → four_of_text (address_text (V4 octets)) ≡ Some octets }
+    ensures { (octets : List ℕ) → IsOctetsOf 4 octets
+        → four_of_text (address_text (V4 octets)) ≡ Some octets }
 {}
 
 /// The text of an IPv6 address is that of its octets.
@@ -74,6 +76,7 @@ pub fn labels_stay_static_ranges()
 
 /// A text that is a label is the level of a receiver from the lowest label to that one.
 pub fn labels_stay_receiver_ranges()
-    ensures { (text : List ℕ) (range : LabelRange) → option_map range_below (label_of_text text) ≡ Some range
+    ensures { (text : List ℕ) (range : LabelRange)
+        → option_map range_below (label_of_text text) ≡ Some range
         → receiver_range_of_text text ≡ Some range }
 {}

@@ -98,7 +98,8 @@ impl<E: ListEntry> CommaList<E> {
 
 /// The entries that a text spells.
 fn read_entries<E: ListEntry>(alloc: Global, text: &[u8]) -> Result<Option<Vec<E>>, OutOfMemory>
-    ensures value { IfOk result (λ read. option_map (λ v. v.items) read ≡ list_of_text E.of_text text.now) }
+    ensures value { IfOk result
+        (λ read. option_map (λ v. v.items) read ≡ list_of_text E.of_text text.now) }
     ensures entries { IfOk result (λ read. IfSome read (λ v. AreEntries E.is_entry v.items)) }
 {
     let mut entries = Vec::new(alloc);

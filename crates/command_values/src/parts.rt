@@ -18,7 +18,8 @@ pub fn around(text: &[u8], octet: u8) -> (&[u8], &[u8])
 /// The parts of a text in front of the first such octet and behind it, where there is one.
 pub(crate) fn split_once(text: &[u8], octet: u8) -> Option<(&[u8], &[u8])>
     ensures parts { MatchOption result (slice_split (λ c. c == octet) text.now ≡ text.now ∷ [])
-        (λ parts. slice_split (λ c. c == octet) text.now ≡ parts.0.now ∷ slice_split (λ c. c == octet) parts.1.now) }
+        (λ parts. slice_split (λ c. c == octet) text.now ≡ parts.0.now ∷ slice_split
+        (λ c. c == octet) parts.1.now) }
     ensures shorter { IfSome result (λ parts. length parts.1.now < length text.now) }
 {
     let place = place_of(text, octet)?;

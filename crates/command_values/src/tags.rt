@@ -72,7 +72,8 @@ impl Tags {
 
     /// Appends the numbers of the tags with commas between. After an error `out` is as it was.
     pub fn write(&self, out: &mut Vec<u8>) -> Result<(), OutOfMemory>
-        ensures ok { OnOk result (out.new.items ≡ out.old.items ++ list_text tag_number_text self.now) }
+        ensures ok { OnOk result
+            (out.new.items ≡ out.old.items ++ list_text tag_number_text self.now) }
         ensures err { OnErr result (out.new.items ≡ out.old.items) }
     {
         self.tags.write(out)

@@ -16,14 +16,17 @@ pub fn read_decimal(text: &[u8]) -> Option<u64>
 
 /// There is no octet at all, or a zero that other octets follow.
 fn has_spare_zero(text: &[u8]) -> bool
-    ensures { MatchBool result ((length text.now ≡ 0) ⊎ ((1 < length text.now) × (slice_index text.now 0 ≡ 48))) (0 < length text.now × (slice_index text.now 0 ≡ 48 → length text.now ≡ 1)) }
+    ensures { MatchBool result
+        ((length text.now ≡ 0) ⊎ ((1 < length text.now) × (slice_index text.now 0 ≡ 48)))
+        (0 < length text.now × (slice_index text.now 0 ≡ 48 → length text.now ≡ 1)) }
 {
     text.is_empty() || (text.len() > 1 && text[0] == b'0')
 }
 
 /// The value of a text of digits, and `None` where there is another octet or the value needs more than 64 bits.
 fn value_of_digits(text: &[u8]) -> Option<u64>
-    ensures digits { IfSome result (λ n. AllDigits 10 text.now × (digits_value 10 text.now ≡ n) × (n < 2 ^ 64)) }
+    ensures digits { IfSome result
+        (λ n. AllDigits 10 text.now × (digits_value 10 text.now ≡ n) × (n < 2 ^ 64)) }
     ensures none { IfNone result (AllDigits 10 text.now → 2 ^ 64 ≤ digits_value 10 text.now) }
 {
     let mut value = 0u64;

@@ -97,7 +97,8 @@ impl DoiDef {
 
     /// The sorted pairs from local to remote numbers.
     pub(crate) fn outward(&self) -> &Direction
-        ensures { Serves self.now.levels self.now.cats result.now.levels.items result.now.cats.items }
+        ensures { Serves self.now.levels self.now.cats result.now.levels.items
+            result.now.cats.items }
     {
         &self.sorted.outward
     }

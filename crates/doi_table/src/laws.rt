@@ -40,7 +40,8 @@ pub fn wire_labels_go_by_numbers()
 /// A label comes home by the numbers that its own numbers have.
 pub fn local_labels_go_by_numbers()
     ensures { (plan : DoiPlan) (x y : Label) → IsDefinition plan → local_label plan x ≡ Ok y
-        → GoesBy (number_in plan.trans (flipped plan.levels)) (number_in plan.trans (flipped plan.cats)) x y }
+        → GoesBy (number_in plan.trans (flipped plan.levels))
+        (number_in plan.trans (flipped plan.cats)) x y }
 {}
 
 /// A label on the wire is a label: its level is below 256, and its categories are a set.

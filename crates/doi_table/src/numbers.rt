@@ -98,7 +98,8 @@ fn apply_one<'a>(pairs: &'a [Pair], c: u16, into: &mut CatSet) -> Option<&'a [Pa
     requires rising { AreRising c pairs.now }
     requires below { AreBelow 65535 pairs.now }
     requires room { length (runs_of into.old) + length pairs.now ≤ 1952 }
-    ensures some { IfSome result (λ behind. (d : ℕ) × (pairs.now ≡ (c, d) ∷ behind.now) × (into.new ≡ joined into.old d)) }
+    ensures some { IfSome result
+        (λ behind. (d : ℕ) × (pairs.now ≡ (c, d) ∷ behind.now) × (into.new ≡ joined into.old d)) }
     ensures room { IfSome result (λ behind. length (runs_of into.new) + length behind.now ≤ 1952) }
     ensures none { IfNone result (number_by pairs.now c ≡ None) }
 {

@@ -56,7 +56,8 @@ impl DoiTable {
         requires is_plan { IsPlan plan.now }
         ensures ok { OnOk result (self.new ≡ with_definition self.old proto doi plan.now) }
         ensures allowed { OnOk result (add_fault self.old proto doi plan.now ≡ None) }
-        ensures err { IfErr result (λ fault. MayAnswer fault (add_fault self.old proto doi plan.now)) }
+        ensures err { IfErr result
+            (λ fault. MayAnswer fault (add_fault self.old proto doi plan.now)) }
         ensures kept { OnErr result (self.new ≡ self.old) }
     {
         if self.find(proto, doi).is_some() {

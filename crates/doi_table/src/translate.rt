@@ -54,8 +54,10 @@ pub fn to_local_into(def: &DoiDef, label: &Label, into: &mut Label) -> Result<()
 // Fills `into` with the label's level and categories by the pairs of one direction.
 fn translate(way: &Direction, label: &Label, into: &mut Label) -> Result<(), Unmapped>
     requires { IsServing way.now.levels.items way.now.cats.items }
-    ensures ok { OnOk result (label_by way.now.levels.items way.now.cats.items label.now ≡ Ok into.new) }
-    ensures err { IfErr result (λ why. label_by way.now.levels.items way.now.cats.items label.now ≡ Err why) }
+    ensures ok { OnOk result
+        (label_by way.now.levels.items way.now.cats.items label.now ≡ Ok into.new) }
+    ensures err { IfErr result
+        (λ why. label_by way.now.levels.items way.now.cats.items label.now ≡ Err why) }
 {
     let Some(level) = level(&way.levels, label.level) else {
         return Err(Unmapped::Level);

@@ -164,7 +164,10 @@ fn first_holding(
 ) -> Option<usize>
     requires tells { Tells (map (λ e. e.0.bits) entries.now) order.now }
     requires few { length entries.now ≤ 256 }
-    ensures { result ≡ option_map (λ r. r.place) (find (λ (r : Ranked). passes_at (λ e. holds e.0 address.now) entries.now r.place) order.now) }
+    ensures { result ≡ option_map (λ r. r.place)
+        (find
+        (λ (r : Ranked). passes_at
+        (λ e. holds e.0 address.now) entries.now r.place) order.now) }
 {
     let mut rest = order;
     while let [ranked, others @ ..] = rest {

@@ -66,8 +66,10 @@ impl DomainMap {
         prefix: Option<Prefix>,
         protocol: Protocol,
     ) -> Result<(), MapFault>
-        ensures ok { OnOk result (added self.old (option_copied domain.entry) prefix protocol ≡ Ok self.new) }
-        ensures refused { IfErr result (IsRefusedBy (added self.old (option_copied domain.entry) prefix protocol)) }
+        ensures ok { OnOk result
+            (added self.old (option_copied domain.entry) prefix protocol ≡ Ok self.new) }
+        ensures refused { IfErr result
+            (IsRefusedBy (added self.old (option_copied domain.entry) prefix protocol)) }
         ensures err { OnErr result (self.new ≡ self.old) }
     {
         let key = key_of(domain);
@@ -122,8 +124,10 @@ impl DomainMap {
     /// Removes a domain with all its addresses, or one address, and the domain with its last. After a refusal nothing has
     /// changed.
     pub fn del(&mut self, domain: Option<&Name>, prefix: Option<Prefix>) -> Result<(), Unknown>
-        ensures ok { OnOk result (deleted self.old (option_copied domain.entry) prefix ≡ Some self.new) }
-        ensures unknown { OnErr result (deleted self.old (option_copied domain.entry) prefix ≡ None) }
+        ensures ok { OnOk result
+            (deleted self.old (option_copied domain.entry) prefix ≡ Some self.new) }
+        ensures unknown { OnErr result
+            (deleted self.old (option_copied domain.entry) prefix ≡ None) }
         ensures err { OnErr result (self.new ≡ self.old) }
     {
         let key = key_of(domain);
@@ -185,7 +189,8 @@ impl DomainMap {
     /// A line of `map list`, counted from 0: by entries in order of insertion, and within an entry by its addresses.
     pub fn entry(&self, i: usize) -> (Option<&Name>, Option<Prefix>, Protocol)
         requires { i < length (lines_of self.now) }
-        ensures { slice_get (lines_of self.now) i ≡ Some (option_copied result.0, result.1, result.2) }
+        ensures { slice_get (lines_of self.now) i ≡ Some
+            (option_copied result.0, result.1, result.2) }
     {
         line_of(&self.rules, i)
     }
@@ -227,7 +232,8 @@ fn line_of(
     i: usize,
 ) -> (Option<&Name>, Option<Prefix>, Protocol)
     requires { i < length (lines_of rules.now.entries) }
-    ensures { slice_get (lines_of rules.now.entries) i ≡ Some (option_copied result.0, result.1, result.2) }
+    ensures { slice_get (lines_of rules.now.entries) i ≡ Some
+        (option_copied result.0, result.1, result.2) }
 {
     let mut left = i;
     for place in 0..rules.len() {

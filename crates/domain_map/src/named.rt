@@ -13,7 +13,8 @@ const FEW: usize = 8;
 
 /// The value of a name; `None` is the default one.
 pub fn value_of<'a, V>(entries: &'a IndexMap<Option<Name>, V>, name: Option<&Name>) -> Option<&'a V>
-    ensures { option_copied result ≡ lookup (same_domain (option_copied name.entry)) entries.now.entries }
+    ensures { option_copied result ≡ lookup
+        (same_domain (option_copied name.entry)) entries.now.entries }
 {
     if entries.len() <= FEW {
         first_named(entries, name)
@@ -24,7 +25,8 @@ pub fn value_of<'a, V>(entries: &'a IndexMap<Option<Name>, V>, name: Option<&Nam
 
 // The same from the front.
 fn first_named<'a, V>(entries: &'a IndexMap<Option<Name>, V>, name: Option<&Name>) -> Option<&'a V>
-    ensures { option_copied result ≡ lookup (same_domain (option_copied name.entry)) entries.now.entries }
+    ensures { option_copied result ≡ lookup
+        (same_domain (option_copied name.entry)) entries.now.entries }
 {
     for place in 0..entries.len() {
         let (key, value) = entry_at(entries, place);

@@ -49,7 +49,8 @@ pub fn forget(order: &mut Vec<Ranked>, place: usize)
 }
 
 fn keep_others(order: &mut Vec<Ranked>, place: usize)
-    ensures { order.new.items ≡ filter (λ (r : Ranked). not (nat_eq r.place place)) order.old.items }
+    ensures { order.new.items ≡ filter
+        (λ (r : Ranked). not (nat_eq r.place place)) order.old.items }
 {
     order.retain(|r| r.place != place);
 }

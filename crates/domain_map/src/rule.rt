@@ -53,7 +53,8 @@ impl Rule {
 
     /// Takes an address out, and tells how many are left; `None` where it isn't there.
     pub fn remove(&mut self, prefix: &Prefix) -> Option<usize>
-        ensures { MatchOption result ((fewer self.old prefix.now ≡ None) × (self.new ≡ self.old)) (LeavesOf self.old prefix.now self.new) }
+        ensures { MatchOption result ((fewer self.old prefix.now ≡ None) × (self.new ≡ self.old))
+            (LeavesOf self.old prefix.now self.new) }
     {
         match self {
             Rule::Plain(_) => None,

@@ -73,8 +73,12 @@ impl StaticMap {
         high: &Label,
     ) -> Result<(), StaticFault>
         requires { Dominates high.now low.now }
-        ensures ok { OnOk result (static_added self.old (option_copied interface.entry) prefix low.now high.now ≡ Ok self.new) }
-        ensures refused { IfErr result (IsStaticRefusal (static_added self.old (option_copied interface.entry) prefix low.now high.now)) }
+        ensures ok { OnOk result
+            (static_added self.old
+            (option_copied interface.entry) prefix low.now high.now ≡ Ok self.new) }
+        ensures refused { IfErr result
+            (IsStaticRefusal
+            (static_added self.old (option_copied interface.entry) prefix low.now high.now)) }
         ensures err { OnErr result (self.new ≡ self.old) }
     {
         let interface = key_of(interface);
@@ -118,8 +122,10 @@ impl StaticMap {
     #[tactic(auto, unfolding(crate::specs::Statics::static_deleted))]
     /// Removes the labels of an interface and a prefix. After a refusal nothing has changed.
     pub fn del(&mut self, interface: Option<&Name>, prefix: Prefix) -> Result<(), Unknown>
-        ensures ok { OnOk result (static_deleted self.old (option_copied interface.entry) prefix ≡ Some self.new) }
-        ensures unknown { OnErr result (static_deleted self.old (option_copied interface.entry) prefix ≡ None) }
+        ensures ok { OnOk result
+            (static_deleted self.old (option_copied interface.entry) prefix ≡ Some self.new) }
+        ensures unknown { OnErr result
+            (static_deleted self.old (option_copied interface.entry) prefix ≡ None) }
         ensures err { OnErr result (self.new ≡ self.old) }
     {
         let interface = key_of(interface);
@@ -135,7 +141,8 @@ impl StaticMap {
     /// The low and the high label of traffic that comes over an interface from an address: among the entries of the interface,
     /// if it has any, else among the default ones, those of the longest prefix that holds the address.
     pub fn find(&self, interface: &Name, address: &Address) -> Option<(&Label, &Label)>
-        ensures labels { option_map (λ r. (r.0.now, r.1.now)) result ≡ find_static_of self.now interface.now address.now }
+        ensures labels { option_map
+            (λ r. (r.0.now, r.1.now)) result ≡ find_static_of self.now interface.now address.now }
         ensures ordered { IfSome result (λ r. Dominates r.1.now r.0.now) }
     {
         let place = find_in(&self.order, &self.entries, interface, address)?;
@@ -153,7 +160,13 @@ impl StaticMap {
     /// The entry at a place, in order of insertion: its interface, its prefix, its low and its high label.
     pub fn entry(&self, i: usize) -> (Option<&Name>, Prefix, &Label, &Label)
         requires { i < length self.now }
-        ensures entry { slice_get self.now i ≡ Some (record { interface = option_copied result.0; prefix = result.1; low = result.2.now; high = result.3.now }) }
+        ensures entry { slice_get self.now i ≡ Some
+            (record {
+              interface = option_copied result.0;
+              prefix = result.1;
+              low = result.2.now;
+              high = result.3.now;
+            }) }
         ensures ordered { Dominates result.3.now result.2.now }
     {
         let entry = &self.entries[i];
@@ -205,8 +218,11 @@ fn find_in(
     address: &Address,
 ) -> Option<usize>
     requires { IsRanked static_key static_bits entries.now order.now }
-    ensures { MatchOption result (longest (λ e. e.prefix) address.now (candidates entries.now interface.now) ≡ None)
-        (λ place. longest (λ e. e.prefix) address.now (candidates entries.now interface.now) ≡ slice_get entries.now place × (place < length entries.now)) }
+    ensures { MatchOption result
+        (longest (λ e. e.prefix) address.now (candidates entries.now interface.now) ≡ None)
+        (λ place. longest (λ e. e.prefix) address.now
+        (candidates entries.now interface.now) ≡ slice_get entries.now place
+        × (place < length entries.now)) }
 {
     let own = Some(interface.copy());
     if has_entries(entries, &own) {
@@ -225,7 +241,11 @@ fn first_holding(
 ) -> Option<usize>
     requires tells { Tells (map (λ e. e.prefix.bits) entries.now) order.now }
     requires few { length entries.now ≤ 256 }
-    ensures { result ≡ option_map (λ r. r.place) (find (λ (r : Ranked). passes_at (λ e. same_domain interface.now e.interface && holds e.prefix address.now) entries.now r.place) order.now) }
+    ensures { result ≡ option_map (λ r. r.place)
+        (find
+        (λ (r : Ranked). passes_at
+        (λ e. same_domain interface.now e.interface
+        && holds e.prefix address.now) entries.now r.place) order.now) }
 {
     let mut rest = order;
     while let [ranked, others @ ..] = rest {
@@ -238,7 +258,8 @@ fn first_holding(
 }
 
 fn fits(entry: &StaticEntry, interface: &Option<Name>, address: &Address) -> bool
-    ensures { result ≡ (same_domain interface.now entry.now.interface && holds entry.now.prefix address.now) }
+    ensures { result ≡
+        (same_domain interface.now entry.now.interface && holds entry.now.prefix address.now) }
 {
     same_interface(interface, &entry.interface) && entry.prefix.holds(address)
 }

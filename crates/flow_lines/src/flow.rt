@@ -40,8 +40,10 @@ pub fn read_flow(
     end: usize,
     words: &[Word],
 ) -> Result<FlowLine, LineStop>
-    ensures ok { IfOk result (λ flow. read_flow own.now nodes.now flows.now before end words.now ≡ Ok flow) }
-    ensures stop { IfErr result (IsStopOf (read_flow own.now nodes.now flows.now before end words.now)) }
+    ensures ok { IfOk result
+        (λ flow. read_flow own.now nodes.now flows.now before end words.now ≡ Ok flow) }
+    ensures stop { IfErr result
+        (IsStopOf (read_flow own.now nodes.now flows.now before end words.now)) }
 {
     let [word, behind @ ..] = words else {
         return Err(LineStop::at(end, ScriptKind::Missing));
@@ -59,8 +61,11 @@ fn read_behind_input(
     input: FileName,
     words: &[Word],
 ) -> Result<FlowLine, LineStop>
-    ensures ok { IfOk result (λ flow. read_behind_input own.now nodes.now flows.now before end input words.now ≡ Ok flow) }
-    ensures stop { IfErr result (IsStopOf (read_behind_input own.now nodes.now flows.now before end input words.now)) }
+    ensures ok { IfOk result
+        (λ flow. read_behind_input own.now nodes.now flows.now before end input words.now
+        ≡ Ok flow) }
+    ensures stop { IfErr result
+        (IsStopOf (read_behind_input own.now nodes.now flows.now before end input words.now)) }
 {
     let [word, behind @ ..] = words else {
         return Err(LineStop::at(end, ScriptKind::Missing));
@@ -94,7 +99,8 @@ fn read_output(
     input: &FileName,
     word: &Word,
 ) -> Result<Option<FileName>, LineStop>
-    ensures ok { IfOk result (λ output. read_output own.now flows.now input.now word.now ≡ Ok output) }
+    ensures ok { IfOk result
+        (λ output. read_output own.now flows.now input.now word.now ≡ Ok output) }
     ensures stop { IfErr result (IsStopOf (read_output own.now flows.now input.now word.now)) }
 {
     if word.text() == b"-".as_slice() {

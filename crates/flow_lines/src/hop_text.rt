@@ -98,8 +98,10 @@ fn read_send(
     fits: bool,
     text: &[u8],
 ) -> Result<Hop, LineStop>
-    ensures ok { IfOk result (λ hop. numbered nodes.now at fits (send_of_parts (comma_parts text.now)) ≡ Ok hop) }
-    ensures stop { IfErr result (IsStopOf (numbered nodes.now at fits (send_of_parts (comma_parts text.now)))) }
+    ensures ok { IfOk result
+        (λ hop. numbered nodes.now at fits (send_of_parts (comma_parts text.now)) ≡ Ok hop) }
+    ensures stop { IfErr result
+        (IsStopOf (numbered nodes.now at fits (send_of_parts (comma_parts text.now)))) }
 {
     let Some(front) = three_names(text) else {
         return Err(LineStop::at(at, ScriptKind::Value));
@@ -119,8 +121,10 @@ fn read_send(
 }
 
 fn read_forward(nodes: &NodeNames, at: usize, text: &[u8]) -> Result<Hop, LineStop>
-    ensures ok { IfOk result (λ hop. numbered nodes.now at true (forward_of_parts (comma_parts text.now)) ≡ Ok hop) }
-    ensures stop { IfErr result (IsStopOf (numbered nodes.now at true (forward_of_parts (comma_parts text.now)))) }
+    ensures ok { IfOk result
+        (λ hop. numbered nodes.now at true (forward_of_parts (comma_parts text.now)) ≡ Ok hop) }
+    ensures stop { IfErr result
+        (IsStopOf (numbered nodes.now at true (forward_of_parts (comma_parts text.now)))) }
 {
     let Some(front) = three_names(text) else {
         return Err(LineStop::at(at, ScriptKind::Value));
@@ -138,8 +142,10 @@ fn read_forward(nodes: &NodeNames, at: usize, text: &[u8]) -> Result<Hop, LineSt
 }
 
 fn read_receive(nodes: &NodeNames, at: usize, fits: bool, text: &[u8]) -> Result<Hop, LineStop>
-    ensures ok { IfOk result (λ hop. numbered nodes.now at fits (receive_of_parts (comma_parts text.now)) ≡ Ok hop) }
-    ensures stop { IfErr result (IsStopOf (numbered nodes.now at fits (receive_of_parts (comma_parts text.now)))) }
+    ensures ok { IfOk result
+        (λ hop. numbered nodes.now at fits (receive_of_parts (comma_parts text.now)) ≡ Ok hop) }
+    ensures stop { IfErr result
+        (IsStopOf (numbered nodes.now at fits (receive_of_parts (comma_parts text.now)))) }
 {
     let Some((node, rest)) = split_comma(text) else {
         return Err(LineStop::at(at, ScriptKind::Value));
@@ -178,7 +184,8 @@ struct ThreeNames<'a> {
 }
 
 fn three_names(text: &[u8]) -> Option<ThreeNames<'_>>
-    ensures { MatchOption result (LacksThreeNames text.now) (λ front. HasThreeNames text.now front.first front.second front.third front.rest.now) }
+    ensures { MatchOption result (LacksThreeNames text.now)
+        (λ front. HasThreeNames text.now front.first front.second front.third front.rest.now) }
 {
     let parts = three_parts(text)?;
     let first = read_name(parts.first)?;
@@ -203,7 +210,8 @@ struct ThreeParts<'a> {
 
 fn three_parts(text: &[u8]) -> Option<ThreeParts<'_>>
     ensures { MatchOption result (length (comma_parts text.now) ≤ 3)
-        (λ parts. comma_parts text.now ≡ parts.first.now ∷ parts.second.now ∷ parts.third.now ∷ comma_parts parts.rest.now) }
+        (λ parts. comma_parts text.now ≡ parts.first.now ∷ parts.second.now ∷ parts.third.now
+        ∷ comma_parts parts.rest.now) }
 {
     let (first, behind_first) = split_comma(text)?;
     let (second, behind_second) = split_comma(behind_first)?;
@@ -218,7 +226,8 @@ fn three_parts(text: &[u8]) -> Option<ThreeParts<'_>>
 
 /// The parts of a text in front of the first comma and behind it.
 fn split_comma(text: &[u8]) -> Option<(&[u8], &[u8])>
-    ensures { MatchOption result (comma_parts text.now ≡ text.now ∷ []) (λ parts. comma_parts text.now ≡ parts.0.now ∷ comma_parts parts.1.now) }
+    ensures { MatchOption result (comma_parts text.now ≡ text.now ∷ [])
+        (λ parts. comma_parts text.now ≡ parts.0.now ∷ comma_parts parts.1.now) }
 {
     let place = comma_in(text)?;
     Some((&text[..place], &text[place + 1..]))

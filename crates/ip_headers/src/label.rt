@@ -18,7 +18,8 @@ pub fn label_size(option: Option<&[u8]>) -> usize
 
 /// Writes it at the end.
 pub fn push_label(option: Option<&[u8]>, out: &mut Vec<u8>) -> Result<(), AllocError>
-    ensures { OnOk result (out.new.items ≡ out.old.items ++ octets_or_none (option_copied option.entry)) }
+    ensures { OnOk result
+        (out.new.items ≡ out.old.items ++ octets_or_none (option_copied option.entry)) }
 {
     match option {
         Some(octets) => out.extend_from_slice(octets),

@@ -71,7 +71,9 @@ pub fn push_padding(version: Version, size: usize, out: &mut Vec<u8>) -> Result<
 fn end_after(version: Version, place: usize, option: &[u8], free: usize) -> usize
     requires some { 0 < length option.now }
     requires within { free + length option.now < 2 ^ 32 }
-    ensures value { result ≡ free + length (packed version free (others_of version (record { place = place; octets = option.now } ∷ []))) }
+    ensures value { result ≡ free + length
+        (packed version free
+        (others_of version (record { place = place; octets = option.now } ∷ []))) }
     ensures bound { result ≤ free + 8 * length option.now }
 {
     if !kind::is_other(version, option[0]) {
@@ -89,7 +91,10 @@ fn push_option(
     out: &mut Vec<u8>,
 ) -> Result<(), AllocError>
     requires { 0 < length option.now }
-    ensures { OnOk result (out.new.items ≡ out.old.items ++ packed version (length out.old.items) (others_of version (record { place = place; octets = option.now } ∷ []))) }
+    ensures { OnOk result
+        (out.new.items ≡ out.old.items
+        ++ packed version (length out.old.items)
+        (others_of version (record { place = place; octets = option.now } ∷ []))) }
 {
     if !kind::is_other(version, option[0]) {
         return Ok(());
@@ -123,7 +128,9 @@ pub fn kept_end(version: Version, area: &[u8], free: usize) -> usize
 pub fn push_kept(version: Version, area: &[u8], out: &mut Vec<u8>) -> Result<(), AllocError>
     requires whole { IsWholeList version area.now }
     requires small { length area.now < 65536 }
-    ensures { OnOk result (out.new.items ≡ out.old.items ++ packed version (length out.old.items) (others_in version area.now)) }
+    ensures { OnOk result
+        (out.new.items ≡ out.old.items
+        ++ packed version (length out.old.items) (others_in version area.now)) }
 {
     let mut at = first_place(version);
     let mut rest = area;
@@ -141,7 +148,8 @@ pub fn kept_size(version: Version, area: &[u8], label: usize) -> usize
     requires whole { IsWholeList version area.now }
     requires small { length area.now < 65536 }
     requires within { label < 2 ^ 15 }
-    ensures value { result ≡ label + length (packed version (first_place version + label) (others_in version area.now)) }
+    ensures value { result ≡ label + length
+        (packed version (first_place version + label) (others_in version area.now)) }
     ensures bound { result ≤ label + 8 * length area.now }
 {
     let first = first_place(version);

@@ -114,7 +114,8 @@ impl<'a> Packet4<'a> {
 
     /// The first label option with its octet in the packet.
     pub fn label_option(&self) -> Option<(usize, &'a [u8])>
-        ensures { option_map (λ x. record { place = x.0; octets = x.1.now }) result ≡ self.now.label }
+        ensures { option_map
+            (λ x. record { place = x.0; octets = x.1.now }) result ≡ self.now.label }
     {
         self.parts.label
     }
@@ -128,7 +129,9 @@ impl<'a> Packet4<'a> {
 
     /// The fields that are written as they are, with these hops.
     fn fields(&self, hops: u8) -> Fields4
-        ensures { (option : Option (List ℕ)) → packet4 result option self.now.others self.now.payload ≡ rewritten self.now option hops }
+        ensures { (option : Option (List ℕ))
+            → packet4 result option self.now.others self.now.payload
+            ≡ rewritten self.now option hops }
     {
         let _ = &self.parts;
         Fields4 {
@@ -210,9 +213,12 @@ pub fn rebuild4(
     out: &mut Vec<u8>,
 ) -> Result<(), Rebuild>
     requires { IfSome option (λ o. IsLabelOption V4 o.now) }
-    ensures ok { OnOk result (out.new.items ≡ packet_octets (rewritten view.now (option_copied option.entry) hops)) }
-    ensures no_room { (result ≡ Err Rebuild.NoRoom) ↔ (40 < rebuilt_room (rewritten view.now (option_copied option.entry) hops)) }
-    ensures too_long { (result ≡ Err Rebuild.TooLong) ↔ ((rebuilt_room (rewritten view.now (option_copied option.entry) hops) ≤ 40)
+    ensures ok { OnOk result
+        (out.new.items ≡ packet_octets (rewritten view.now (option_copied option.entry) hops)) }
+    ensures no_room { (result ≡ Err Rebuild.NoRoom) ↔
+        (40 < rebuilt_room (rewritten view.now (option_copied option.entry) hops)) }
+    ensures too_long { (result ≡ Err Rebuild.TooLong) ↔
+        ((rebuilt_room (rewritten view.now (option_copied option.entry) hops) ≤ 40)
         × (65535 < rebuilt_length (rewritten view.now (option_copied option.entry) hops))) }
     ensures err { OnErr result (out.new.items ≡ []) }
 {

@@ -112,7 +112,8 @@ impl<'a> Packet6<'a> {
 
     /// The first label option with its octet in the packet.
     pub fn label_option(&self) -> Option<(usize, &'a [u8])>
-        ensures { option_map (λ x. record { place = x.0; octets = x.1.now }) result ≡ self.now.label }
+        ensures { option_map
+            (λ x. record { place = x.0; octets = x.1.now }) result ≡ self.now.label }
     {
         self.parts.label
     }
@@ -127,7 +128,9 @@ impl<'a> Packet6<'a> {
 
     /// The fields that are written as they are, with these hops.
     fn fields(&self, hops: u8) -> Fields6
-        ensures value { (option : Option (List ℕ)) → packet6 result option self.now.others self.now.payload ≡ rewritten self.now option hops }
+        ensures value { (option : Option (List ℕ))
+            → packet6 result option self.now.others self.now.payload
+            ≡ rewritten self.now option hops }
         ensures small { result.flow_label < 2 ^ 20 }
     {
         let _ = &self.parts;
@@ -221,9 +224,12 @@ pub fn rebuild6(
     out: &mut Vec<u8>,
 ) -> Result<(), Rebuild>
     requires { IfSome option (λ o. IsLabelOption V6 o.now) }
-    ensures ok { OnOk result (out.new.items ≡ packet_octets (rewritten view.now (option_copied option.entry) hops)) }
-    ensures no_room { (result ≡ Err Rebuild.NoRoom) ↔ (2048 < rebuilt_room (rewritten view.now (option_copied option.entry) hops)) }
-    ensures too_long { (result ≡ Err Rebuild.TooLong) ↔ ((rebuilt_room (rewritten view.now (option_copied option.entry) hops) ≤ 2048)
+    ensures ok { OnOk result
+        (out.new.items ≡ packet_octets (rewritten view.now (option_copied option.entry) hops)) }
+    ensures no_room { (result ≡ Err Rebuild.NoRoom) ↔
+        (2048 < rebuilt_room (rewritten view.now (option_copied option.entry) hops)) }
+    ensures too_long { (result ≡ Err Rebuild.TooLong) ↔
+        ((rebuilt_room (rewritten view.now (option_copied option.entry) hops) ≤ 2048)
         × (65535 < rebuilt_length (rewritten view.now (option_copied option.entry) hops))) }
     ensures err { OnErr result (out.new.items ≡ []) }
 {

@@ -57,7 +57,9 @@ fn scan(version: Version, bytes: &[u8]) -> Result<(Parts<'_>, Option<usize>), He
 /// Reads the packet at the front of the octets; a second label option is the last fault.
 #[inline(always)]
 pub fn read(version: Version, bytes: &[u8]) -> Result<Parts<'_>, HeadFault>
-    ensures ok { IfOk result (λ parts. Holds version parts × (packet_of version bytes.now ≡ Ok (view_of version parts))) }
+    ensures ok { IfOk result
+        (λ parts. Holds version parts
+        × (packet_of version bytes.now ≡ Ok (view_of version parts))) }
     ensures err { IfErr result (λ fault. packet_of version bytes.now ≡ Err fault) }
 {
     let (parts, second) = scan(version, bytes)?;
@@ -70,7 +72,8 @@ pub fn read(version: Version, bytes: &[u8]) -> Result<Parts<'_>, HeadFault>
 /// Reads as `read` does, but allows a second label option.
 #[inline(always)]
 pub fn front(version: Version, bytes: &[u8]) -> Result<Parts<'_>, HeadFault>
-    ensures ok { IfOk result (λ parts. Holds version parts × (front_of version bytes.now ≡ Ok (view_of version parts))) }
+    ensures ok { IfOk result
+        (λ parts. Holds version parts × (front_of version bytes.now ≡ Ok (view_of version parts))) }
     ensures err { IfErr result (λ fault. front_of version bytes.now ≡ Err fault) }
 {
     let (parts, _) = scan(version, bytes)?;

@@ -47,7 +47,8 @@ fn with_eight(total: u64, first: u32, second: u32) -> u64
 /// What fewer than eight octets add to a sum that is taken modulo 65,535.
 fn last_sum(octets: &[u8]) -> u64
     requires { length octets.now < 8 }
-    ensures value { (total : ℕ) → modulo (total + result) ≡ modulo (total + sum (words_of octets.now)) }
+    ensures value { (total : ℕ)
+        → modulo (total + result) ≡ modulo (total + sum (words_of octets.now)) }
     ensures small { result < 2 ^ 33 }
 {
     let [a, b, c, d, after @ ..] = octets else {

@@ -32,7 +32,8 @@ pub fn step(version: Version, rest: &[u8]) -> Step
 /// What was found, with one option more.
 fn with_option<'a>(found: Found<'a>, version: Version, at: usize, option: &'a [u8]) -> Found<'a>
     requires { 0 < length option.now }
-    ensures { (options : List Placed) → Finds version options found.entry → Finds version (options ++ record { place = at; octets = option.now } ∷ []) result }
+    ensures { (options : List Placed) → Finds version options found.entry
+        → Finds version (options ++ record { place = at; octets = option.now } ∷ []) result }
 {
     let Found {
         label,
@@ -56,8 +57,11 @@ fn with_option<'a>(found: Found<'a>, version: Version, at: usize, option: &'a [u
 /// Goes over the octets of a list of options, the first of which has this place.
 fn walk_from(version: Version, area: &[u8], first: usize) -> Result<Found<'_>, HeadFault>
     requires { first + length area.now < 2 ^ 63 }
-    ensures ok { IfOk result (λ found. ((options_from version first area.now).broken ≡ None) × Finds version (options_from version first area.now).options found) }
-    ensures err { IfErr result (λ fault. (options_from version first area.now).broken ≡ Some fault) }
+    ensures ok { IfOk result
+        (λ found. ((options_from version first area.now).broken ≡ None)
+        × Finds version (options_from version first area.now).options found) }
+    ensures err { IfErr result
+        (λ fault. (options_from version first area.now).broken ≡ Some fault) }
 {
     let mut found = Found {
         label: None,
@@ -105,7 +109,9 @@ pub fn option_octets(version: Version, head: &[u8]) -> &[u8]
 /// Goes over the list of options of a header.
 pub fn walk(version: Version, head: &[u8]) -> Result<Found<'_>, HeadFault>
     requires { length head.now < 2 ^ 32 }
-    ensures ok { IfOk result (λ found. ((options_of version head.now).broken ≡ None) × Finds version (options_of version head.now).options found) }
+    ensures ok { IfOk result
+        (λ found. ((options_of version head.now).broken ≡ None)
+        × Finds version (options_of version head.now).options found) }
     ensures err { IfErr result (λ fault. (options_of version head.now).broken ≡ Some fault) }
 {
     walk_from(version, option_octets(version, head), first_place(version))

@@ -65,8 +65,13 @@ fn push_header(
     requires small { length area.now < 65536 }
     requires room { size ≤ 40 }
     requires total { 20 + size + length payload.now ≤ 65535 }
-    requires size { size ≡ length (option_area (packet4 fields.now (option_copied option) (others_in V4 area.now) payload.now)) }
-    ensures { OnOk result (out.new.items ≡ header4 (packet4 fields.now (option_copied option.entry) (others_in V4 area.now) payload.now) 0) }
+    requires size { size ≡ length
+        (option_area
+        (packet4 fields.now (option_copied option) (others_in V4 area.now) payload.now)) }
+    ensures { OnOk result
+        (out.new.items ≡ header4
+        (packet4 fields.now (option_copied option.entry)
+        (others_in V4 area.now) payload.now) 0) }
 {
     out.extend_from_slice(&fixed(fields, size, payload))?;
     push_label(option, out)?;
@@ -98,8 +103,12 @@ fn push4(
     requires small { length area.now < 65536 }
     requires room { size ≤ 40 }
     requires total { 20 + size + length payload.now ≤ 65535 }
-    requires size { size ≡ length (option_area (packet4 fields.now (option_copied option) (others_in V4 area.now) payload.now)) }
-    ensures { OnOk result (out.new.items ≡ packet_octets (packet4 fields.now (option_copied option.entry) (others_in V4 area.now) payload.now)) }
+    requires size { size ≡ length
+        (option_area
+        (packet4 fields.now (option_copied option) (others_in V4 area.now) payload.now)) }
+    ensures { OnOk result
+        (out.new.items ≡ packet_octets
+        (packet4 fields.now (option_copied option.entry) (others_in V4 area.now) payload.now)) }
 {
     push_header(fields, option, area, payload, size, out)?;
     put_checksum(out);
@@ -111,9 +120,14 @@ fn sizes(fields: &Fields4, option: Option<&[u8]>, area: &[u8], payload: &[u8]) -
     requires label { IfSome option (λ o. IsLabelOption V4 o.now) }
     requires whole { IsWholeList V4 area.now }
     requires small { length area.now < 65536 }
-    ensures room { result.0 ≡ rebuilt_room (packet4 fields.now (option_copied option.entry) (others_in V4 area.now) payload.now) }
-    ensures area { result.1 ≡ length (option_area (packet4 fields.now (option_copied option.entry) (others_in V4 area.now) payload.now)) }
-    ensures length { rebuilt_length (packet4 fields.now (option_copied option.entry) (others_in V4 area.now) payload.now) ≡ 20 + result.1 + length payload.now }
+    ensures room { result.0 ≡ rebuilt_room
+        (packet4 fields.now (option_copied option.entry) (others_in V4 area.now) payload.now) }
+    ensures area { result.1 ≡ length
+        (option_area
+        (packet4 fields.now (option_copied option.entry) (others_in V4 area.now) payload.now)) }
+    ensures length { rebuilt_length
+        (packet4 fields.now (option_copied option.entry)
+        (others_in V4 area.now) payload.now) ≡ 20 + result.1 + length payload.now }
     ensures near { result.1 < result.0 + 4 }
 {
     let kept = kept_size(Version::V4, area, label_size(option));
@@ -131,10 +145,20 @@ pub(crate) fn write4_with(
     requires label { IfSome option (λ o. IsLabelOption V4 o.now) }
     requires whole { IsWholeList V4 area.now }
     requires small { length area.now < 65536 }
-    ensures ok { OnOk result (out.new.items ≡ packet_octets (packet4 fields.now (option_copied option.entry) (others_in V4 area.now) payload.now)) }
-    ensures no_room { (result ≡ Err Rebuild.NoRoom) ↔ (40 < rebuilt_room (packet4 fields.now (option_copied option.entry) (others_in V4 area.now) payload.now)) }
-    ensures too_long { (result ≡ Err Rebuild.TooLong) ↔ ((rebuilt_room (packet4 fields.now (option_copied option.entry) (others_in V4 area.now) payload.now) ≤ 40)
-        × (65535 < rebuilt_length (packet4 fields.now (option_copied option.entry) (others_in V4 area.now) payload.now))) }
+    ensures ok { OnOk result
+        (out.new.items ≡ packet_octets
+        (packet4 fields.now (option_copied option.entry) (others_in V4 area.now) payload.now)) }
+    ensures no_room { (result ≡ Err Rebuild.NoRoom) ↔
+        (40 < rebuilt_room
+        (packet4 fields.now (option_copied option.entry) (others_in V4 area.now) payload.now)) }
+    ensures too_long { (result ≡ Err Rebuild.TooLong) ↔
+        ((rebuilt_room
+        (packet4 fields.now (option_copied option.entry)
+        (others_in V4 area.now) payload.now) ≤ 40)
+        ×
+        (65535 < rebuilt_length
+        (packet4 fields.now (option_copied option.entry)
+        (others_in V4 area.now) payload.now))) }
     ensures err { OnErr result (out.new.items ≡ []) }
 {
     out.clear();
@@ -164,10 +188,16 @@ pub fn write4(
     out: &mut Vec<u8>,
 ) -> Result<(), Rebuild>
     requires { IfSome option (λ o. IsLabelOption V4 o.now) }
-    ensures ok { OnOk result (out.new.items ≡ packet_octets (packet4 fields.now (option_copied option.entry) [] payload.now)) }
-    ensures no_room { (result ≡ Err Rebuild.NoRoom) ↔ (40 < rebuilt_room (packet4 fields.now (option_copied option.entry) [] payload.now)) }
-    ensures too_long { (result ≡ Err Rebuild.TooLong) ↔ ((rebuilt_room (packet4 fields.now (option_copied option.entry) [] payload.now) ≤ 40)
-        × (65535 < rebuilt_length (packet4 fields.now (option_copied option.entry) [] payload.now))) }
+    ensures ok { OnOk result
+        (out.new.items ≡ packet_octets
+        (packet4 fields.now (option_copied option.entry) [] payload.now)) }
+    ensures no_room { (result ≡ Err Rebuild.NoRoom) ↔
+        (40 < rebuilt_room (packet4 fields.now (option_copied option.entry) [] payload.now)) }
+    ensures too_long { (result ≡ Err Rebuild.TooLong) ↔
+        ((rebuilt_room (packet4 fields.now (option_copied option.entry) [] payload.now) ≤ 40)
+        ×
+        (65535 < rebuilt_length
+        (packet4 fields.now (option_copied option.entry) [] payload.now))) }
     ensures err { OnErr result (out.new.items ≡ []) }
 {
     write4_with(fields, option, &[], payload, out)

@@ -45,8 +45,11 @@ fn room(
     requires small { length area.now < 65536 }
     requires others { has_others ≡ has_any (others_in V6 area.now) }
     ensures size { result ≡ hop_size (option_copied option.entry) (others_in V6 area.now) }
-    ensures room { result ≡ rebuilt_room (packet6 fields.now (option_copied option.entry) (others_in V6 area.now) payload.now) }
-    ensures length { rebuilt_length (packet6 fields.now (option_copied option.entry) (others_in V6 area.now) payload.now) ≡ result + length payload.now }
+    ensures room { result ≡ rebuilt_room
+        (packet6 fields.now (option_copied option.entry) (others_in V6 area.now) payload.now) }
+    ensures length { rebuilt_length
+        (packet6 fields.now (option_copied option.entry)
+        (others_in V6 area.now) payload.now) ≡ result + length payload.now }
 {
     written_size(option, area, has_others)
 }
@@ -61,7 +64,9 @@ fn push_fixed(
     requires empty { out.old.items ≡ [] }
     requires flow { fields.now.flow_label < 2 ^ 20 }
     requires total { size + length payload.now ≤ 65535 }
-    ensures octets { OnOk result (out.new.items ≡ fixed6 (packet6 fields.now None [] payload.now) size (if size == 0 then fields.now.protocol else 0)) }
+    ensures octets { OnOk result
+        (out.new.items ≡ fixed6 (packet6 fields.now None [] payload.now) size
+        (if size == 0 then fields.now.protocol else 0)) }
     ensures long { OnOk result (length out.new.items ≡ 40) }
 {
     let class = fields.class;
@@ -95,7 +100,9 @@ fn push_hop_by_hop(
     requires small { length area.now < 65536 }
     requires room { size ≤ 2048 }
     requires size { size ≡ hop_size (option_copied option) (others_in V6 area.now) }
-    ensures { OnOk result (out.new.items ≡ out.old.items ++ hop_of protocol (option_copied option.entry) (others_in V6 area.now)) }
+    ensures { OnOk result
+        (out.new.items ≡ out.old.items
+        ++ hop_of protocol (option_copied option.entry) (others_in V6 area.now)) }
 {
     if size == 0 {
         return Ok(());
@@ -123,7 +130,9 @@ fn push6(
     requires room { size ≤ 2048 }
     requires total { size + length payload.now ≤ 65535 }
     requires size { size ≡ hop_size (option_copied option) (others_in V6 area.now) }
-    ensures { OnOk result (out.new.items ≡ packet_octets (packet6 fields.now (option_copied option.entry) (others_in V6 area.now) payload.now)) }
+    ensures { OnOk result
+        (out.new.items ≡ packet_octets
+        (packet6 fields.now (option_copied option.entry) (others_in V6 area.now) payload.now)) }
 {
     push_fixed(fields, size, payload, out)?;
     push_hop_by_hop(fields.protocol, option, area, size, out)?;
@@ -144,10 +153,20 @@ pub(crate) fn write6_with(
     requires whole { IsWholeList V6 area.now }
     requires small { length area.now < 65536 }
     requires others { has_others ≡ has_any (others_in V6 area.now) }
-    ensures ok { OnOk result (out.new.items ≡ packet_octets (packet6 fields.now (option_copied option.entry) (others_in V6 area.now) payload.now)) }
-    ensures no_room { (result ≡ Err Rebuild.NoRoom) ↔ (2048 < rebuilt_room (packet6 fields.now (option_copied option.entry) (others_in V6 area.now) payload.now)) }
-    ensures too_long { (result ≡ Err Rebuild.TooLong) ↔ ((rebuilt_room (packet6 fields.now (option_copied option.entry) (others_in V6 area.now) payload.now) ≤ 2048)
-        × (65535 < rebuilt_length (packet6 fields.now (option_copied option.entry) (others_in V6 area.now) payload.now))) }
+    ensures ok { OnOk result
+        (out.new.items ≡ packet_octets
+        (packet6 fields.now (option_copied option.entry) (others_in V6 area.now) payload.now)) }
+    ensures no_room { (result ≡ Err Rebuild.NoRoom) ↔
+        (2048 < rebuilt_room
+        (packet6 fields.now (option_copied option.entry) (others_in V6 area.now) payload.now)) }
+    ensures too_long { (result ≡ Err Rebuild.TooLong) ↔
+        ((rebuilt_room
+        (packet6 fields.now (option_copied option.entry)
+        (others_in V6 area.now) payload.now) ≤ 2048)
+        ×
+        (65535 < rebuilt_length
+        (packet6 fields.now (option_copied option.entry)
+        (others_in V6 area.now) payload.now))) }
     ensures err { OnErr result (out.new.items ≡ []) }
 {
     out.clear();
@@ -178,10 +197,16 @@ pub fn write6(
 ) -> Result<(), Rebuild>
     requires flow { fields.now.flow_label < 2 ^ 20 }
     requires label { IfSome option (λ o. IsLabelOption V6 o.now) }
-    ensures ok { OnOk result (out.new.items ≡ packet_octets (packet6 fields.now (option_copied option.entry) [] payload.now)) }
-    ensures no_room { (result ≡ Err Rebuild.NoRoom) ↔ (2048 < rebuilt_room (packet6 fields.now (option_copied option.entry) [] payload.now)) }
-    ensures too_long { (result ≡ Err Rebuild.TooLong) ↔ ((rebuilt_room (packet6 fields.now (option_copied option.entry) [] payload.now) ≤ 2048)
-        × (65535 < rebuilt_length (packet6 fields.now (option_copied option.entry) [] payload.now))) }
+    ensures ok { OnOk result
+        (out.new.items ≡ packet_octets
+        (packet6 fields.now (option_copied option.entry) [] payload.now)) }
+    ensures no_room { (result ≡ Err Rebuild.NoRoom) ↔
+        (2048 < rebuilt_room (packet6 fields.now (option_copied option.entry) [] payload.now)) }
+    ensures too_long { (result ≡ Err Rebuild.TooLong) ↔
+        ((rebuilt_room (packet6 fields.now (option_copied option.entry) [] payload.now) ≤ 2048)
+        ×
+        (65535 < rebuilt_length
+        (packet6 fields.now (option_copied option.entry) [] payload.now))) }
     ensures err { OnErr result (out.new.items ≡ []) }
 {
     write6_with(fields, option, &[], false, payload, out)

@@ -73,8 +73,10 @@ impl Draft {
         words: &mut Vec<Word<'a>>,
     ) -> Result<(), LineStop>
         requires { length self.old.steps < 2 ^ 32 }
-        ensures ok { OnOk result (read_line with_translations own.now self.old number line.now ≡ Ok self.new) }
-        ensures stop { IfErr result (IsStopOf (read_line with_translations own.now self.old number line.now)) }
+        ensures ok { OnOk result
+            (read_line with_translations own.now self.old number line.now ≡ Ok self.new) }
+        ensures stop { IfErr result
+            (IsStopOf (read_line with_translations own.now self.old number line.now)) }
     {
         if let Some(place) = first_unfit(line) {
             return Err(LineStop::at(place, ScriptKind::Octet));
@@ -121,8 +123,10 @@ impl Draft {
     #[tactic(auto, unfolding(crate::specs::Line::read_words))]
     fn read_words(&mut self, own: &str, end: usize, words: &[Word]) -> Result<(), LineStop>
         requires { length self.old.steps < 2 ^ 32 }
-        ensures ok { OnOk result (read_words with_translations own.now self.old end words.now ≡ Ok self.new) }
-        ensures stop { IfErr result (IsStopOf (read_words with_translations own.now self.old end words.now)) }
+        ensures ok { OnOk result
+            (read_words with_translations own.now self.old end words.now ≡ Ok self.new) }
+        ensures stop { IfErr result
+            (IsStopOf (read_words with_translations own.now self.old end words.now)) }
     {
         let [first, behind @ ..] = words else {
             return Ok(());
@@ -171,8 +175,10 @@ impl Draft {
     }
 
     fn read_table(&mut self, end: usize, first: &Word, words: &[Word]) -> Result<(), LineStop>
-        ensures ok { OnOk result (read_table with_translations self.old end first.now words.now ≡ Ok self.new) }
-        ensures stop { IfErr result (IsStopOf (read_table with_translations self.old end first.now words.now)) }
+        ensures ok { OnOk result
+            (read_table with_translations self.old end first.now words.now ≡ Ok self.new) }
+        ensures stop { IfErr result
+            (IsStopOf (read_table with_translations self.old end first.now words.now)) }
     {
         let Some(node) = self.current else {
             let kind = if starts_table(first) {
@@ -250,7 +256,8 @@ impl Draft {
 
 /// The readings of all nodes: the empty one where no line gives one.
 fn all_readings(alloc: Global, given: Vec<Option<Reading>>) -> Result<Vec<Reading>, OutOfMemory>
-    ensures { IfOk result (λ all. all.items ≡ map (λ named. unwrap_or named no_meanings) given.items) }
+    ensures { IfOk result
+        (λ all. all.items ≡ map (λ named. unwrap_or named no_meanings) given.items) }
 {
     let mut all = Vec::with_capacity(alloc, given.len())?;
     for reading in given {

@@ -23,7 +23,8 @@ ghost use Rattle.label_commands.specs.Editions.{has_command};
 /// A script keeps within its limits, has a reading of each node, and its steps and hops are of its nodes. Hops are in order, names of
 /// captures apart, and the steps above flows don't get fewer.
 pub fn scripts_are_sound()
-    ensures { (edition : Edition) (own text : List ℕ) (script : Script) → IsScript edition own text script
+    ensures { (edition : Edition) (own text : List ℕ) (script : Script)
+        → IsScript edition own text script
         → IsSoundScript own script }
 {}
 
@@ -37,7 +38,8 @@ pub fn faults_stand_in_the_text()
 pub fn written_command_is_a_line()
     ensures { (blanks text : List ℕ) (command : NodeCommand)
         → All (λ octet. IsTrue (is_blank octet)) blanks → IsCommand command
-        → lines ((blanks ++ command_text command) ++ (10 ∷ text)) ≡ (blanks ++ command_text command) ∷ lines text }
+        → lines ((blanks ++ command_text command) ++ (10 ∷ text)) ≡
+        (blanks ++ command_text command) ∷ lines text }
 {}
 
 /// That line is the command as a step of the node that it stands under.
@@ -45,18 +47,22 @@ pub fn written_command_is_a_step()
     ensures { (own blanks : List ℕ) (above : Above) (node number : ℕ) (command : NodeCommand)
         → All (λ octet. IsTrue (is_blank octet)) blanks → IsCommand command
         → above.current ≡ Some node → number ≤ limit_of Lines
-        → read_line with_translations own above number (blanks ++ command_text command) ≡ Ok (with_step above node command) }
+        → read_line with_translations own above number (blanks ++ command_text command) ≡ Ok
+        (with_step above node command) }
 {}
 
 /// So a listing of commands, each on a line behind the same blanks, reads back as these steps of the node, whatever stands behind it in
 /// the script.
 pub fn written_listing_reads_back()
-    ensures { (own blanks : List ℕ) (above : Above) (node number : ℕ) (commands : List NodeCommand) (text : List ℕ)
+    ensures { (own blanks : List ℕ) (above : Above) (node number : ℕ)
+        (commands : List NodeCommand) (text : List ℕ)
         → All (λ octet. IsTrue (is_blank octet)) blanks → All IsCommand commands
         → above.current ≡ Some node → number + length commands ≤ limit_of Lines + 1
         → read_lines with_translations own above number
-        (lines (flat_map (λ command. (blanks ++ command_text command) ++ (10 ∷ [])) commands ++ text))
-        ≡ read_lines with_translations own (fold (λ before command. with_step before node command) above commands)
+        (lines
+        (flat_map (λ command. (blanks ++ command_text command) ++ (10 ∷ [])) commands ++ text))
+        ≡ read_lines with_translations own
+        (fold (λ before command. with_step before node command) above commands)
         (number + length commands) (lines text) }
 {}
 
@@ -75,7 +81,8 @@ pub fn scripts_with_ranges_are_kept()
 
 /// The numbers of a script's commands and the labels of its flows are within their bounds, and each node's reading is one.
 pub fn numbers_of_scripts_are_bounded()
-    ensures { (edition : Edition) (own text : List ℕ) (script : Script) → IsScript edition own text script
+    ensures { (edition : Edition) (own text : List ℕ) (script : Script)
+        → IsScript edition own text script
         → IsBoundedScript script }
 {}
 
@@ -87,6 +94,7 @@ pub fn no_meanings_are_a_reading()
 /// A script's commands are those of its edition: before the last edition none defines a translated CALIPSO DOI, and none takes away one
 /// address of a domain.
 pub fn commands_are_of_their_edition()
-    ensures { (edition : Edition) (own text : List ℕ) (script : Script) → IsScript edition own text script
+    ensures { (edition : Edition) (own text : List ℕ) (script : Script)
+        → IsScript edition own text script
         → All (λ (step : StepValue). IsTrue (has_command edition step.command)) script.steps }
 {}

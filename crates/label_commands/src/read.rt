@@ -30,8 +30,11 @@ pub fn read_script(alloc: Global, text: &[u8], own_name: &str) -> Result<Script,
 }
 
 fn read_lines(alloc: Global, text: &[u8], own: &str) -> Result<Draft, ScriptStop>
-    ensures ok { IfOk result (λ draft. read_lines with_translations own.now nothing_above 1 (lines text.now) ≡ Ok draft) }
-    ensures stop { IfErr result (IsStopOfLines (read_lines with_translations own.now nothing_above 1 (lines text.now))) }
+    ensures ok { IfOk result
+        (λ draft. read_lines with_translations own.now nothing_above 1
+        (lines text.now) ≡ Ok draft) }
+    ensures stop { IfErr result
+        (IsStopOfLines (read_lines with_translations own.now nothing_above 1 (lines text.now))) }
 {
     let mut draft = Draft::empty(alloc);
     let mut words = Vec::new(alloc);

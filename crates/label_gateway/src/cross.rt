@@ -38,8 +38,10 @@ pub fn cross_to_six(
 ) -> Result<(), Stop>
     requires version { view.now.version ≡ V4 }
     requires empty { out.old.items ≡ [] }
-    ensures value { Answers packet_alone (crossed_under tables.now (Calipso doi) label.now view.now hops) result out.new.items }
-    ensures goes { OnOk result (CanCrossOut V6 (outgoing tables.now.definitions (Calipso doi) label.now)
+    ensures value { Answers packet_alone
+        (crossed_under tables.now (Calipso doi) label.now view.now hops) result out.new.items }
+    ensures goes { OnOk result
+        (CanCrossOut V6 (outgoing tables.now.definitions (Calipso doi) label.now)
         (six_of tables.now.pairs view.now.source) (six_of tables.now.pairs view.now.destination)) }
 {
     let Some(source) = tables.find_six(view.source()) else {
@@ -74,9 +76,12 @@ pub fn cross_to_four(
 ) -> Result<(), Stop>
     requires version { view.now.version ≡ V6 }
     requires empty { out.old.items ≡ [] }
-    ensures value { Answers packet_alone (crossed_under tables.now (Cipso doi) label.now view.now hops) result out.new.items }
-    ensures goes { OnOk result (CanCrossOut V4 (outgoing tables.now.definitions (Cipso doi) label.now)
-        (four_of tables.now.pairs view.now.source) (four_of tables.now.pairs view.now.destination)) }
+    ensures value { Answers packet_alone
+        (crossed_under tables.now (Cipso doi) label.now view.now hops) result out.new.items }
+    ensures goes { OnOk result
+        (CanCrossOut V4 (outgoing tables.now.definitions (Cipso doi) label.now)
+        (four_of tables.now.pairs view.now.source)
+        (four_of tables.now.pairs view.now.destination)) }
 {
     let Some(source) = tables.find_four(view.source()) else {
         return Err(Stop::Denied(Denial::NoPair));
@@ -105,7 +110,8 @@ fn write_six(
 ) -> Result<(), Stop>
     requires crossable { cross_cause view.now ≡ None }
     requires label { IsLabelOption V6 option.now }
-    ensures value { Crosses (crossed_with view.now source destination (Some option.now) hops) result out.new.items }
+    ensures value { Crosses
+        (crossed_with view.now source destination (Some option.now) hops) result out.new.items }
     ensures source { IsAddressOf V6 source }
     ensures destination { IsAddressOf V6 destination }
 {
@@ -127,7 +133,8 @@ fn write_four(
 ) -> Result<(), Stop>
     requires crossable { cross_cause view.now ≡ None }
     requires label { IsLabelOption V4 option.now }
-    ensures value { Crosses (crossed_with view.now source destination (Some option.now) hops) result out.new.items }
+    ensures value { Crosses
+        (crossed_with view.now source destination (Some option.now) hops) result out.new.items }
     ensures source { IsAddressOf V4 source }
     ensures destination { IsAddressOf V4 destination }
 {

@@ -44,7 +44,8 @@ pub fn forward(
     packet: &[u8],
     out: &mut Vec<u8>,
 ) -> Result<Passed, Stop>
-    ensures { AnswersOf passed_on packet.now (forward_of tables.now from.now to.now domain.now) result out.new.items }
+    ensures { AnswersOf passed_on packet.now
+        (forward_of tables.now from.now to.now domain.now) result out.new.items }
 {
     let mut room = Room::lowest();
     let carrier = forward_into(tables, from, to, domain, packet, &mut room, out)?;
@@ -64,7 +65,8 @@ pub fn forward_into(
     room: &mut Room,
     out: &mut Vec<u8>,
 ) -> Result<Carrier, Stop>
-    ensures { AnswersOf (went_on room.new.local) packet.now (forward_of tables.now from.now to.now domain.now) result out.new.items }
+    ensures { AnswersOf (went_on room.new.local) packet.now
+        (forward_of tables.now from.now to.now domain.now) result out.new.items }
 {
     out.clear();
     match carried_into(packet, &mut room.wire) {
@@ -84,11 +86,15 @@ fn forward_marked(
     out: &mut Vec<u8>,
 ) -> Result<Carrier, Stop>
     requires version { IsOfItsVersion marked.now.packet }
-    requires place { IfSome (wire_with marked.now.mark room.old.wire) (λ w. wire_place w + 10 < 2 ^ 64) }
+    requires place { IfSome (wire_with marked.now.mark room.old.wire)
+        (λ w. wire_place w + 10 < 2 ^ 64) }
     requires empty { out.old.items ≡ [] }
-    ensures value { Answers (went_on room.new.local) (forward_of tables.now from.now to.now domain.now (labelled (headers_of marked.now.packet) (wire_with marked.now.mark room.old.wire)))
+    ensures value { Answers (went_on room.new.local)
+        (forward_of tables.now from.now to.now domain.now
+        (labelled (headers_of marked.now.packet) (wire_with marked.now.mark room.old.wire)))
         result out.new.items }
-    ensures goes { OnOk result (CanGoOnFrom tables.now domain.now room.new.local (headers_of marked.now.packet)) }
+    ensures goes { OnOk result
+        (CanGoOnFrom tables.now domain.now room.new.local (headers_of marked.now.packet)) }
 {
     match protocol_for(
         tables,
@@ -127,10 +133,13 @@ fn protocol_for(
 ) -> Result<Protocol, Denial>
     requires version { IsOfItsVersion marked.now.packet }
     requires place { IfSome (wire_with marked.now.mark wire.now) (λ w. wire_place w + 10 < 2 ^ 64) }
-    ensures value { forward_of tables.now from.now to.now domain.now (labelled (headers_of marked.now.packet) (wire_with marked.now.mark wire.now))
-        ≡ forwarded_with tables.now high.new (labelled (headers_of marked.now.packet) (wire_with marked.now.mark wire.now)) result }
+    ensures value { forward_of tables.now from.now to.now domain.now
+        (labelled (headers_of marked.now.packet) (wire_with marked.now.mark wire.now))
+        ≡ forwarded_with tables.now high.new
+        (labelled (headers_of marked.now.packet) (wire_with marked.now.mark wire.now)) result }
     ensures found { IfOk result (λ protocol. find_of tables.now.domains domain.now
-        (address_in (headers_of marked.now.packet).version (headers_of marked.now.packet).destination) ≡ Some protocol) }
+        (address_in (headers_of marked.now.packet).version
+        (headers_of marked.now.packet).destination) ≡ Some protocol) }
 {
     let arrival = match labels_into(tables, from, marked, wire, high) {
         Ok(arrival) => arrival,

@@ -36,7 +36,8 @@ pub fn packets_that_may_go_on_are_forwarded()
 /// What goes on says the label as its protocol does, in its own version as in the other.
 pub fn packets_that_go_on_say_the_label()
     ensures { (t : TableState) (protocol : Protocol) (label : Label) (p new : ParsedPacket Wire)
-        → onward t protocol label p ≡ Ok new → outgoing t.definitions protocol label ≡ Ok new.label }
+        → onward t protocol label p ≡ Ok new
+        → outgoing t.definitions protocol label ≡ Ok new.label }
 {}
 
 /// What goes on has the protocol of the packet that came in, and its version too, unless that one can cross.
@@ -50,9 +51,12 @@ pub fn packets_that_go_on_keep_their_protocol()
 /// it comes in, Expired, OutsideRange where it would go out and, where it would cross, NoPair and NotCrossable, and where none does, as
 /// Inexpressible.
 pub fn packets_without_an_option_are_not_forwarded()
-    ensures { (t : TableState) (from to domain : List ℕ) (p : ParsedPacket Wire) (lacks : HasNoWayOn t from domain p)
+    ensures { (t : TableState) (from to domain : List ℕ) (p : ParsedPacket Wire)
+        (lacks : HasNoWayOn t from domain p)
         → forward_of t from to domain p
-        ≡ Err (unwrap_or (before_forwarding t from to lacks.incoming lacks.none.protocol p) Inexpressible) }
+        ≡ Err
+        (unwrap_or
+        (before_forwarding t from to lacks.incoming lacks.none.protocol p) Inexpressible) }
 {}
 
 /// A packet that is forwarded has one hop less.
@@ -64,7 +68,8 @@ pub fn forwarding_takes_a_hop()
 /// A packet that was read and is forwarded may be written, within its room and its length, so it is read as itself
 /// (`written_packet_reads_back` in `packet_label`).
 pub fn forwarded_packets_may_be_written()
-    ensures { (t : TableState) (from to domain octets : List ℕ) (p : ParsedPacket Wire) (f : Forwarded)
+    ensures { (t : TableState) (from to domain octets : List ℕ) (p : ParsedPacket Wire)
+        (f : Forwarded)
         → AreDefinitions t.definitions → ArePairs t.pairs → IsLabel f.label
         → IsOctets octets → IsPacket octets p
         → forward_of t from to domain p ≡ Ok f → IsInRoom f.packet }
@@ -81,7 +86,8 @@ pub fn labelled_crossings_keep_the_sum()
 /// So does a packet that was read and is forwarded, in its own version or in the other: a segment that verifies does so afterwards, and
 /// a damaged one stays damaged.
 pub fn forwarded_packets_keep_the_sum()
-    ensures { (t : TableState) (from to domain octets : List ℕ) (p : ParsedPacket Wire) (f : Forwarded)
+    ensures { (t : TableState) (from to domain octets : List ℕ) (p : ParsedPacket Wire)
+        (f : Forwarded)
         → ArePairs t.pairs → IsOctets octets → IsPacket octets p
         → forward_of t from to domain p ≡ Ok f → checksum_sum f.packet ≡ checksum_sum p }
 {}

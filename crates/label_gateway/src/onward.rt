@@ -35,7 +35,8 @@ pub fn go_on(
 ) -> Result<(), Stop>
     requires version { IsOfItsVersion packet.now }
     requires empty { out.old.items ≡ [] }
-    ensures value { Answers packet_alone (onward tables.now protocol label.now (headers_of packet.now)) result out.new.items }
+    ensures value { Answers packet_alone
+        (onward tables.now protocol label.now (headers_of packet.now)) result out.new.items }
     ensures goes { OnOk result (CanGoOn tables.now protocol label.now (headers_of packet.now)) }
 {
     let hops = hops_of(packet).saturating_sub(1);

@@ -45,7 +45,8 @@ pub fn source_of(packet: &Packet<'_>) -> Address
 /// The address that a packet goes to.
 pub fn destination_of(packet: &Packet<'_>) -> Address
     requires { IsOfItsVersion packet.now }
-    ensures { result ≡ address_in (headers_of packet.now).version (headers_of packet.now).destination }
+    ensures { result ≡ address_in (headers_of packet.now).version
+        (headers_of packet.now).destination }
 {
     match packet {
         Packet::V4(view) => Address::V4(view.destination()),
@@ -68,7 +69,9 @@ pub fn labels_into<'a>(
 ) -> Result<Arrival<'a>, Denial>
     requires version { IsOfItsVersion marked.now.packet }
     requires place { IfSome (wire_with marked.now.mark wire.now) (λ w. wire_place w + 10 < 2 ^ 64) }
-    ensures { label_of tables.now interface.now (labelled (headers_of marked.now.packet) (wire_with marked.now.mark wire.now)) ≡ incoming_as high.new result }
+    ensures { label_of tables.now interface.now
+        (labelled (headers_of marked.now.packet)
+        (wire_with marked.now.mark wire.now)) ≡ incoming_as high.new result }
 {
     match marked.mark {
         Some(mark) => option_labels(tables.dois(), mark, wire, high),
@@ -106,7 +109,8 @@ fn option_labels<'a>(
     local: &mut Label,
 ) -> Result<Arrival<'a>, Denial>
     requires { wire_place (marked_wire mark wire.now) + 10 < 2 ^ 64 }
-    ensures { option_labels definitions.now (marked_wire mark wire.now) ≡ incoming_as local.new result }
+    ensures { option_labels definitions.now
+        (marked_wire mark wire.now) ≡ incoming_as local.new result }
 {
     match mark {
         Mark::Cipso { at, doi, tag } => {
@@ -134,7 +138,8 @@ fn translated<'a>(
     wire: &Label,
     local: &mut Label,
 ) -> Result<Arrival<'a>, Denial>
-    ensures { translated carrier (local_label definition.now wire.now) ≡ incoming_as local.new result }
+    ensures { translated carrier
+        (local_label definition.now wire.now) ≡ incoming_as local.new result }
 {
     match to_local_into(definition, wire, local) {
         Ok(()) => Ok(Arrival { carrier, low: None }),

@@ -26,7 +26,8 @@ pub fn octets_have_a_verdict<X>()
 
 /// Where the low end of each receiver is level 0 without a category, no packet is below a receiver's range.
 pub fn lowest_ends_deny_nothing()
-    ensures { (t : TableState) (interface : List ℕ) (p : ParsedPacket Wire) → HaveLowestEnds t.receivers
+    ensures { (t : TableState) (interface : List ℕ) (p : ParsedPacket Wire)
+        → HaveLowestEnds t.receivers
         → receive_of t interface p ≡ Err BelowRange → ⊥ }
 {}
 

@@ -40,7 +40,8 @@ pub fn arrival_is_outside(
     arrival: &Arrival<'_>,
     high: &Label,
 ) -> bool
-    ensures { result ≡ is_outside tables.now.ranges interface.now (incoming_with arrival.now high.now).low high.now }
+    ensures { result ≡ is_outside tables.now.ranges interface.now
+        (incoming_with arrival.now high.now).low high.now }
 {
     match arrival.low {
         Some(low) => is_outside(tables, interface, low, high),

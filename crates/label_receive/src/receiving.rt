@@ -48,7 +48,8 @@ pub fn receive_into(
     packet: &[u8],
     room: &mut Room,
 ) -> Result<Address, Denial>
-    ensures { IsJudged packet.now (receive_of tables.now interface.now) (left_in room.new.local result) }
+    ensures { IsJudged packet.now (receive_of tables.now interface.now)
+        (left_in room.new.local result) }
 {
     match carried_into(packet, &mut room.wire) {
         Ok(marked) => receive_marked(tables, interface, &marked, &room.wire, &mut room.local),
@@ -67,7 +68,9 @@ pub fn receive_marked(
 ) -> Result<Address, Denial>
     requires version { IsOfItsVersion marked.now.packet }
     requires place { IfSome (wire_with marked.now.mark wire.now) (λ w. wire_place w + 10 < 2 ^ 64) }
-    ensures { receive_of tables.now interface.now (labelled (headers_of marked.now.packet) (wire_with marked.now.mark wire.now)) ≡ left_in high.new result }
+    ensures { receive_of tables.now interface.now
+        (labelled (headers_of marked.now.packet)
+        (wire_with marked.now.mark wire.now)) ≡ left_in high.new result }
 {
     let arrival = match labels_into(tables, interface, marked, wire, high) {
         Ok(arrival) => arrival,
@@ -97,7 +100,8 @@ fn refusal_of(
     low: &Label,
     high: &Label,
 ) -> Option<Denial>
-    ensures { result ≡ refusal_of domains.now receiver.now source.now (record { carrier = carrier; low = low.now; high = high.now }) }
+    ensures { result ≡ refusal_of domains.now receiver.now source.now
+        (record { carrier = carrier; low = low.now; high = high.now }) }
 {
     if map_refuses(domains, &receiver.domain, source, carrier) {
         return Some(Denial::MapRefuses);

@@ -16,7 +16,11 @@ pub struct Room {
 impl Room {
     /// A room with the lowest labels.
     pub fn lowest() -> Room
-        ensures { result ≡ record { wire = record { level = 0; cats = [] }; local = record { level = 0; cats = [] } } }
+        ensures { result
+            ≡ record {
+              wire = record { level = 0; cats = [] };
+              local = record { level = 0; cats = [] };
+            } }
     {
         Room {
             wire: Label::lowest(),

@@ -24,46 +24,58 @@ ghost use Rattle.label_send.specs.NoOption.{HasNoOption, before_sending};
 /// A packet that is sent has right headers without a label option, a label that the interface takes, and a protocol of its version under
 /// which it goes out; version, protocol, addresses and hops stay.
 pub fn sent_packets_may_go_out()
-    ensures { (t : TableState) (domain interface : List ℕ) (label : Label) (octets : List ℕ) (sent : Sent)
-        → send_octets t domain interface label octets ≡ Ok sent → IsSent t domain interface label octets sent }
+    ensures { (t : TableState) (domain interface : List ℕ) (label : Label) (octets : List ℕ)
+        (sent : Sent)
+        → send_octets t domain interface label octets ≡ Ok sent
+        → IsSent t domain interface label octets sent }
 {}
 
 /// Under a protocol that a node's map gives, a label that doesn't go out is one that no option of the DOI's definition can say; that the
 /// DOI isn't defined never comes.
 pub fn labels_that_stay_are_inexpressible()
-    ensures { (definitions : Entries) (domains : Domains) (domain : List ℕ) (address : Address) (protocol : Protocol)
+    ensures { (definitions : Entries) (domains : Domains) (domain : List ℕ) (address : Address)
+        (protocol : Protocol)
         (label : Label) (why : Denial) → NamesDefined definitions domains
         → find_of domains domain address ≡ Some protocol
-        → outgoing definitions protocol label ≡ Err why → (why ≡ Inexpressible) × IsInexpressible definitions protocol label }
+        → outgoing definitions protocol label ≡ Err why → (why ≡ Inexpressible)
+        × IsInexpressible definitions protocol label }
 {}
 
 /// A label that no option of the DOI's definition can say doesn't go out.
 pub fn inexpressible_labels_stay()
-    ensures { (definitions : Entries) (protocol : Protocol) (label : Label) → IsInexpressible definitions protocol label
+    ensures { (definitions : Entries) (protocol : Protocol) (label : Label)
+        → IsInexpressible definitions protocol label
         → outgoing definitions protocol label ≡ Err Inexpressible }
 {}
 
 /// A packet with such a label isn't sent: it is denied by the first of AlreadyLabelled, OutsideRange and WrongVersion that holds, and
 /// where none does, as Inexpressible.
 pub fn packets_without_an_option_are_not_sent()
-    ensures { (t : TableState) (domain interface : List ℕ) (label : Label) (h : Headers) (lacks : HasNoOption t domain label h)
+    ensures { (t : TableState) (domain interface : List ℕ) (label : Label) (h : Headers)
+        (lacks : HasNoOption t domain label h)
         → send_of t domain interface label h
         ≡ Err (unwrap_or (before_sending t interface lacks.protocol label h) Inexpressible) }
 {}
 
 /// What goes out under a protocol that suits a version can be said in an option of this version.
 pub fn outgoing_labels_can_be_said()
-    ensures { (definitions : Entries) (protocol : Protocol) (label : Label) (version : Version) → AreDefinitions definitions
-        → IsLabel label → IsTrue (suits version protocol) → CanGoOut version (outgoing definitions protocol label) }
+    ensures { (definitions : Entries) (protocol : Protocol) (label : Label) (version : Version)
+        → AreDefinitions definitions
+        → IsLabel label → IsTrue (suits version protocol)
+        → CanGoOut version (outgoing definitions protocol label) }
 {}
 
 /// A packet that is sent may be written, within its room and its length, so it is read as itself (`written_packet_reads_back` in
 /// `packet_label`), where its old values fit their fields and an option can say what goes out.
 pub fn sent_packets_may_be_written()
-    ensures packets { (definitions : Entries) (protocol : Protocol) (label : Label) (p new : ParsedPacket Wire) (hops : ℕ)
-        → IsParsed (rewritten p None hops) → CanGoOut p.version (outgoing definitions protocol label)
+    ensures packets { (definitions : Entries) (protocol : Protocol) (label : Label)
+        (p new : ParsedPacket Wire) (hops : ℕ)
+        → IsParsed (rewritten p None hops)
+        → CanGoOut p.version (outgoing definitions protocol label)
         → sent_under definitions protocol label p hops ≡ Ok new → IsInRoom new }
-    ensures fronts { (definitions : Entries) (protocol : Protocol) (label : Label) (h : Headers) (new : ParsedPacket Wire) (hops : ℕ)
-        → IsParsed (rewritten h None hops) → CanGoOut h.version (outgoing definitions protocol label)
+    ensures fronts { (definitions : Entries) (protocol : Protocol) (label : Label) (h : Headers)
+        (new : ParsedPacket Wire) (hops : ℕ)
+        → IsParsed (rewritten h None hops)
+        → CanGoOut h.version (outgoing definitions protocol label)
         → sent_under definitions protocol label h hops ≡ Ok new → IsInRoom new }
 {}

@@ -28,8 +28,10 @@ pub fn cipso_for(
     wire: &mut Label,
     option: &mut ArrayVec<u8, 40>,
 ) -> Result<(), Denial>
-    ensures ok { OnOk result (IsExpressed V4 (outgoing tables.now.definitions (Cipso doi) label.now) option.new.items) }
-    ensures err { IfErr result (λ why. outgoing tables.now.definitions (Cipso doi) label.now ≡ Err why) }
+    ensures ok { OnOk result
+        (IsExpressed V4 (outgoing tables.now.definitions (Cipso doi) label.now) option.new.items) }
+    ensures err { IfErr result
+        (λ why. outgoing tables.now.definitions (Cipso doi) label.now ≡ Err why) }
 {
     let Some(def) = definition_for(tables, Proto::Cipso, doi, label, wire) else {
         return Err(Denial::Inexpressible);
@@ -54,8 +56,11 @@ pub fn calipso_for(
     wire: &mut Label,
     option: &mut ArrayVec<u8, 254>,
 ) -> Result<(), Denial>
-    ensures ok { OnOk result (IsExpressed V6 (outgoing tables.now.definitions (Calipso doi) label.now) option.new.items) }
-    ensures err { IfErr result (λ why. outgoing tables.now.definitions (Calipso doi) label.now ≡ Err why) }
+    ensures ok { OnOk result
+        (IsExpressed V6
+        (outgoing tables.now.definitions (Calipso doi) label.now) option.new.items) }
+    ensures err { IfErr result
+        (λ why. outgoing tables.now.definitions (Calipso doi) label.now ≡ Err why) }
 {
     let Some(_) = definition_for(tables, Proto::Calipso, doi, label, wire) else {
         return Err(Denial::Inexpressible);
@@ -76,7 +81,8 @@ fn definition_for<'a>(
     label: &Label,
     wire: &mut Label,
 ) -> Option<&'a DoiDef>
-    ensures { IsDefinedFor tables.now.definitions proto doi label.now (option_copied result) wire.new }
+    ensures { IsDefinedFor tables.now.definitions proto doi label.now
+        (option_copied result) wire.new }
 {
     let def = tables.dois().find(proto, doi)?;
     let Ok(()) = to_wire_into(def, label, wire) else {

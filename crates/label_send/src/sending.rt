@@ -31,8 +31,11 @@ pub fn send(
     packet: &[u8],
     out: &mut Vec<u8>,
 ) -> Result<Carrier, Stop>
-    ensures value { Answers sent_by (send_octets tables.now domain.now interface.now label.now packet.now) result out.new.items }
-    ensures in_room { IfOk (send_octets tables.now domain.now interface.now label.now packet.now) (λ sent. IsInRoom sent.packet) }
+    ensures value { Answers sent_by
+        (send_octets tables.now domain.now interface.now label.now packet.now) result
+        out.new.items }
+    ensures in_room { IfOk (send_octets tables.now domain.now interface.now label.now packet.now)
+        (λ sent. IsInRoom sent.packet) }
 {
     let mut wire = Label::lowest();
     send_into(tables, domain, interface, label, packet, &mut wire, out)
@@ -48,8 +51,11 @@ pub fn send_into(
     wire: &mut Label,
     out: &mut Vec<u8>,
 ) -> Result<Carrier, Stop>
-    ensures value { Answers sent_by (send_octets tables.now domain.now interface.now label.now packet.now) result out.new.items }
-    ensures in_room { IfOk (send_octets tables.now domain.now interface.now label.now packet.now) (λ sent. IsInRoom sent.packet) }
+    ensures value { Answers sent_by
+        (send_octets tables.now domain.now interface.now label.now packet.now) result
+        out.new.items }
+    ensures in_room { IfOk (send_octets tables.now domain.now interface.now label.now packet.now)
+        (λ sent. IsInRoom sent.packet) }
 {
     let (packet, place) = match label_at(packet) {
         Ok(found) => found,
@@ -74,7 +80,8 @@ fn protocol_for(
 ) -> Result<Protocol, Denial>
     requires version { IsOfItsVersion packet.now }
     requires place { place ≡ label_place packet.now }
-    ensures { result ≡ send_protocol tables.now domain.now interface.now label.now (headers_of packet.now) }
+    ensures { result ≡ send_protocol tables.now domain.now interface.now label.now
+        (headers_of packet.now) }
 {
     if let Some(octet) = place {
         return Err(Denial::AlreadyLabelled { octet });
@@ -102,8 +109,11 @@ fn send_front(
 ) -> Result<Carrier, Stop>
     requires version { IsOfItsVersion packet.now }
     requires suits { IsTrue (suits (version_of packet.now) protocol) }
-    ensures value { Answers sent_by (sent_with tables.now label.now (headers_of packet.now) (Ok protocol)) result out.new.items }
-    ensures said { CanGoOut (version_of packet.now) (outgoing tables.now.definitions protocol label.now) }
+    ensures value { Answers sent_by
+        (sent_with tables.now label.now (headers_of packet.now)
+        (Ok protocol)) result out.new.items }
+    ensures said { CanGoOut (version_of packet.now)
+        (outgoing tables.now.definitions protocol label.now) }
     ensures octet { (headers_of packet.now).hops < 256 }
 {
     match send_under(tables, protocol, label, packet, hops(packet), wire, out) {

@@ -35,9 +35,11 @@ pub fn send_under(
 ) -> Result<(), Stop>
     requires version { IsOfItsVersion packet.now }
     requires suits { IsTrue (suits (version_of packet.now) protocol) }
-    ensures value { Answers packet_alone (sent_under tables.now.definitions protocol label.now (headers_of packet.now) hops)
+    ensures value { Answers packet_alone
+        (sent_under tables.now.definitions protocol label.now (headers_of packet.now) hops)
         result out.new.items }
-    ensures said { CanGoOut (version_of packet.now) (outgoing tables.now.definitions protocol label.now) }
+    ensures said { CanGoOut (version_of packet.now)
+        (outgoing tables.now.definitions protocol label.now) }
 {
     match protocol {
         Protocol::Unlbl => rewrite(packet, None, hops, out),
@@ -70,7 +72,8 @@ pub(crate) fn denied(why: Denial, out: &mut Vec<u8>) -> Stop
 // The packet with this option, or none, and these hops.
 fn rewrite(packet: &Packet, option: Option<&[u8]>, hops: u8, out: &mut Vec<u8>) -> Result<(), Stop>
     requires { IfSome option (λ o. IsLabelOption (version_of packet.now) o.now) }
-    ensures { Writes (version_of packet.now) (rewritten (headers_of packet.now) (option_copied option.entry) hops) result out.new.items }
+    ensures { Writes (version_of packet.now)
+        (rewritten (headers_of packet.now) (option_copied option.entry) hops) result out.new.items }
 {
     match relabel_with(packet, option, hops, out) {
         Ok(()) => Ok(()),

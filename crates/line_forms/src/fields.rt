@@ -100,7 +100,10 @@ impl Fields {
         key: &[u8],
         text: &[u8],
     ) -> Result<bool, OutOfMemory>
-        ensures { IfOk result (λ read. (if read then Some self.new else None) ≡ with_value with_translations parameter key.now text.now self.old) }
+        ensures { IfOk result
+            (λ read.
+            (if read then Some self.new else None)
+            ≡ with_value with_translations parameter key.now text.now self.old) }
     {
         self.fill(alloc, parameter, key, text)?;
         Ok(self.has(parameter))
@@ -114,7 +117,8 @@ impl Fields {
         key: &[u8],
         text: &[u8],
     ) -> Result<(), OutOfMemory>
-        ensures { OnOk result (self.new ≡ fields_with with_translations parameter key.now text.now self.old) }
+        ensures { OnOk result
+            (self.new ≡ fields_with with_translations parameter key.now text.now self.old) }
     {
         match parameter {
             Parameter::Doi => self.doi = read_doi(text),

@@ -126,7 +126,8 @@ fn form_with(fixed: &'static [&'static str], slots: &'static [Slot]) -> Form
 impl Row {
     /// The row's form.
     pub fn form(self) -> Form
-        ensures fixed { map (λ word. word.now) result.fixed.now ≡ (form_of with_translations self).fixed }
+        ensures fixed { map (λ word. word.now) result.fixed.now ≡
+            (form_of with_translations self).fixed }
         ensures slots { result.slots.now ≡ (form_of with_translations self).slots }
     {
         match self {

@@ -9,12 +9,14 @@ ghost use Rattle.line_forms.specs.Said.{are_apart, slot_of, read_said};
 
 /// Of no two rows the fixed words of one begin those of the other, so a line is of one row at most.
 pub fn forms_are_apart()
-    ensures { (led : Bool) (edition : Edition) → IsTrue (are_apart edition (line_rows led edition)) }
+    ensures { (led : Bool) (edition : Edition)
+        → IsTrue (are_apart edition (line_rows led edition)) }
 {}
 
 /// A key of a row's parameter is no key of another one of that row.
 pub fn keys_are_distinct()
-    ensures { (edition : Edition) (row : TableRow) → All (λ slot. (key : List ℕ) → IsTrue (is_key slot.parameter key)
+    ensures { (edition : Edition) (row : TableRow)
+        → All (λ slot. (key : List ℕ) → IsTrue (is_key slot.parameter key)
         → slot_of (form_of edition row).slots key ≡ Some slot) (form_of edition row).slots }
 {}
 

@@ -24,8 +24,11 @@ pub struct Said {
 /// Reads a line's words: the fixed words of a row, then its parameters in whatever order they come. `led` says that `netlabelctl`
 /// stands in front of them, where no reading line may stand; `end` is the line's length. The first fault is told at its place.
 pub fn read_said(alloc: Global, led: bool, words: &[Word<'_>], end: usize) -> Result<Said, LineStop>
-    ensures ok { IfOk result (λ said. read_said with_translations (line_rows led with_translations) end words.now ≡ Ok said) }
-    ensures err { IfErr result (IsStopOf (read_said with_translations (line_rows led with_translations) end words.now)) }
+    ensures ok { IfOk result
+        (λ said. read_said with_translations
+        (line_rows led with_translations) end words.now ≡ Ok said) }
+    ensures err { IfErr result
+        (IsStopOf (read_said with_translations (line_rows led with_translations) end words.now)) }
 {
     let row = read_row(line_rows(led), words, end)?;
     let form = row.form();
@@ -43,7 +46,8 @@ pub fn begins_line(text: &[u8]) -> bool
 
 /// Whether a text spells the first fixed word of one of the rows.
 fn begins_one(rows: &[Row], text: &[u8]) -> bool
-    ensures { result ≡ list_any (λ row. first_is (form_of with_translations row).fixed text.now) rows.now }
+    ensures { result ≡ list_any
+        (λ row. first_is (form_of with_translations row).fixed text.now) rows.now }
 {
     let mut rest = rows;
     while let [row, others @ ..] = rest {
@@ -68,7 +72,8 @@ fn first_is(fixed: &[&str], text: &[u8]) -> bool
 /// Reads the fixed words.
 fn read_row(rows: &[Row], words: &[Word<'_>], end: usize) -> Result<Row, LineStop>
     ensures value { result ≡ read_row with_translations rows.now end words.now }
-    ensures fixed { IfOk result (λ row. length (form_of with_translations row).fixed ≤ length words.now) }
+    ensures fixed { IfOk result
+        (λ row. length (form_of with_translations row).fixed ≤ length words.now) }
 {
     let mut most = 0;
     let mut rest = rows;
@@ -86,7 +91,8 @@ fn read_row(rows: &[Row], words: &[Word<'_>], end: usize) -> Result<Row, LineSto
 
 /// How many of the fixed words stand first among the words, up to the first that differs.
 fn shared_words(mut fixed: &[&str], mut words: &[Word<'_>]) -> usize
-    ensures shared { result ≡ common_prefix_len is_spelled (map (λ word. word.now) fixed.now) (map (λ word. word.text) words.now) }
+    ensures shared { result ≡ common_prefix_len is_spelled (map (λ word. word.now) fixed.now)
+        (map (λ word. word.text) words.now) }
     ensures within_fixed { result ≤ length fixed.now }
     ensures within_words { result ≤ length words.now }
 {
@@ -129,7 +135,8 @@ fn read_fields(
     words: &[Word<'_>],
     end: usize,
 ) -> Result<Fields, LineStop>
-    ensures ok { IfOk result (λ fields. read_fields with_translations slots.now end words.now ≡ Ok fields) }
+    ensures ok { IfOk result
+        (λ fields. read_fields with_translations slots.now end words.now ≡ Ok fields) }
     ensures err { IfErr result (IsStopOf (read_fields with_translations slots.now end words.now)) }
 {
     let mut fields = Fields::none();
@@ -160,8 +167,10 @@ fn read_word(
     word: &Word<'_>,
     fields: &mut Fields,
 ) -> Result<(), LineStop>
-    ensures ok { OnOk result (with_word with_translations slots.now word.now fields.old ≡ Ok fields.new) }
-    ensures err { IfErr result (IsStopOf (with_word with_translations slots.now word.now fields.old)) }
+    ensures ok { OnOk result
+        (with_word with_translations slots.now word.now fields.old ≡ Ok fields.new) }
+    ensures err { IfErr result
+        (IsStopOf (with_word with_translations slots.now word.now fields.old)) }
 {
     if slots.is_empty() {
         return Err(LineStop::at(word.at(), ScriptKind::Extra));
@@ -211,8 +220,10 @@ fn read_parameter(
 ) -> Result<(), LineStop>
     requires key { key.now ≡ key_of word.now.text }
     requires value { value.now ≡ after_first (λ c. c == 58) word.now.text }
-    ensures ok { OnOk result (with_parameter with_translations parameter word.now fields.old ≡ Ok fields.new) }
-    ensures err { IfErr result (IsStopOf (with_parameter with_translations parameter word.now fields.old)) }
+    ensures ok { OnOk result
+        (with_parameter with_translations parameter word.now fields.old ≡ Ok fields.new) }
+    ensures err { IfErr result
+        (IsStopOf (with_parameter with_translations parameter word.now fields.old)) }
 {
     if fields.has(parameter) {
         return Err(LineStop::at(word.at(), ScriptKind::Word));

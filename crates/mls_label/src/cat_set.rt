@@ -65,7 +65,8 @@ impl CatSet {
             (self.new ≡ cats_where (λ c. has self.old c || is_within first last c)) }
         ensures few { OnOk result (length (runs_of self.new) ≤ MOST_RUNS) }
         ensures too_many { OnErr result
-            (MOST_RUNS < length (runs_of (cats_where (λ c. has self.old c || is_within first last c)))) }
+            (MOST_RUNS < length
+            (runs_of (cats_where (λ c. has self.old c || is_within first last c)))) }
         ensures one_more { OnOk result (length (runs_of self.new) ≤ length (runs_of self.old) + 1) }
         ensures full { OnErr result (MOST_RUNS ≤ length (runs_of self.old)) }
         ensures err { OnErr result (self.new ≡ self.old) }

@@ -46,7 +46,8 @@ fn hull_with(runs: &[Run], run: Run) -> Run
 // Whether the run is behind all others and touches none.
 fn is_behind(runs: &[Run], run: Run) -> bool
     requires { AreApart 0 runs.now }
-    ensures { IsTrue result → AllWithin (λ (r : Run). r.last + 1 < run.first) runs.now 0 (length runs.now) }
+    ensures { IsTrue result
+        → AllWithin (λ (r : Run). r.last + 1 < run.first) runs.now 0 (length runs.now) }
 {
     match runs.last() {
         Some(last) => last.last < run.first.saturating_sub(1),

@@ -72,5 +72,6 @@ pub fn dominance_is_transitive()
 
 /// Labels that dominate each other are one.
 pub fn dominance_is_antisymmetric()
-    ensures { (a b : Label) → IsCats a.cats → IsCats b.cats → Dominates a b → Dominates b a → a ≡ b }
+    ensures { (a b : Label) → IsCats a.cats → IsCats b.cats → Dominates a b → Dominates b a
+        → a ≡ b }
 {}

@@ -102,7 +102,8 @@ pub fn labels_are_ranges()
 pub fn two_labels_make_a_range()
     ensures { (low_text high_text : List ℕ) (low high : Label) → label_of_text low_text ≡ Some low
         → label_of_text high_text ≡ Some high → Dominates high low
-        → range_of_text (low_text ++ hyphen ∷ high_text) ≡ Some (record { low = low; high = high }) }
+        → range_of_text (low_text ++ hyphen ∷ high_text) ≡ Some
+        (record { low = low; high = high }) }
 {}
 
 /// Beside digits, a label's text has only `s`, `c`, `:`, `,` and `.`.

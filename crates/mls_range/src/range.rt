@@ -56,7 +56,11 @@ impl Range {
 
     /// The range that holds the lowest label alone: level 0 without a category.
     pub fn lowest() -> Range
-        ensures { result ≡ record { low = record { level = 0; cats = [] }; high = record { level = 0; cats = [] } } }
+        ensures { result
+            ≡ record {
+              low = record { level = 0; cats = [] };
+              high = record { level = 0; cats = [] };
+            } }
     {
         Range {
             low: Label::lowest(),

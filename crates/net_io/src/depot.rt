@@ -13,7 +13,9 @@ pub trait Depot {
     /// Reads octets of a file, from the octet `at` on, into the front of `buf`, and answers how many: 0 at
     /// the file's end and past it. An absent name is a fault. Nothing held changes.
     fn read_at(&mut self, name: &str, at: u64, buf: &mut [u8]) -> Result<usize, IoFault>
-        ensures ok { IfOk result (λ n. ReadsAt (state self.old).tells ((state self.old).held name.now) at n buf.old buf.new) }
+        ensures ok { IfOk result
+            (λ n. ReadsAt (state self.old).tells
+            ((state self.old).held name.now) at n buf.old buf.new) }
         ensures err { OnErr result (buf.new ≡ buf.old) }
         ensures frame { OnlyReads IoFault.Failed result name.now (state self.old) (state self.new) };
 
@@ -26,17 +28,24 @@ pub trait Depot {
     /// Makes the name hold no octets, whether or not it was there. After an Err nothing held has changed. In memory each name is a file
     /// of its own; where files have several names, one of a file that was protected, or that a `create` has made, is refused.
     fn create(&mut self, name: &str) -> Result<(), IoFault>
-        ensures ok { OnOk result (IsTrue (state self.old).tells → NowHolds name.now [] (state self.old).held (state self.new).held) }
-        ensures err { OnErr result (IsTrue (state self.old).tells → SameHeld (state self.old).held (state self.new).held) }
-        ensures frame { OnlyCreates IoFault.Failed result name.now (state self.old) (state self.new) };
+        ensures ok { OnOk result
+            (IsTrue (state self.old).tells
+            → NowHolds name.now [] (state self.old).held (state self.new).held) }
+        ensures err { OnErr result
+            (IsTrue (state self.old).tells → SameHeld (state self.old).held (state self.new).held) }
+        ensures frame { OnlyCreates IoFault.Failed result name.now (state self.old)
+            (state self.new) };
 
     /// Appends octets from the front of `bytes` to a file, and answers how many: at least one, unless
     /// there are none. After an Err nothing held has changed.
     fn append(&mut self, name: &str, bytes: &[u8]) -> Result<usize, IoFault>
         requires { IsTrue (state self.old).tells → IsSome ((state self.old).held name.now) }
         ensures ok { IfOk result (λ n. IsTrue (state self.old).tells
-            → NowHolds name.now (octets_of ((state self.old).held name.now) ++ take n bytes.now) (state self.old).held (state self.new).held) }
+            → NowHolds name.now (octets_of ((state self.old).held name.now) ++ take n bytes.now)
+            (state self.old).held (state self.new).held) }
         ensures part { IfOk result (λ n. IsPart n bytes.now) }
-        ensures err { OnErr result (IsTrue (state self.old).tells → SameHeld (state self.old).held (state self.new).held) }
-        ensures frame { OnlyAppends IoFault.Failed result name.now (state self.old) (state self.new) };
+        ensures err { OnErr result
+            (IsTrue (state self.old).tells → SameHeld (state self.old).held (state self.new).held) }
+        ensures frame { OnlyAppends IoFault.Failed result name.now (state self.old)
+            (state self.new) };
 }

@@ -32,7 +32,8 @@ fn list_call(failed: &mut Vec<FailedCall>, call: DepotCall, name: &str) -> Resul
 
 /// Lists a call that fails, and gives its answer: Failed, or OutOfMemory where the list can't grow.
 pub fn fault_of(failed: &mut Vec<FailedCall>, call: DepotCall, name: &str) -> IoFault
-    ensures failed { result ≡ IoFault.Failed → Lists call name.now failed.old.items failed.new.items }
+    ensures failed { result ≡ IoFault.Failed
+        → Lists call name.now failed.old.items failed.new.items }
     ensures out_of_memory { result ≡ IoFault.OutOfMemory → failed.new.items ≡ failed.old.items }
 {
     match list_call(failed, call, name) {

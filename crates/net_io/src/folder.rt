@@ -15,7 +15,8 @@ pub struct NamedFile {
 
 /// Where the file of this name stands.
 pub fn place_of(files: &[NamedFile], name: &str) -> Option<usize>
-    ensures { MatchOption result (held_in files.now name.now ≡ None) (λ place. IsPlaceOf files.now name.now place) }
+    ensures { MatchOption result (held_in files.now name.now ≡ None)
+        (λ place. IsPlaceOf files.now name.now place) }
 {
     for (place, file) in files.iter().enumerate() {
         if file.name.as_str() == name {
@@ -27,7 +28,8 @@ pub fn place_of(files: &[NamedFile], name: &str) -> Option<usize>
 
 /// Makes the name hold exactly these octets.
 pub fn put_file(files: &mut Vec<NamedFile>, name: &str, octets: Vec<u8>) -> Result<(), OutOfMemory>
-    ensures ok { OnOk result (NowHolds name.now octets.items (held_in files.old.items) (held_in files.new.items)) }
+    ensures ok { OnOk result
+        (NowHolds name.now octets.items (held_in files.old.items) (held_in files.new.items)) }
     ensures err { OnErr result (files.new.items ≡ files.old.items) }
 {
     match place_of(files, name) {
@@ -43,7 +45,8 @@ pub fn put_file(files: &mut Vec<NamedFile>, name: &str, octets: Vec<u8>) -> Resu
 /// Appends these octets to the file of a name that is held.
 pub fn extend_file(files: &mut Vec<NamedFile>, name: &str, octets: &[u8]) -> Result<(), OutOfMemory>
     requires { IsSome (held_in files.old.items name.now) }
-    ensures ok { OnOk result (NowHolds name.now (octets_of (held_in files.old.items name.now) ++ octets.now)
+    ensures ok { OnOk result
+        (NowHolds name.now (octets_of (held_in files.old.items name.now) ++ octets.now)
         (held_in files.old.items) (held_in files.new.items)) }
     ensures err { OnErr result (SameHeld (held_in files.old.items) (held_in files.new.items)) }
 {

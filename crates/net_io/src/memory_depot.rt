@@ -22,7 +22,8 @@ impl MemoryDepot {
     pub fn new(alloc: Global, fail: &[u32], piece: usize) -> Result<MemoryDepot, OutOfMemory>
         requires { 0 < piece }
         ensures empty { IfOk result (λ depot. IsFresh (memory_state depot)) }
-        ensures plan { IfOk result (λ depot. memory_plan depot ≡ record { fail = fail.now; piece = piece; calls = 0 }) }
+        ensures plan { IfOk result
+            (λ depot. memory_plan depot ≡ record { fail = fail.now; piece = piece; calls = 0 }) }
     {
         Ok(MemoryDepot {
             kept: SafeDepot::new(alloc),
@@ -32,8 +33,11 @@ impl MemoryDepot {
 
     /// Makes the name hold exactly these octets. It is no call of `Depot`, and isn't counted as one.
     pub fn put(&mut self, name: &str, bytes: &[u8]) -> Result<(), OutOfMemory>
-        ensures ok { OnOk result (NowHolds name.now bytes.now (memory_state self.old).held (memory_state self.new).held) }
-        ensures err { OnErr result (SameHeld (memory_state self.old).held (memory_state self.new).held) }
+        ensures ok { OnOk result
+            (NowHolds name.now bytes.now (memory_state self.old).held
+            (memory_state self.new).held) }
+        ensures err { OnErr result
+            (SameHeld (memory_state self.old).held (memory_state self.new).held) }
         ensures faults { SameFaults (memory_state self.old) (memory_state self.new) }
         ensures plan { memory_plan self.new ≡ memory_plan self.old }
     {
@@ -61,10 +65,14 @@ impl Depot for MemoryDepot {
     ghost state = { memory_state };
 
     fn read_at(&mut self, name: &str, at: u64, buf: &mut [u8]) -> Result<usize, IoFault>
-        ensures ok { IfOk result (λ n. ReadsAt (memory_state self.old).tells ((memory_state self.old).held name.now) at n buf.old buf.new) }
+        ensures ok { IfOk result
+            (λ n. ReadsAt (memory_state self.old).tells
+            ((memory_state self.old).held name.now) at n buf.old buf.new) }
         ensures err { OnErr result (buf.new ≡ buf.old) }
-        ensures frame { OnlyReads IoFault.Failed result name.now (memory_state self.old) (memory_state self.new) }
-        ensures plan { FollowsPlan ((memory_state self.old).held name.now ≡ None) result (memory_plan self.old) (memory_plan self.new) }
+        ensures frame { OnlyReads IoFault.Failed result name.now (memory_state self.old)
+            (memory_state self.new) }
+        ensures plan { FollowsPlan ((memory_state self.old).held name.now ≡ None) result
+            (memory_plan self.old) (memory_plan self.new) }
         ensures piece { IfOk result (λ n. n ≤ (memory_plan self.old).piece) }
     {
         if self.plan.fails_next() {
@@ -83,9 +91,14 @@ impl Depot for MemoryDepot {
     }
 
     fn create(&mut self, name: &str) -> Result<(), IoFault>
-        ensures ok { OnOk result (IsTrue (memory_state self.old).tells → NowHolds name.now [] (memory_state self.old).held (memory_state self.new).held) }
-        ensures err { OnErr result (IsTrue (memory_state self.old).tells → SameHeld (memory_state self.old).held (memory_state self.new).held) }
-        ensures frame { OnlyCreates IoFault.Failed result name.now (memory_state self.old) (memory_state self.new) }
+        ensures ok { OnOk result
+            (IsTrue (memory_state self.old).tells
+            → NowHolds name.now [] (memory_state self.old).held (memory_state self.new).held) }
+        ensures err { OnErr result
+            (IsTrue (memory_state self.old).tells
+            → SameHeld (memory_state self.old).held (memory_state self.new).held) }
+        ensures frame { OnlyCreates IoFault.Failed result name.now (memory_state self.old)
+            (memory_state self.new) }
         ensures plan { FollowsPlan ⊥ result (memory_plan self.old) (memory_plan self.new) }
     {
         if self.plan.fails_next() {
@@ -95,12 +108,18 @@ impl Depot for MemoryDepot {
     }
 
     fn append(&mut self, name: &str, bytes: &[u8]) -> Result<usize, IoFault>
-        requires { IsTrue (memory_state self.old).tells → IsSome ((memory_state self.old).held name.now) }
+        requires { IsTrue (memory_state self.old).tells
+            → IsSome ((memory_state self.old).held name.now) }
         ensures ok { IfOk result (λ n. IsTrue (memory_state self.old).tells
-            → NowHolds name.now (octets_of ((memory_state self.old).held name.now) ++ take n bytes.now) (memory_state self.old).held (memory_state self.new).held) }
+            → NowHolds name.now
+            (octets_of ((memory_state self.old).held name.now) ++ take n bytes.now)
+            (memory_state self.old).held (memory_state self.new).held) }
         ensures part { IfOk result (λ n. IsPart n bytes.now) }
-        ensures err { OnErr result (IsTrue (memory_state self.old).tells → SameHeld (memory_state self.old).held (memory_state self.new).held) }
-        ensures frame { OnlyAppends IoFault.Failed result name.now (memory_state self.old) (memory_state self.new) }
+        ensures err { OnErr result
+            (IsTrue (memory_state self.old).tells
+            → SameHeld (memory_state self.old).held (memory_state self.new).held) }
+        ensures frame { OnlyAppends IoFault.Failed result name.now (memory_state self.old)
+            (memory_state self.new) }
         ensures plan { FollowsPlan ⊥ result (memory_plan self.old) (memory_plan self.new) }
         ensures piece { IfOk result (λ n. n ≤ (memory_plan self.old).piece) }
     {

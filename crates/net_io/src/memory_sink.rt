@@ -21,8 +21,10 @@ impl MemorySink {
     /// `piece` octets.
     pub fn new(alloc: Global, fail: &[u32], piece: usize) -> Result<MemorySink, OutOfMemory>
         requires { 0 < piece }
-        ensures empty { IfOk result (λ sink. memory_sink_state sink ≡ record { tells = true; written = []; faults = 0 }) }
-        ensures plan { IfOk result (λ sink. memory_sink_plan sink ≡ record { fail = fail.now; piece = piece; calls = 0 }) }
+        ensures empty { IfOk result
+            (λ sink. memory_sink_state sink ≡ record { tells = true; written = []; faults = 0 }) }
+        ensures plan { IfOk result
+            (λ sink. memory_sink_plan sink ≡ record { fail = fail.now; piece = piece; calls = 0 }) }
     {
         Ok(MemorySink {
             written: Vec::new(alloc),
@@ -45,12 +47,19 @@ impl Sink for MemorySink {
     ghost state = { memory_sink_state };
 
     fn write(&mut self, bytes: &[u8]) -> Result<usize, IoFault>
-        ensures ok { IfOk result (λ n. IsTrue (memory_sink_state self.old).tells → (memory_sink_state self.new).written ≡ (memory_sink_state self.old).written ++ take n bytes.now) }
+        ensures ok { IfOk result
+            (λ n. IsTrue (memory_sink_state self.old).tells
+            → (memory_sink_state self.new).written ≡ (memory_sink_state self.old).written
+            ++ take n bytes.now) }
         ensures part { IfOk result (λ n. IsPart n bytes.now) }
-        ensures err { OnErr result (IsTrue (memory_sink_state self.old).tells → (memory_sink_state self.new).written ≡ (memory_sink_state self.old).written) }
+        ensures err { OnErr result
+            (IsTrue (memory_sink_state self.old).tells
+            → (memory_sink_state self.new).written ≡ (memory_sink_state self.old).written) }
         ensures told { (memory_sink_state self.new).tells ≡ (memory_sink_state self.old).tells }
-        ensures counts { Counts IoFault.Failed result (memory_sink_state self.old).faults (memory_sink_state self.new).faults }
-        ensures plan { FollowsPlan ⊥ result (memory_sink_plan self.old) (memory_sink_plan self.new) }
+        ensures counts { Counts IoFault.Failed result (memory_sink_state self.old).faults
+            (memory_sink_state self.new).faults }
+        ensures plan { FollowsPlan ⊥ result (memory_sink_plan self.old)
+            (memory_sink_plan self.new) }
         ensures piece { IfOk result (λ n. n ≤ (memory_sink_plan self.old).piece) }
     {
         if self.plan.fails_next() {

@@ -16,12 +16,19 @@ pub fn read_full<D: Depot>(
 ) -> Result<usize, IoFault>
     ensures count { IfOk result (λ n. IsTrue (D.state depot.old).tells
         → n ≡ min (length buf.old) (length (octets_of ((D.state depot.old).held name.now)) - at)) }
-    ensures octets { IfOk result (λ n. IsTrue (D.state depot.old).tells → IsRead ((D.state depot.old).held name.now) at n buf.new) }
-    ensures present { OnOk result (IsTrue (D.state depot.old).tells → 0 < length buf.old → IsSome ((D.state depot.old).held name.now)) }
+    ensures octets { IfOk result
+        (λ n. IsTrue (D.state depot.old).tells
+        → IsRead ((D.state depot.old).held name.now) at n buf.new) }
+    ensures present { OnOk result
+        (IsTrue (D.state depot.old).tells → 0 < length buf.old
+        → IsSome ((D.state depot.old).held name.now)) }
     ensures rest { IfOk result (λ n. ChangesFirst n buf.old buf.new) }
     ensures place { IfOk result (λ n. at + n < 2 ^ 64) }
-    ensures err { OnErr result (ReadsPrefix (D.state depot.old).tells ((D.state depot.old).held name.now) at buf.old buf.new) }
-    ensures frame { OnlyReads IoFault.Failed result name.now (D.state depot.old) (D.state depot.new) }
+    ensures err { OnErr result
+        (ReadsPrefix (D.state depot.old).tells
+        ((D.state depot.old).held name.now) at buf.old buf.new) }
+    ensures frame { OnlyReads IoFault.Failed result name.now (D.state depot.old)
+        (D.state depot.new) }
 {
     let mut done = 0;
     while done < buf.len() {
@@ -58,13 +65,16 @@ fn read_more<D: Depot>(
     ensures grown { IfOk result (λ n. vec_len whole.new ≡ vec_len whole.old + n) }
     ensures within { IfOk result (λ n. vec_len whole.old + n ≤ most) }
     ensures octets { IfOk result (λ n. IsTrue (D.state depot.old).tells
-        → whole.new.items ≡ whole.old.items ++ take n (drop (vec_len whole.old) (octets_of ((D.state depot.old).held name.now)))) }
-    ensures present { OnOk result (IsTrue (D.state depot.old).tells → IsSome ((D.state depot.old).held name.now)) }
+        → whole.new.items ≡ whole.old.items
+        ++ take n (drop (vec_len whole.old) (octets_of ((D.state depot.old).held name.now)))) }
+    ensures present { OnOk result
+        (IsTrue (D.state depot.old).tells → IsSome ((D.state depot.old).held name.now)) }
     ensures end { IfOk result (λ n. IsTrue (D.state depot.old).tells → n ≡ 0
         → length (octets_of ((D.state depot.old).held name.now)) ≤ vec_len whole.old) }
     ensures too_long { IsErrOf result WholeFault.TooLong → IsTrue (D.state depot.old).tells
         → most < length (octets_of ((D.state depot.old).held name.now)) }
-    ensures frame { OnlyReads WholeFault.Failed result name.now (D.state depot.old) (D.state depot.new) }
+    ensures frame { OnlyReads WholeFault.Failed result name.now (D.state depot.old)
+        (D.state depot.new) }
 {
     let room = room_for(most, whole.len(), piece.len());
     let n = depot.read_at(name, whole.len() as u64, &mut piece[..room])?;
@@ -83,11 +93,14 @@ pub fn read_whole<D: Depot>(
     name: &str,
     most: usize,
 ) -> Result<Vec<u8>, WholeFault>
-    ensures whole { IfOk result (λ whole. IsTrue (D.state depot.old).tells → (D.state depot.old).held name.now ≡ Some whole.items) }
+    ensures whole { IfOk result
+        (λ whole. IsTrue (D.state depot.old).tells
+        → (D.state depot.old).held name.now ≡ Some whole.items) }
     ensures most { IfOk result (λ whole. vec_len whole ≤ most) }
     ensures too_long { IsErrOf result WholeFault.TooLong → IsTrue (D.state depot.old).tells
         → most < length (octets_of ((D.state depot.old).held name.now)) }
-    ensures frame { OnlyReads WholeFault.Failed result name.now (D.state depot.old) (D.state depot.new) }
+    ensures frame { OnlyReads WholeFault.Failed result name.now (D.state depot.old)
+        (D.state depot.new) }
 {
     let mut whole = Vec::new(alloc);
     let mut piece = new_piece(alloc)?;

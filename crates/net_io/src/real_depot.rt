@@ -142,7 +142,8 @@ impl<R: Files + Drop> Depot for RealDepot<R> {
 
     fn protect(&mut self, name: &str) -> Result<(), OutOfMemory>
         ensures kept { real_state self.new ≡ real_state self.old }
-        ensures guarded { OnOk result (Guards name.now (real_guard self.old) (real_guard self.new)) }
+        ensures guarded { OnOk result
+            (Guards name.now (real_guard self.old) (real_guard self.new)) }
     {
         guard_name(&self.files, &mut self.guard, name)
     }

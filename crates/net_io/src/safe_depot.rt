@@ -29,8 +29,10 @@ impl SafeDepot {
 
     /// Makes the name hold exactly these octets. It is no call of `Depot`.
     pub fn put(&mut self, name: &str, bytes: &[u8]) -> Result<(), OutOfMemory>
-        ensures ok { OnOk result (NowHolds name.now bytes.now (safe_state self.old).held (safe_state self.new).held) }
-        ensures err { OnErr result (SameHeld (safe_state self.old).held (safe_state self.new).held) }
+        ensures ok { OnOk result
+            (NowHolds name.now bytes.now (safe_state self.old).held (safe_state self.new).held) }
+        ensures err { OnErr result
+            (SameHeld (safe_state self.old).held (safe_state self.new).held) }
         ensures faults { SameFaults (safe_state self.old) (safe_state self.new) }
     {
         let octets = Vec::from_slice(*self.files.allocator(), bytes)?;
@@ -66,10 +68,14 @@ impl SafeDepot {
         buf: &mut [u8],
     ) -> Result<usize, IoFault>
         requires { 0 < piece }
-        ensures ok { IfOk result (λ n. ReadsAt (safe_state self.old).tells ((safe_state self.old).held name.now) at n buf.old buf.new) }
+        ensures ok { IfOk result
+            (λ n. ReadsAt (safe_state self.old).tells
+            ((safe_state self.old).held name.now) at n buf.old buf.new) }
         ensures err { OnErr result (buf.new ≡ buf.old) }
-        ensures frame { OnlyReads IoFault.Failed result name.now (safe_state self.old) (safe_state self.new) }
-        ensures absent { IsErrOf result IoFault.Failed → (safe_state self.old).held name.now ≡ None }
+        ensures frame { OnlyReads IoFault.Failed result name.now (safe_state self.old)
+            (safe_state self.new) }
+        ensures absent { IsErrOf result IoFault.Failed
+            → (safe_state self.old).held name.now ≡ None }
         ensures piece { IfOk result (λ n. n ≤ piece) }
     {
         match place_of(&self.files, name) {
@@ -85,10 +91,14 @@ impl Depot for SafeDepot {
     ghost state = { safe_state };
 
     fn read_at(&mut self, name: &str, at: u64, buf: &mut [u8]) -> Result<usize, IoFault>
-        ensures ok { IfOk result (λ n. ReadsAt (safe_state self.old).tells ((safe_state self.old).held name.now) at n buf.old buf.new) }
+        ensures ok { IfOk result
+            (λ n. ReadsAt (safe_state self.old).tells
+            ((safe_state self.old).held name.now) at n buf.old buf.new) }
         ensures err { OnErr result (buf.new ≡ buf.old) }
-        ensures frame { OnlyReads IoFault.Failed result name.now (safe_state self.old) (safe_state self.new) }
-        ensures absent { IsErrOf result IoFault.Failed → (safe_state self.old).held name.now ≡ None }
+        ensures frame { OnlyReads IoFault.Failed result name.now (safe_state self.old)
+            (safe_state self.new) }
+        ensures absent { IsErrOf result IoFault.Failed
+            → (safe_state self.old).held name.now ≡ None }
     {
         self.read_piece(name, at, usize::MAX, buf)
     }
@@ -102,9 +112,14 @@ impl Depot for SafeDepot {
     }
 
     fn create(&mut self, name: &str) -> Result<(), IoFault>
-        ensures ok { OnOk result (IsTrue (safe_state self.old).tells → NowHolds name.now [] (safe_state self.old).held (safe_state self.new).held) }
-        ensures err { OnErr result (IsTrue (safe_state self.old).tells → SameHeld (safe_state self.old).held (safe_state self.new).held) }
-        ensures frame { OnlyCreates IoFault.Failed result name.now (safe_state self.old) (safe_state self.new) }
+        ensures ok { OnOk result
+            (IsTrue (safe_state self.old).tells
+            → NowHolds name.now [] (safe_state self.old).held (safe_state self.new).held) }
+        ensures err { OnErr result
+            (IsTrue (safe_state self.old).tells
+            → SameHeld (safe_state self.old).held (safe_state self.new).held) }
+        ensures frame { OnlyCreates IoFault.Failed result name.now (safe_state self.old)
+            (safe_state self.new) }
         ensures safe { IsErrOf result IoFault.Failed → ⊥ }
     {
         let octets = Vec::new(*self.files.allocator());
@@ -113,12 +128,18 @@ impl Depot for SafeDepot {
     }
 
     fn append(&mut self, name: &str, bytes: &[u8]) -> Result<usize, IoFault>
-        requires { IsTrue (safe_state self.old).tells → IsSome ((safe_state self.old).held name.now) }
+        requires { IsTrue (safe_state self.old).tells
+            → IsSome ((safe_state self.old).held name.now) }
         ensures ok { IfOk result (λ n. IsTrue (safe_state self.old).tells
-            → NowHolds name.now (octets_of ((safe_state self.old).held name.now) ++ take n bytes.now) (safe_state self.old).held (safe_state self.new).held) }
+            → NowHolds name.now
+            (octets_of ((safe_state self.old).held name.now) ++ take n bytes.now)
+            (safe_state self.old).held (safe_state self.new).held) }
         ensures part { IfOk result (λ n. IsPart n bytes.now) }
-        ensures err { OnErr result (IsTrue (safe_state self.old).tells → SameHeld (safe_state self.old).held (safe_state self.new).held) }
-        ensures frame { OnlyAppends IoFault.Failed result name.now (safe_state self.old) (safe_state self.new) }
+        ensures err { OnErr result
+            (IsTrue (safe_state self.old).tells
+            → SameHeld (safe_state self.old).held (safe_state self.new).held) }
+        ensures frame { OnlyAppends IoFault.Failed result name.now (safe_state self.old)
+            (safe_state self.new) }
         ensures safe { IsErrOf result IoFault.Failed → ⊥ }
     {
         extend_file(&mut self.files, name, bytes)?;

@@ -37,11 +37,17 @@ impl Sink for SafeSink {
     ghost state = { safe_sink_state };
 
     fn write(&mut self, bytes: &[u8]) -> Result<usize, IoFault>
-        ensures ok { IfOk result (λ n. IsTrue (safe_sink_state self.old).tells → (safe_sink_state self.new).written ≡ (safe_sink_state self.old).written ++ take n bytes.now) }
+        ensures ok { IfOk result
+            (λ n. IsTrue (safe_sink_state self.old).tells
+            → (safe_sink_state self.new).written ≡ (safe_sink_state self.old).written
+            ++ take n bytes.now) }
         ensures part { IfOk result (λ n. IsPart n bytes.now) }
-        ensures err { OnErr result (IsTrue (safe_sink_state self.old).tells → (safe_sink_state self.new).written ≡ (safe_sink_state self.old).written) }
+        ensures err { OnErr result
+            (IsTrue (safe_sink_state self.old).tells
+            → (safe_sink_state self.new).written ≡ (safe_sink_state self.old).written) }
         ensures told { (safe_sink_state self.new).tells ≡ (safe_sink_state self.old).tells }
-        ensures counts { Counts IoFault.Failed result (safe_sink_state self.old).faults (safe_sink_state self.new).faults }
+        ensures counts { Counts IoFault.Failed result (safe_sink_state self.old).faults
+            (safe_sink_state self.new).faults }
         ensures safe { IsErrOf result IoFault.Failed → ⊥ }
     {
         self.written.extend_from_slice(bytes)?;

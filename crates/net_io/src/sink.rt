@@ -14,9 +14,13 @@ pub trait Sink {
     /// Writes octets from the front of `bytes`, and answers how many: at least one, unless there are none.
     /// After an Err nothing was written.
     fn write(&mut self, bytes: &[u8]) -> Result<usize, IoFault>
-        ensures ok { IfOk result (λ n. IsTrue (state self.old).tells → (state self.new).written ≡ (state self.old).written ++ take n bytes.now) }
+        ensures ok { IfOk result
+            (λ n. IsTrue (state self.old).tells
+            → (state self.new).written ≡ (state self.old).written ++ take n bytes.now) }
         ensures part { IfOk result (λ n. IsPart n bytes.now) }
-        ensures err { OnErr result (IsTrue (state self.old).tells → (state self.new).written ≡ (state self.old).written) }
+        ensures err { OnErr result
+            (IsTrue (state self.old).tells → (state self.new).written ≡ (state self.old).written) }
         ensures told { (state self.new).tells ≡ (state self.old).tells }
-        ensures counts { Counts IoFault.Failed result (state self.old).faults (state self.new).faults };
+        ensures counts { Counts IoFault.Failed result (state self.old).faults
+            (state self.new).faults };
 }

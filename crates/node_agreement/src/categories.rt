@@ -16,7 +16,8 @@ use node_readings::Reading;
 pub fn first_category(ends: &Ends<'_>, proto: Proto) -> Option<Difference>
     ensures { IsLeast
         (wire_meaning false ends.now.left.now ends.now.left_reading.now)
-        (wire_meaning false ends.now.right.now ends.now.right_reading.now) (carried_below proto false) result }
+        (wire_meaning false ends.now.right.now ends.now.right_reading.now)
+        (carried_below proto false) result }
 {
     let limit = categories_of(proto);
     let left = ends.left.plan();
@@ -50,7 +51,8 @@ fn least_of_pairs(ends: &Ends<'_>, limit: u16, pairs: &[(u16, u16)]) -> Option<D
         (wire_meaning false ends.now.right.now ends.now.right_reading.now) limit result }
     ensures settled { All (λ p. IsSettled
         (wire_meaning false ends.now.left.now ends.now.left_reading.now)
-        (wire_meaning false ends.now.right.now ends.now.right_reading.now) limit result p.0) pairs.now }
+        (wire_meaning false ends.now.right.now ends.now.right_reading.now) limit result p.0)
+        pairs.now }
 {
     let mut found = None;
     for (wire, _) in pairs {
@@ -77,7 +79,8 @@ fn least_of_named(
     ensures lower { reach limit result ≤ reach limit before }
     ensures settled { All (λ p. IsSettled
         (wire_meaning false ends.now.left.now ends.now.left_reading.now)
-        (wire_meaning false ends.now.right.now ends.now.right_reading.now) limit result p.0) reading.now.cats }
+        (wire_meaning false ends.now.right.now ends.now.right_reading.now) limit result p.0)
+        reading.now.cats }
 {
     let mut found = before;
     for i in 0..reading.named_categories() {

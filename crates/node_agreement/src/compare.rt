@@ -44,7 +44,8 @@ pub fn agrees(
 // The first difference of a protocol.
 fn first_of(nodes: &Nodes<'_>, proto: Proto) -> Option<Disagree>
     ensures { IsFirstAmong (λ (e : Disagree). e.proto ≡ proto)
-        nodes.now.left.now nodes.now.right.now nodes.now.left_reading.now nodes.now.right_reading.now result }
+        nodes.now.left.now nodes.now.right.now nodes.now.left_reading.now
+        nodes.now.right_reading.now result }
 {
     let mut from = 0;
     while let Some(doi) = next_doi(nodes.left.dois(), proto, from) {
@@ -60,7 +61,8 @@ fn first_of(nodes: &Nodes<'_>, proto: Proto) -> Option<Disagree>
 // The first difference under a DOI.
 fn first_under(nodes: &Nodes<'_>, proto: Proto, doi: u32) -> Option<Disagree>
     ensures { IsFirstAmong (λ (e : Disagree). (e.proto ≡ proto) × (e.doi ≡ doi))
-        nodes.now.left.now nodes.now.right.now nodes.now.left_reading.now nodes.now.right_reading.now result }
+        nodes.now.left.now nodes.now.right.now nodes.now.left_reading.now
+        nodes.now.right_reading.now result }
 {
     let Some(left) = nodes.left.dois().find(proto, doi) else {
         return None;
@@ -84,7 +86,15 @@ fn first_under(nodes: &Nodes<'_>, proto: Proto, doi: u32) -> Option<Disagree>
 }
 
 fn told(proto: Proto, doi: u32, level: bool, found: Difference) -> Disagree
-    ensures { result ≡ record { proto = proto; doi = doi; level = level; wire = found.wire; left = found.left; right = found.right } }
+    ensures { result
+        ≡ record {
+          proto = proto;
+          doi = doi;
+          level = level;
+          wire = found.wire;
+          left = found.left;
+          right = found.right;
+        } }
 {
     Disagree {
         proto,

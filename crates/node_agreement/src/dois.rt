@@ -10,7 +10,8 @@ use mls_label::Proto;
 /// The lowest DOI of the protocol that is defined and isn't below `from`.
 pub fn next_doi(dois: &DoiTable, proto: Proto, from: u64) -> Option<u32>
     ensures some { IfSome result (λ doi. from ≤ doi) }
-    ensures lowest { IfSome result (λ doi. (n : ℕ) → from ≤ n → n < doi → definition_of dois.now proto n ≡ None) }
+    ensures lowest { IfSome result
+        (λ doi. (n : ℕ) → from ≤ n → n < doi → definition_of dois.now proto n ≡ None) }
     ensures none { IfNone result ((n : ℕ) → from ≤ n → definition_of dois.now proto n ≡ None) }
 {
     let mut lowest = None;

@@ -24,9 +24,11 @@ ghost use Rattle.node_agreement.specs.First.{is_before, IsDifference, IsFirstBel
 /// A label that goes from a node to one that agrees with it keeps its meaning, where it can go: the left node has a label for the wire,
 /// in CALIPSO one without a category above 1951, and the right node has a label for that.
 pub fn agreement_keeps_meaning()
-    ensures { (left right : TableState) (left_named right_named : NamedMeanings) (proto : Proto) (doi : ℕ)
+    ensures { (left right : TableState) (left_named right_named : NamedMeanings) (proto : Proto)
+        (doi : ℕ)
         (a b : DoiPlan) (x w y : Label) → Agree left right left_named right_named
-        → definition_of left.definitions proto doi ≡ Some a → definition_of right.definitions proto doi ≡ Some b
+        → definition_of left.definitions proto doi ≡ Some a
+        → definition_of right.definitions proto doi ≡ Some b
         → IsDefinition a → IsDefinition b → x.level < 256 → IsCats x.cats → wire_label a x ≡ Ok w
         → (proto ≡ Calipso → (c : ℕ) → IsTrue (has w.cats c) → c < 1952)
         → local_label b w ≡ Ok y → meaning_of right_named y ≡ meaning_of left_named x }
@@ -48,34 +50,44 @@ pub fn nodes_agree_without_a_difference()
 /// There is one first difference at most.
 pub fn one_difference_is_first()
     ensures { (left right : TableState) (left_named right_named : NamedMeanings) (d e : Disagree)
-        → IsFirst left right left_named right_named d → IsFirst left right left_named right_named e → d ≡ e }
+        → IsFirst left right left_named right_named d → IsFirst left right left_named right_named e
+        → d ≡ e }
 {}
 
 /// Nodes that agree agree on fewer numbers too.
 pub fn fewer_numbers_agree_more()
-    ensures { (below wide : Proto → Bool → ℕ) (left right : TableState) (left_named right_named : NamedMeanings)
+    ensures { (below wide : Proto → Bool → ℕ) (left right : TableState)
+        (left_named right_named : NamedMeanings)
         → ((proto : Proto) (level : Bool) → below proto level ≤ wide proto level)
-        → AgreeBelow wide left right left_named right_named → AgreeBelow below left right left_named right_named }
+        → AgreeBelow wide left right left_named right_named
+        → AgreeBelow below left right left_named right_named }
 {}
 
 /// Where fewer numbers count, the first difference stays if its number still counts, and else what is then the first comes no earlier.
 pub fn fewer_numbers_differ_later()
-    ensures { (below wide : Proto → Bool → ℕ) (left right : TableState) (left_named right_named : NamedMeanings)
+    ensures { (below wide : Proto → Bool → ℕ) (left right : TableState)
+        (left_named right_named : NamedMeanings)
         (d : Disagree) → ((proto : Proto) (level : Bool) → below proto level ≤ wide proto level)
         → IsFirstBelow wide left right left_named right_named d
         → (d.wire < below d.proto d.level → IsFirstBelow below left right left_named right_named d)
-        × ((e : Disagree) → IsFirstBelow below left right left_named right_named e → is_before e d ≡ false) }
+        ×
+        ((e : Disagree) → IsFirstBelow below left right left_named right_named e
+        → is_before e d ≡ false) }
 {}
 
 /// Under the last edition nodes that agreed before agree. A first difference stays the first, unless it is a CALIPSO category above 1951,
 /// and what is then the first comes no earlier.
 pub fn last_edition_agrees_more()
     ensures agree { (left right : TableState) (left_named right_named : NamedMeanings)
-        → AgreeBelow (carried_in with_ranges) left right left_named right_named → Agree left right left_named right_named }
-    ensures stays { (left right : TableState) (left_named right_named : NamedMeanings) (d : Disagree)
+        → AgreeBelow (carried_in with_ranges) left right left_named right_named
+        → Agree left right left_named right_named }
+    ensures stays { (left right : TableState) (left_named right_named : NamedMeanings)
+        (d : Disagree)
         → IsFirstBelow (carried_in with_ranges) left right left_named right_named d
-        → (d.proto ≡ Calipso → d.level ≡ false → d.wire < 1952) → IsFirst left right left_named right_named d }
-    ensures later { (left right : TableState) (left_named right_named : NamedMeanings) (d e : Disagree)
+        → (d.proto ≡ Calipso → d.level ≡ false → d.wire < 1952)
+        → IsFirst left right left_named right_named d }
+    ensures later { (left right : TableState) (left_named right_named : NamedMeanings)
+        (d e : Disagree)
         → IsFirstBelow (carried_in with_ranges) left right left_named right_named d
         → IsFirst left right left_named right_named e → is_before e d ≡ false }
 {}
@@ -85,7 +97,8 @@ pub fn last_edition_agrees_more()
 pub fn last_edition_keeps_tables()
     ensures tables { (own text : List ℕ) (old new : Script) (k : ℕ)
         → IsScript with_ranges own text old → IsScript with_translations own text new
-        → tables_after (length old.nodes) old.steps k ≡ tables_after (length new.nodes) new.steps k }
+        → tables_after (length old.nodes) old.steps k ≡ tables_after
+        (length new.nodes) new.steps k }
     ensures replies { (own text : List ℕ) (old new : Script) (k : ℕ)
         → IsScript with_ranges own text old → IsScript with_translations own text new
         → reply_at (length old.nodes) old.steps k ≡ reply_at (length new.nodes) new.steps k }

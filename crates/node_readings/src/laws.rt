@@ -41,6 +41,7 @@ pub fn dominance_of_meanings_goes_on()
 
 /// A label's meaning has a number exactly where one of the label's categories means it.
 pub fn meanings_have_what_categories_mean()
-    ensures { (named : NamedMeanings) (label : Label) (n : ℕ) → (IsTrue (set.contains (meaning_of named label).cats n)
+    ensures { (named : NamedMeanings) (label : Label) (n : ℕ)
+        → (IsTrue (set.contains (meaning_of named label).cats n)
         ↔ ((c : ℕ) × IsTrue (has label.cats c) × (meaning_in named.cats c ≡ n))) }
 {}

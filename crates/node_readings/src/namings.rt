@@ -63,7 +63,9 @@ pub fn meaning(first: &IndexMap<u32, u32>, n: u32) -> u32
 
 /// Whether the meanings of the numbers from 0 to 255 strictly increase.
 pub fn is_increasing(first: &IndexMap<u32, u32>) -> bool
-    ensures { IsTrue result ↔ ((n : ℕ) → n < 255 → meaning_in first.now.entries n < meaning_in first.now.entries (n + 1)) }
+    ensures { IsTrue result ↔
+        ((n : ℕ) → n < 255
+        → meaning_in first.now.entries n < meaning_in first.now.entries (n + 1)) }
 {
     for n in 0..255u32 {
         if meaning(first, n + 1) <= meaning(first, n) {
@@ -88,7 +90,8 @@ pub fn mean_different_things(alloc: Global, pairs: &[Naming]) -> Result<bool, Ou
 
 /// Whether each meaning below 65,535 is a number that is named itself.
 pub fn are_closed(pairs: &[Naming], first: &IndexMap<u32, u32>) -> bool
-    ensures { result ≡ list_all (λ p. nat_le 65535 p.1 || is_some (number_by first.now.entries p.1)) pairs.now }
+    ensures { result ≡ list_all
+        (λ p. nat_le 65535 p.1 || is_some (number_by first.now.entries p.1)) pairs.now }
 {
     pairs
         .iter()

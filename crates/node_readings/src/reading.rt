@@ -28,7 +28,8 @@ impl Model for Reading {
 
     ghost view = { λ r. record { levels = r.levels.entries; cats = r.cats.entries } };
 
-    ghost invariant = { λ r. IsReading (record { levels = r.levels.entries; cats = r.cats.entries }) };
+    ghost invariant = { λ r. IsReading
+        (record { levels = r.levels.entries; cats = r.cats.entries }) };
 }
 
 impl Reading {
@@ -39,7 +40,8 @@ impl Reading {
         categories: &[(u16, u32)],
     ) -> Result<Reading, ReadingFault>
         requires { All (λ p. p.0 < 65535) categories.now }
-        ensures ok { IfOk result (λ reading. reading ≡ record { levels = levels.now; cats = categories.now }) }
+        ensures ok { IfOk result
+            (λ reading. reading ≡ record { levels = levels.now; cats = categories.now }) }
         ensures allowed { OnOk result (reading_fault levels.now categories.now ≡ None) }
         ensures err { IfErr result (IsReadingFault levels.now categories.now) }
     {

@@ -128,7 +128,8 @@ fn push_definition_of(
     def: &DoiDef,
 ) -> Result<(), OutOfMemory>
     requires { IsGiven (of, doi) def.now }
-    ensures { OnOk result (lines.new ≡ lines.old ++ definition_lines (((of, doi), def.now) ∷ []) proto) }
+    ensures { OnOk result
+        (lines.new ≡ lines.old ++ definition_lines (((of, doi), def.now) ∷ []) proto) }
 {
     if proto != of {
         return Ok(());

@@ -25,7 +25,8 @@ pub fn add_entry(
     prefix: Option<Prefix>,
     protocol: Protocol,
 ) -> Result<(), Stop>
-    ensures { Turns (entry_added dois.now map.old domain.now prefix protocol) map.old map.new result }
+    ensures { Turns
+        (entry_added dois.now map.old domain.now prefix protocol) map.old map.new result }
 {
     if !is_defined(dois, protocol) {
         return Err(Stop::Refused(Refusal::DoiUnknown));
@@ -84,7 +85,8 @@ fn push_entry(
     protocol: Protocol,
 ) -> Result<(), OutOfMemory>
     requires { HasNoZero protocol }
-    ensures { OnOk result (lines.new ≡ lines.old ++ domain_line (option_copied domain.entry, prefix, protocol) ∷ []) }
+    ensures { OnOk result
+        (lines.new ≡ lines.old ++ domain_line (option_copied domain.entry, prefix, protocol) ∷ []) }
 {
     let command = Command::MapAdd {
         domain: key_of(domain),

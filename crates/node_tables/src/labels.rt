@@ -23,7 +23,8 @@ pub fn add_labels(
     prefix: Prefix,
     range: &Range,
 ) -> Result<(), Stop>
-    ensures { Turns (label_added statics.old interface.now prefix range.now) statics.old statics.new result }
+    ensures { Turns
+        (label_added statics.old interface.now prefix range.now) statics.old statics.new result }
 {
     match statics.add(interface.as_ref(), prefix, range.low(), range.high()) {
         Ok(()) => Ok(()),
@@ -39,7 +40,8 @@ pub fn del_labels(
     interface: &Option<Name>,
     prefix: Prefix,
 ) -> Result<(), Stop>
-    ensures { Turns (label_deleted statics.old interface.now prefix) statics.old statics.new result }
+    ensures { Turns
+        (label_deleted statics.old interface.now prefix) statics.old statics.new result }
 {
     match statics.del(interface.as_ref(), prefix) {
         Ok(()) => Ok(()),
@@ -84,7 +86,15 @@ fn push_labels(
     prefix: Prefix,
     range: &Range,
 ) -> Result<(), OutOfMemory>
-    ensures { OnOk result (lines.new ≡ lines.old ++ static_line (record { interface = option_copied interface.entry; prefix = prefix; low = range.now.low; high = range.now.high }) ∷ []) }
+    ensures { OnOk result
+        (lines.new ≡ lines.old
+        ++ static_line
+        (record {
+          interface = option_copied interface.entry;
+          prefix = prefix;
+          low = range.now.low;
+          high = range.now.high;
+        }) ∷ []) }
 {
     let command = Command::UnlblAdd {
         interface: key_of(interface),

@@ -32,18 +32,21 @@ pub fn steps_apply_one_by_one()
 
 /// No step changes how many nodes there are.
 pub fn nodes_keep_their_number()
-    ensures { (nodes : ℕ) (steps : List Step) (k : ℕ) → length (tables_after nodes steps k) ≡ nodes }
+    ensures { (nodes : ℕ) (steps : List Step) (k : ℕ)
+        → length (tables_after nodes steps k) ≡ nodes }
 {}
 
 /// A command that isn't answered by `Done` changes no table.
 pub fn only_done_changes_tables()
-    ensures { (t : TableState) (command : Command) → (reply_of t command ≡ Done → ⊥) → applied t command ≡ t }
+    ensures { (t : TableState) (command : Command) → (reply_of t command ≡ Done → ⊥)
+        → applied t command ≡ t }
 {}
 
 /// After any steps, each DOI that an entry of a node's map names is defined there.
 pub fn maps_name_defined_dois()
     ensures { (nodes : ℕ) (steps : List Step) (k : ℕ)
-        → All (λ (t : TableState). NamesDefined t.definitions t.domains) (tables_after nodes steps k) }
+        → All (λ (t : TableState). NamesDefined t.definitions t.domains)
+        (tables_after nodes steps k) }
 {}
 
 /// The DOI of a protocol that is found for a domain is defined.
@@ -56,12 +59,14 @@ pub fn found_protocols_are_defined()
 
 /// A command whose numbers are within their bounds keeps tables valid.
 pub fn bounded_commands_keep_tables_valid()
-    ensures { (t : TableState) (command : Command) → IsBounded command → AreValid t → AreValid (applied t command) }
+    ensures { (t : TableState) (command : Command) → IsBounded command → AreValid t
+        → AreValid (applied t command) }
 {}
 
 /// So do any steps, from fresh nodes on.
 pub fn tables_are_valid_after_steps()
-    ensures { (nodes : ℕ) (steps : List Step) (k : ℕ) → All (λ (step : Step). IsBounded step.command) steps
+    ensures { (nodes : ℕ) (steps : List Step) (k : ℕ)
+        → All (λ (step : Step). IsBounded step.command) steps
         → All AreValid (tables_after nodes steps k) }
 {}
 

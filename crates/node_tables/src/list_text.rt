@@ -84,8 +84,11 @@ impl ListText {
 // Ends the line that was begun at `before`, or takes it back.
 fn end_line(text: &mut Vec<u8>, ends: &mut Vec<usize>, before: usize) -> Result<(), OutOfMemory>
     requires { before ≤ length text.old.items }
-    ensures ok { OnOk result ((text.new.items ≡ text.old.items) × (ends.new.items ≡ ends.old.items ++ length text.old.items ∷ [])) }
-    ensures err { OnErr result ((text.new.items ≡ take before text.old.items) × (ends.new.items ≡ ends.old.items)) }
+    ensures ok { OnOk result
+        ((text.new.items ≡ text.old.items)
+        × (ends.new.items ≡ ends.old.items ++ length text.old.items ∷ [])) }
+    ensures err { OnErr result
+        ((text.new.items ≡ take before text.old.items) × (ends.new.items ≡ ends.old.items)) }
 {
     let end = text.len();
     if ends.push(end).is_err() {

@@ -77,7 +77,8 @@ fn boxed(
     low: &Label,
     level: &Label,
 ) -> Result<Box<Receiver>, OutOfMemory>
-    ensures { IfOk result (λ b. b.value ≡ record { domain = domain.now; low = low.now; level = level.now }) }
+    ensures { IfOk result
+        (λ b. b.value ≡ record { domain = domain.now; low = low.now; level = level.now }) }
 {
     let mut boxed = Box::new(
         alloc,
@@ -129,7 +130,8 @@ pub fn add_receiver(
     domain: &Name,
     range: &Range,
 ) -> Result<(), Stop>
-    ensures { Turns (receiver_added receivers.old.entries address.now (receiver_of domain.now range.now))
+    ensures { Turns
+        (receiver_added receivers.old.entries address.now (receiver_of domain.now range.now))
         receivers.old.entries receivers.new.entries result }
 {
     if receivers.contains_key(address) {

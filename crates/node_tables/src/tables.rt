@@ -138,7 +138,8 @@ impl Tables {
     /// The receiver at an address.
     pub fn find_receiver(&self, address: &Address) -> Option<&Receiver>
         ensures value { option_copied result ≡ find_receiver_of self.now.receivers address.now }
-        ensures ordered { IfSome result (λ receiver. Dominates receiver.now.level receiver.now.low) }
+        ensures ordered { IfSome result
+            (λ receiver. Dominates receiver.now.level receiver.now.low) }
     {
         Some(find_receiver(&self.receivers, address)?.receiver())
     }
@@ -252,7 +253,8 @@ impl Tables {
         categories: &Option<CategoryPairs>,
     ) -> Result<Reply, OutOfMemory>
         requires { proto ≡ Cipso → AreTags tags.now }
-        ensures { Follows (definition_effect self.old proto doi (trans_plan tags.now levels.now categories.now))
+        ensures { Follows
+            (definition_effect self.old proto doi (trans_plan tags.now levels.now categories.now))
             self.old self.new result }
     {
         let plan = trans_plan(self.allocator(), tags, levels, categories)?;
@@ -323,7 +325,8 @@ impl Tables {
     // The labels of unlabelled packets.
 
     fn accept(&mut self, accepts: bool) -> Result<Reply, OutOfMemory>
-        ensures { Follows (becomes (record self.old { accepts = accepts })) self.old self.new result }
+        ensures { Follows
+            (becomes (record self.old { accepts = accepts })) self.old self.new result }
     {
         self.accepts = accepts;
         Ok(Reply::Done)
@@ -344,7 +347,8 @@ impl Tables {
 
     #[tactic(auto, unfolding(crate::specs::Effect::effect_of))]
     fn del_labels(&mut self, interface: &Option<Name>, prefix: Prefix) -> Result<Reply, OutOfMemory>
-        ensures { Follows (effect_of self.old (UnlblDel interface.now prefix)) self.old self.new result }
+        ensures { Follows
+            (effect_of self.old (UnlblDel interface.now prefix)) self.old self.new result }
     {
         replied(del_labels(&mut self.statics, interface, prefix))
     }

@@ -45,7 +45,8 @@ pub fn number_in(bytes: &[u8], at: usize, low: u16, high: u16) -> Result<u16, Wi
 /// The number of four octets at this place, which isn't 0: where all four are 0 the last of them is refused.
 pub fn nonzero_at(bytes: &[u8], at: usize) -> Result<u32, WireFault>
     requires { at ≤ length bytes.now }
-    ensures ok { IfOk result (λ n. (at + 3 < length bytes.now) × (n ≡ u32_at bytes.now at) × (0 < n)) }
+    ensures ok { IfOk result
+        (λ n. (at + 3 < length bytes.now) × (n ≡ u32_at bytes.now at) × (0 < n)) }
     ensures err { IfErr result (λ f. FaultsInNonzero bytes.now at f) }
 {
     if bytes.len() - at < 4 {

@@ -20,18 +20,22 @@ pub fn octets_are_a_packet_or_have_one_fault()
 
 /// A first fault stands in the octets or at their end.
 pub fn faults_stand_within()
-    ensures packets { (octets : List ℕ) (fault : CarryFault) → IsPacketFault octets fault → StandsWithin (length octets) fault }
-    ensures fronts { (octets : List ℕ) → IfErr (front_in octets) (λ fault. fault.octet ≤ length octets) }
+    ensures packets { (octets : List ℕ) (fault : CarryFault) → IsPacketFault octets fault
+        → StandsWithin (length octets) fault }
+    ensures fronts { (octets : List ℕ)
+        → IfErr (front_in octets) (λ fault. fault.octet ≤ length octets) }
 {}
 
 /// What is read without the test for a second label option is a packet without a label where it has no label option.
 pub fn fronts_without_a_label_are_packets()
-    ensures { (octets : List ℕ) (headers : Headers) → front_in octets ≡ Ok headers → headers.label ≡ None → IsPacket octets (labelled headers None) }
+    ensures { (octets : List ℕ) (headers : Headers) → front_in octets ≡ Ok headers
+        → headers.label ≡ None → IsPacket octets (labelled headers None) }
 {}
 
 /// What an option of a version can say has a written form that suits this version, and is octets.
 pub fn written_options_suit_their_version()
-    ensures { (version : Version) (wire : Wire) → CanSay version wire → IsLabelOption version (wire_text wire) × IsOctets (wire_text wire) }
+    ensures { (version : Version) (wire : Wire) → CanSay version wire
+        → IsLabelOption version (wire_text wire) × IsOctets (wire_text wire) }
 {}
 
 /// A packet that was read, as a whole or without its label, may be written with other hops and another label option or none:

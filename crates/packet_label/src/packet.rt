@@ -69,7 +69,8 @@ impl<'a> Packet<'a> {
 
     /// The first label option with its octet in the packet.
     pub(crate) fn label_option(&self) -> Option<(usize, &'a [u8])>
-        ensures { option_map (λ x. record { place = x.0; octets = x.1.now }) result ≡ (headers_of self.now).label }
+        ensures { option_map (λ x. record { place = x.0; octets = x.1.now }) result ≡
+            (headers_of self.now).label }
     {
         match self {
             Packet::V4(view) => view.label_option(),

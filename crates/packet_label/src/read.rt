@@ -31,7 +31,8 @@ const NO_VERSION: HeadFault = HeadFault {
 /// of the label option, counted from the packet's first octet. A second label option is a fault of the option, where it
 /// stands (FIPS 188, RFC 5570).
 pub fn carried(bytes: &[u8]) -> Result<Carried<'_>, CarryFault>
-    ensures ok { IfOk result (λ carried. IsPacket bytes.now (labelled (headers_of carried.packet) carried.wire)) }
+    ensures ok { IfOk result
+        (λ carried. IsPacket bytes.now (labelled (headers_of carried.packet) carried.wire)) }
     ensures version { IfOk result (λ carried. IsOfItsVersion carried.packet) }
     ensures within { IfOk result (λ carried. HasTenOctets bytes.now carried.wire) }
     ensures err { IfErr result (λ fault. IsPacketFault bytes.now fault) }
@@ -62,9 +63,12 @@ fn wire_of(mark: Option<Mark>, label: Label) -> Option<Wire>
 
 /// The same with the label in place of the one that is lent, which is any label where there is none or after a fault.
 pub fn carried_into<'a>(bytes: &'a [u8], label: &mut Label) -> Result<Marked<'a>, CarryFault>
-    ensures ok { IfOk result (λ marked. IsPacket bytes.now (labelled (headers_of marked.packet) (wire_with marked.mark label.new))) }
+    ensures ok { IfOk result
+        (λ marked. IsPacket bytes.now
+        (labelled (headers_of marked.packet) (wire_with marked.mark label.new))) }
     ensures version { IfOk result (λ marked. IsOfItsVersion marked.packet) }
-    ensures within { IfOk result (λ marked. HasTenOctets bytes.now (wire_with marked.mark label.new)) }
+    ensures within { IfOk result
+        (λ marked. HasTenOctets bytes.now (wire_with marked.mark label.new)) }
     ensures err { IfErr result (λ fault. IsPacketFault bytes.now fault) }
 {
     let packet = match headers(bytes) {
@@ -152,8 +156,11 @@ fn read_option(
 ) -> Result<Mark, CarryFault>
     requires whole { IsOption version option.now }
     requires fits { at + length option.now < 2 ^ 64 }
-    ensures ok { IfOk result (λ mark. IsWire version (record { place = at; octets = option.now }) (marked_wire mark label.new)) }
-    ensures err { IfErr result (λ fault. BreaksWire version (record { place = at; octets = option.now }) fault) }
+    ensures ok { IfOk result
+        (λ mark. IsWire version (record { place = at; octets = option.now })
+        (marked_wire mark label.new)) }
+    ensures err { IfErr result
+        (λ fault. BreaksWire version (record { place = at; octets = option.now }) fault) }
 {
     match version {
         Version::V4 => read_cipso_at(at, option, label),
@@ -165,8 +172,11 @@ fn read_option(
 fn read_cipso_at(at: usize, option: &[u8], label: &mut Label) -> Result<Mark, CarryFault>
     requires whole { IsOption V4 option.now }
     requires fits { at + length option.now < 2 ^ 64 }
-    ensures ok { IfOk result (λ mark. IsWire V4 (record { place = at; octets = option.now }) (marked_wire mark label.new)) }
-    ensures err { IfErr result (λ fault. BreaksWire V4 (record { place = at; octets = option.now }) fault) }
+    ensures ok { IfOk result
+        (λ mark. IsWire V4 (record { place = at; octets = option.now })
+        (marked_wire mark label.new)) }
+    ensures err { IfErr result
+        (λ fault. BreaksWire V4 (record { place = at; octets = option.now }) fault) }
 {
     match read_cipso_into(option, label) {
         Ok(head) => Ok(Mark::Cipso {
@@ -182,8 +192,11 @@ fn read_cipso_at(at: usize, option: &[u8], label: &mut Label) -> Result<Mark, Ca
 fn read_calipso_at(at: usize, option: &[u8], label: &mut Label) -> Result<Mark, CarryFault>
     requires whole { IsOption V6 option.now }
     requires fits { at + length option.now < 2 ^ 64 }
-    ensures ok { IfOk result (λ mark. IsWire V6 (record { place = at; octets = option.now }) (marked_wire mark label.new)) }
-    ensures err { IfErr result (λ fault. BreaksWire V6 (record { place = at; octets = option.now }) fault) }
+    ensures ok { IfOk result
+        (λ mark. IsWire V6 (record { place = at; octets = option.now })
+        (marked_wire mark label.new)) }
+    ensures err { IfErr result
+        (λ fault. BreaksWire V6 (record { place = at; octets = option.now }) fault) }
 {
     match read_calipso_into(option, label) {
         Ok(head) => Ok(Mark::Calipso { at, doi: head.doi }),

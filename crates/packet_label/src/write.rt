@@ -21,9 +21,14 @@ pub fn relabel(
     out: &mut Vec<u8>,
 ) -> Result<(), Rebuild>
     requires { IfSome option (λ o. Suits packet.now o.now) }
-    ensures ok { OnOk result (out.new.items ≡ packet_octets (rebuilt packet.now (option_copied option.entry) hops)) }
-    ensures no_room { (result ≡ Err Rebuild.NoRoom) ↔ (room_limit (version_of packet.now) < rebuilt_room (rebuilt packet.now (option_copied option.entry) hops)) }
-    ensures too_long { (result ≡ Err Rebuild.TooLong) ↔ ((rebuilt_room (rebuilt packet.now (option_copied option.entry) hops) ≤ room_limit (version_of packet.now))
+    ensures ok { OnOk result
+        (out.new.items ≡ packet_octets (rebuilt packet.now (option_copied option.entry) hops)) }
+    ensures no_room { (result ≡ Err Rebuild.NoRoom) ↔
+        (room_limit (version_of packet.now) < rebuilt_room
+        (rebuilt packet.now (option_copied option.entry) hops)) }
+    ensures too_long { (result ≡ Err Rebuild.TooLong) ↔
+        ((rebuilt_room (rebuilt packet.now (option_copied option.entry) hops) ≤ room_limit
+        (version_of packet.now))
         × (65535 < rebuilt_length (rebuilt packet.now (option_copied option.entry) hops))) }
     ensures err { OnErr result (out.new.items ≡ []) }
 {
@@ -38,10 +43,19 @@ pub fn relabel_with(
     out: &mut Vec<u8>,
 ) -> Result<(), Rebuild>
     requires { IfSome option (λ o. IsLabelOption (version_of packet.now) o.now) }
-    ensures ok { OnOk result (out.new.items ≡ packet_octets (rewritten (headers_of packet.now) (option_copied option.entry) hops)) }
-    ensures no_room { (result ≡ Err Rebuild.NoRoom) ↔ (room_limit (version_of packet.now) < rebuilt_room (rewritten (headers_of packet.now) (option_copied option.entry) hops)) }
-    ensures too_long { (result ≡ Err Rebuild.TooLong) ↔ ((rebuilt_room (rewritten (headers_of packet.now) (option_copied option.entry) hops) ≤ room_limit (version_of packet.now))
-        × (65535 < rebuilt_length (rewritten (headers_of packet.now) (option_copied option.entry) hops))) }
+    ensures ok { OnOk result
+        (out.new.items ≡ packet_octets
+        (rewritten (headers_of packet.now) (option_copied option.entry) hops)) }
+    ensures no_room { (result ≡ Err Rebuild.NoRoom) ↔
+        (room_limit (version_of packet.now) < rebuilt_room
+        (rewritten (headers_of packet.now) (option_copied option.entry) hops)) }
+    ensures too_long { (result ≡ Err Rebuild.TooLong) ↔
+        ((rebuilt_room
+        (rewritten (headers_of packet.now) (option_copied option.entry) hops) ≤ room_limit
+        (version_of packet.now))
+        ×
+        (65535 < rebuilt_length
+        (rewritten (headers_of packet.now) (option_copied option.entry) hops))) }
     ensures err { OnErr result (out.new.items ≡ []) }
 {
     match packet {

@@ -40,12 +40,16 @@ impl Frames {
     /// Version or LinkType; `ReadFault` comes only where the count of failed reads of this name rose in this call,
     /// and no other answer moves a count.
     pub fn begin<D: Depot>(alloc: Global, depot: &mut D, name: &str) -> Result<Frames, FrameStop>
-        ensures answer { IsTrue (D.state depot.old).tells → IsAnswerOf (λ frames. frames.header) result (capture_header (octets_of ((D.state depot.old).held name.now))) }
-        ensures present { IsTrue (D.state depot.old).tells → SpeaksOf ((D.state depot.old).held name.now) result }
+        ensures answer { IsTrue (D.state depot.old).tells
+            → IsAnswerOf (λ frames. frames.header) result
+            (capture_header (octets_of ((D.state depot.old).held name.now))) }
+        ensures present { IsTrue (D.state depot.old).tells
+            → SpeaksOf ((D.state depot.old).held name.now) result }
         ensures name { IfOk result (λ frames. frames.name ≡ name.now) }
         ensures place { IfOk result (λ frames. frames.place ≡ 24) }
         ensures ready { IfOk result (λ frames. IsReady (D.state depot.new) frames) }
-        ensures frame { OnlyReads FrameStop.ReadFault result name.now (D.state depot.old) (D.state depot.new) }
+        ensures frame { OnlyReads FrameStop.ReadFault result name.now (D.state depot.old)
+            (D.state depot.new) }
     {
         let own_name = String::from_str(alloc, name)?;
         let mut window = Window::new(alloc)?;
@@ -70,18 +74,24 @@ impl Frames {
         into: &mut Vec<u8>,
     ) -> Result<Option<FrameHead>, FrameStop>
         requires ready { IsReady (D.state depot.old) self.old }
-        ensures answer { IsTrue (D.state depot.old).tells → IsAnswerOf (option_map (λ head. record { head = head; octets = into.new.items })) result
-            (record_at self.old.header.order self.old.place (drop self.old.place (octets_of ((D.state depot.old).held self.old.name)))) }
+        ensures answer { IsTrue (D.state depot.old).tells
+            → IsAnswerOf
+            (option_map (λ head. record { head = head; octets = into.new.items })) result
+            (record_at self.old.header.order self.old.place
+            (drop self.old.place (octets_of ((D.state depot.old).held self.old.name)))) }
         ensures captured { vec_len into.new ≤ 262144 }
         ensures none { IfOk result (λ read. read ≡ None → into.new.items ≡ []) }
-        ensures moved { IfOk result (λ read. self.new.place ≡ self.old.place + (if is_some read then 16 + vec_len into.new else 0)) }
+        ensures moved { IfOk result
+            (λ read. self.new.place ≡ self.old.place +
+            (if is_some read then 16 + vec_len into.new else 0)) }
         ensures stands { OnErr result (self.new.place ≡ self.old.place) }
         ensures empty { OnErr result (into.new.items ≡ []) }
         ensures memory { vec_capacity into.old ≤ vec_capacity into.new }
         ensures name { self.new.name ≡ self.old.name }
         ensures header { self.new.header ≡ self.old.header }
         ensures ready { IsReady (D.state depot.new) self.new }
-        ensures frame { OnlyReads FrameStop.ReadFault result self.old.name (D.state depot.old) (D.state depot.new) }
+        ensures frame { OnlyReads FrameStop.ReadFault result self.old.name (D.state depot.old)
+            (D.state depot.new) }
     {
         into.clear();
         let read = read_record(

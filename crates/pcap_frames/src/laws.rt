@@ -10,7 +10,8 @@ ghost use Rattle.pcap_frames.specs.Written.{IsWritableFrame, frames_octets, capt
 
 /// A capture is read in one way.
 pub fn a_capture_has_one_reading()
-    ensures { (octets : List ℕ) (one other : Capture) → IsCapture octets one → IsCapture octets other → one ≡ other }
+    ensures { (octets : List ℕ) (one other : Capture) → IsCapture octets one
+        → IsCapture octets other → one ≡ other }
 {}
 
 /// All records from a place on are the one there and those behind it.
@@ -23,17 +24,25 @@ pub fn records_come_one_behind_another()
 pub fn a_reader_stands_in_its_capture()
     ensures { (reader : Reader) (file : List ℕ) (stands : ReaderStandsIn reader file)
         → let behind = records_at reader.header.order reader.place (drop reader.place file) in
-        capture_of file ≡ Ok (record { header = reader.header; frames = stands.frames ++ behind.frames; fault = behind.fault }) }
+        capture_of file ≡ Ok
+        (record {
+          header = reader.header;
+          frames = stands.frames
+              ++ behind.frames;
+          fault = behind.fault;
+        }) }
 {}
 
 /// A reader that stands in a file stands in it still when the file has grown.
 pub fn a_reader_stands_in_a_longer_file()
-    ensures { (reader : Reader) (file more : List ℕ) → ReaderStandsIn reader file → ReaderStandsIn reader (file ++ more) }
+    ensures { (reader : Reader) (file more : List ℕ) → ReaderStandsIn reader file
+        → ReaderStandsIn reader (file ++ more) }
 {}
 
 /// The first fault of a file stands at most at the file's length.
 pub fn faults_stand_within_the_file()
-    ensures { (file : List ℕ) (fault : CaptureFault) → fault_of file ≡ Some fault → fault.octet ≤ length file }
+    ensures { (file : List ℕ) (fault : CaptureFault) → fault_of file ≡ Some fault
+        → fault.octet ≤ length file }
 {}
 
 /// So does a fault at the place of a reader.
@@ -47,10 +56,15 @@ pub fn a_readers_fault_stands_within_the_file()
 pub fn a_written_capture_reads_back()
     ensures { (nanos : Bool) (frames : List Frame) → All IsWritableFrame frames
         → IsCapture (capture_octets nanos frames)
-        (record { header = record { order = Little; nanos = nanos; link = 101 }; frames = frames; fault = None }) }
+        (record {
+          header = record { order = Little; nanos = nanos; link = 101 };
+          frames = frames;
+          fault = None;
+        }) }
 {}
 
 /// Frames are written one behind another.
 pub fn frames_are_written_in_their_order()
-    ensures { (frames more : List Frame) → frames_octets (frames ++ more) ≡ frames_octets frames ++ frames_octets more }
+    ensures { (frames more : List Frame) → frames_octets (frames ++ more) ≡ frames_octets frames
+        ++ frames_octets more }
 {}

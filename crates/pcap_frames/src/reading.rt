@@ -30,9 +30,11 @@ fn look<D: Depot>(
     need: usize,
 ) -> Result<(), IoFault>
     requires need { need ≤ 65536 }
-    requires ahead { IsTrue (D.state depot.old).tells → IsFrom (octets_of ((D.state depot.old).held name.now)) place window.old }
+    requires ahead { IsTrue (D.state depot.old).tells
+        → IsFrom (octets_of ((D.state depot.old).held name.now)) place window.old }
     requires place { place + length window.old < 2 ^ 64 }
-    ensures ahead { IsTrue (D.state depot.old).tells → IsFrom (octets_of ((D.state depot.old).held name.now)) place window.new }
+    ensures ahead { IsTrue (D.state depot.old).tells
+        → IsFrom (octets_of ((D.state depot.old).held name.now)) place window.new }
     ensures enough { OnOk result (IsTrue (D.state depot.old).tells → length window.new < need
         → length window.new ≡ length (drop place (octets_of ((D.state depot.old).held name.now)))) }
     ensures place { place + length window.new < 2 ^ 64 }
@@ -54,13 +56,16 @@ fn read_head<D: Depot>(
     place: u64,
     window: &mut Window,
 ) -> Result<Option<RecordHead>, FrameStop>
-    requires ahead { IsTrue (D.state depot.old).tells → IsFrom (octets_of ((D.state depot.old).held name.now)) place window.old }
+    requires ahead { IsTrue (D.state depot.old).tells
+        → IsFrom (octets_of ((D.state depot.old).held name.now)) place window.old }
     requires place { place + length window.old < 2 ^ 64 }
     ensures answer { IsTrue (D.state depot.old).tells
-        → IsAnswerOf (λ read. read) result (head_at order place (drop place (octets_of ((D.state depot.old).held name.now)))) }
+        → IsAnswerOf (λ read. read) result
+        (head_at order place (drop place (octets_of ((D.state depot.old).held name.now)))) }
     ensures head { IfOk result (λ read. IfSome read (λ head. 16 ≤ length window.new)) }
     ensures captured { IfOk result (λ read. IfSome read (λ head. head.captured ≤ 262144)) }
-    ensures ahead { IsTrue (D.state depot.old).tells → IsFrom (octets_of ((D.state depot.old).held name.now)) place window.new }
+    ensures ahead { IsTrue (D.state depot.old).tells
+        → IsFrom (octets_of ((D.state depot.old).held name.now)) place window.new }
     ensures place { place + length window.new < 2 ^ 64 }
     ensures frame { OnlyReads FrameStop.ReadFault result name.now
         (D.state depot.old)
@@ -82,13 +87,18 @@ fn take_held<D: Depot>(
     requires room { 16 + head.captured ≤ 65536 }
     requires head { 16 ≤ length window.old }
     requires empty { into.old.items ≡ [] }
-    requires ahead { IsTrue (D.state depot.old).tells → IsFrom (octets_of ((D.state depot.old).held name.now)) place.old window.old }
+    requires ahead { IsTrue (D.state depot.old).tells
+        → IsFrom (octets_of ((D.state depot.old).held name.now)) place.old window.old }
     requires place { place.old + length window.old < 2 ^ 64 }
-    ensures answer { IsTrue (D.state depot.old).tells → IsAnswerOf (λ taken. Some (record { head = head.frame; octets = into.new.items })) result
-        (behind_head place.old (drop place.old (octets_of ((D.state depot.old).held name.now))) (Ok (Some head))) }
+    ensures answer { IsTrue (D.state depot.old).tells
+        → IsAnswerOf (λ taken. Some (record { head = head.frame; octets = into.new.items })) result
+        (behind_head place.old (drop place.old (octets_of ((D.state depot.old).held name.now)))
+        (Ok (Some head))) }
     ensures captured { OnOk result (vec_len into.new ≡ head.captured) }
-    ensures moved { place.new ≡ (if is_ok result then place.old + (16 + head.captured) else place.old) }
-    ensures ahead { IsTrue (D.state depot.old).tells → IsFrom (octets_of ((D.state depot.old).held name.now)) place.new window.new }
+    ensures moved { place.new ≡
+        (if is_ok result then place.old + (16 + head.captured) else place.old) }
+    ensures ahead { IsTrue (D.state depot.old).tells
+        → IsFrom (octets_of ((D.state depot.old).held name.now)) place.new window.new }
     ensures memory { vec_capacity into.old ≤ vec_capacity into.new }
     ensures place { place.new + length window.new < 2 ^ 64 }
     ensures frame { OnlyReads FrameStop.ReadFault result name.now
@@ -119,9 +129,11 @@ fn read_behind<D: Depot>(
     ensures len { OnOk result (vec_len into.new ≡ whole) }
     ensures count { IfOk result (λ n. n ≤ whole - vec_len into.old) }
     ensures end { IfOk result (λ n. IsTrue (D.state depot.old).tells
-        → n ≡ min (whole - vec_len into.old) (length (octets_of ((D.state depot.old).held name.now)) - from)) }
+        → n ≡ min (whole - vec_len into.old)
+        (length (octets_of ((D.state depot.old).held name.now)) - from)) }
     ensures octets { IfOk result (λ n. IsTrue (D.state depot.old).tells
-        → take (vec_len into.old + n) into.new.items ≡ into.old.items ++ take n (drop from (octets_of ((D.state depot.old).held name.now)))) }
+        → take (vec_len into.old + n) into.new.items ≡ into.old.items
+        ++ take n (drop from (octets_of ((D.state depot.old).held name.now)))) }
     ensures memory { vec_capacity into.old ≤ vec_capacity into.new }
     ensures place { IfOk result (λ n. from + n < 2 ^ 64) }
     ensures frame { OnlyReads IoFault.Failed result name.now
@@ -146,13 +158,18 @@ fn take_long<D: Depot>(
     requires long { 65536 < 16 + head.captured }
     requires head { 16 ≤ length window.old }
     requires empty { into.old.items ≡ [] }
-    requires ahead { IsTrue (D.state depot.old).tells → IsFrom (octets_of ((D.state depot.old).held name.now)) place.old window.old }
+    requires ahead { IsTrue (D.state depot.old).tells
+        → IsFrom (octets_of ((D.state depot.old).held name.now)) place.old window.old }
     requires place { place.old + length window.old < 2 ^ 64 }
-    ensures answer { IsTrue (D.state depot.old).tells → IsAnswerOf (λ taken. Some (record { head = head.frame; octets = into.new.items })) result
-        (behind_head place.old (drop place.old (octets_of ((D.state depot.old).held name.now))) (Ok (Some head))) }
+    ensures answer { IsTrue (D.state depot.old).tells
+        → IsAnswerOf (λ taken. Some (record { head = head.frame; octets = into.new.items })) result
+        (behind_head place.old (drop place.old (octets_of ((D.state depot.old).held name.now)))
+        (Ok (Some head))) }
     ensures captured { OnOk result (vec_len into.new ≡ head.captured) }
-    ensures moved { place.new ≡ (if is_ok result then place.old + (16 + head.captured) else place.old) }
-    ensures ahead { IsTrue (D.state depot.old).tells → IsFrom (octets_of ((D.state depot.old).held name.now)) place.new window.new }
+    ensures moved { place.new ≡
+        (if is_ok result then place.old + (16 + head.captured) else place.old) }
+    ensures ahead { IsTrue (D.state depot.old).tells
+        → IsFrom (octets_of ((D.state depot.old).held name.now)) place.new window.new }
     ensures memory { vec_capacity into.old ≤ vec_capacity into.new }
     ensures place { place.new + length window.new < 2 ^ 64 }
     ensures frame { OnlyReads FrameStop.ReadFault result name.now
@@ -184,13 +201,18 @@ fn take_octets<D: Depot>(
 ) -> Result<(), FrameStop>
     requires head { 16 ≤ length window.old }
     requires empty { into.old.items ≡ [] }
-    requires ahead { IsTrue (D.state depot.old).tells → IsFrom (octets_of ((D.state depot.old).held name.now)) place.old window.old }
+    requires ahead { IsTrue (D.state depot.old).tells
+        → IsFrom (octets_of ((D.state depot.old).held name.now)) place.old window.old }
     requires place { place.old + length window.old < 2 ^ 64 }
-    ensures answer { IsTrue (D.state depot.old).tells → IsAnswerOf (λ taken. Some (record { head = head.frame; octets = into.new.items })) result
-        (behind_head place.old (drop place.old (octets_of ((D.state depot.old).held name.now))) (Ok (Some head))) }
+    ensures answer { IsTrue (D.state depot.old).tells
+        → IsAnswerOf (λ taken. Some (record { head = head.frame; octets = into.new.items })) result
+        (behind_head place.old (drop place.old (octets_of ((D.state depot.old).held name.now)))
+        (Ok (Some head))) }
     ensures captured { OnOk result (vec_len into.new ≡ head.captured) }
-    ensures moved { place.new ≡ (if is_ok result then place.old + (16 + head.captured) else place.old) }
-    ensures ahead { IsTrue (D.state depot.old).tells → IsFrom (octets_of ((D.state depot.old).held name.now)) place.new window.new }
+    ensures moved { place.new ≡
+        (if is_ok result then place.old + (16 + head.captured) else place.old) }
+    ensures ahead { IsTrue (D.state depot.old).tells
+        → IsFrom (octets_of ((D.state depot.old).held name.now)) place.new window.new }
     ensures memory { vec_capacity into.old ≤ vec_capacity into.new }
     ensures place { place.new + length window.new < 2 ^ 64 }
     ensures frame { OnlyReads FrameStop.ReadFault result name.now
@@ -214,15 +236,20 @@ pub fn read_record<D: Depot>(
     into: &mut Vec<u8>,
 ) -> Result<Option<FrameHead>, FrameStop>
     requires empty { into.old.items ≡ [] }
-    requires ahead { IsTrue (D.state depot.old).tells → IsFrom (octets_of ((D.state depot.old).held name.now)) place.old window.old }
+    requires ahead { IsTrue (D.state depot.old).tells
+        → IsFrom (octets_of ((D.state depot.old).held name.now)) place.old window.old }
     requires place { place.old + length window.old < 2 ^ 64 }
-    ensures answer { IsTrue (D.state depot.old).tells → IsAnswerOf (option_map (λ head. record { head = head; octets = into.new.items })) result
-        (record_at order place.old (drop place.old (octets_of ((D.state depot.old).held name.now)))) }
+    ensures answer { IsTrue (D.state depot.old).tells
+        → IsAnswerOf (option_map (λ head. record { head = head; octets = into.new.items })) result
+        (record_at order place.old
+        (drop place.old (octets_of ((D.state depot.old).held name.now)))) }
     ensures captured { OnOk result (vec_len into.new ≤ 262144) }
     ensures none { IfOk result (λ read. read ≡ None → into.new.items ≡ []) }
-    ensures moved { IfOk result (λ read. place.new ≡ place.old + (if is_some read then 16 + vec_len into.new else 0)) }
+    ensures moved { IfOk result
+        (λ read. place.new ≡ place.old + (if is_some read then 16 + vec_len into.new else 0)) }
     ensures stands { OnErr result (place.new ≡ place.old) }
-    ensures ahead { IsTrue (D.state depot.old).tells → IsFrom (octets_of ((D.state depot.old).held name.now)) place.new window.new }
+    ensures ahead { IsTrue (D.state depot.old).tells
+        → IsFrom (octets_of ((D.state depot.old).held name.now)) place.new window.new }
     ensures memory { vec_capacity into.old ≤ vec_capacity into.new }
     ensures place { place.new + length window.new < 2 ^ 64 }
     ensures frame { OnlyReads FrameStop.ReadFault result name.now
@@ -242,9 +269,14 @@ pub fn read_start<D: Depot>(
     name: &str,
     window: &mut Window,
 ) -> Result<CaptureHeader, FrameStop>
-    ensures answer { IsTrue (D.state depot.old).tells → IsAnswerOf (λ header. header) result (capture_header (octets_of ((D.state depot.old).held name.now))) }
-    ensures present { IsTrue (D.state depot.old).tells → SpeaksOf ((D.state depot.old).held name.now) result }
-    ensures ahead { OnOk result (IsTrue (D.state depot.old).tells → IsFrom (octets_of ((D.state depot.old).held name.now)) 24 window.new) }
+    ensures answer { IsTrue (D.state depot.old).tells
+        → IsAnswerOf (λ header. header) result
+        (capture_header (octets_of ((D.state depot.old).held name.now))) }
+    ensures present { IsTrue (D.state depot.old).tells
+        → SpeaksOf ((D.state depot.old).held name.now) result }
+    ensures ahead { OnOk result
+        (IsTrue (D.state depot.old).tells
+        → IsFrom (octets_of ((D.state depot.old).held name.now)) 24 window.new) }
     ensures place { OnOk result (24 + length window.new < 2 ^ 64) }
     ensures frame { OnlyReads FrameStop.ReadFault result name.now
         (D.state depot.old)

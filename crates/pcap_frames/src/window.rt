@@ -73,10 +73,14 @@ impl Window {
 
     /// Reads a window of the file from the octet `place` on, by as many octets as there are and fit.
     pub fn fill<D: Depot>(&mut self, depot: &mut D, name: &str, place: u64) -> Result<(), IoFault>
-        ensures octets { OnOk result (IsTrue (D.state depot.old).tells → IsFrom (octets_of ((D.state depot.old).held name.now)) place self.new) }
+        ensures octets { OnOk result
+            (IsTrue (D.state depot.old).tells
+            → IsFrom (octets_of ((D.state depot.old).held name.now)) place self.new) }
         ensures count { OnOk result (IsTrue (D.state depot.old).tells
-            → length self.new ≡ min 65536 (length (octets_of ((D.state depot.old).held name.now)) - place)) }
-        ensures present { OnOk result (IsTrue (D.state depot.old).tells → IsSome ((D.state depot.old).held name.now)) }
+            → length self.new ≡ min 65536
+            (length (octets_of ((D.state depot.old).held name.now)) - place)) }
+        ensures present { OnOk result
+            (IsTrue (D.state depot.old).tells → IsSome ((D.state depot.old).held name.now)) }
         ensures place { OnOk result (place + length self.new < 2 ^ 64) }
         ensures err { OnErr result (self.new ≡ []) }
         ensures frame { OnlyReads IoFault.Failed result name.now

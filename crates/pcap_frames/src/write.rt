@@ -28,7 +28,8 @@ fn header_octets(nanos: bool) -> [u8; CAPTURE_HEAD]
 
 /// The octets of the head of a record that was captured whole.
 fn record_octets(head: FrameHead, length: u32) -> [u8; RECORD_HEAD]
-    ensures { result ≡ little_bytes 4 head.seconds ++ (little_bytes 4 head.fraction ++ (little_bytes 4 length ++ little_bytes 4 length)) }
+    ensures { result ≡ little_bytes 4 head.seconds
+        ++ (little_bytes 4 head.fraction ++ (little_bytes 4 length ++ little_bytes 4 length)) }
 {
     let mut octets = [0; RECORD_HEAD];
     LittleEndian::write_u32(&mut octets, head.seconds);

@@ -19,7 +19,8 @@ pub fn write_reply(
     reply: &Reply,
     out: &mut Vec<u8>,
 ) -> Result<(), OutOfMemory>
-    ensures ok { OnOk result (out.new.items ≡ out.old.items ++ reply_text number node.now reply.now) }
+    ensures ok { OnOk result
+        (out.new.items ≡ out.old.items ++ reply_text number node.now reply.now) }
     ensures err { OnErr result (out.new.items ≡ out.old.items) }
 {
     let before = out.len();
@@ -35,7 +36,8 @@ fn append_reply(
     reply: &Reply,
     out: &mut Vec<u8>,
 ) -> Result<(), OutOfMemory>
-    ensures ok { OnOk result (out.new.items ≡ out.old.items ++ reply_text number node.now reply.now) }
+    ensures ok { OnOk result
+        (out.new.items ≡ out.old.items ++ reply_text number node.now reply.now) }
     ensures err { OnErr result (Extends out.old.items out.new.items) }
 {
     out.extend_from_slice(b"command ")?;

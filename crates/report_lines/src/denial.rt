@@ -17,7 +17,8 @@ pub fn write_verdict(
     label: &Label,
     line: &mut Vec<u8>,
 ) -> Result<(), OutOfMemory>
-    ensures ok { OnOk result (line.new.items ≡ line.old.items ++ verdict_line (with_label verdict.now label.now)) }
+    ensures ok { OnOk result
+        (line.new.items ≡ line.old.items ++ verdict_line (with_label verdict.now label.now)) }
     ensures err { OnErr result (line.new.items ≡ line.old.items) }
 {
     let before = line.len();
@@ -31,7 +32,8 @@ fn append_verdict(
     label: &Label,
     line: &mut Vec<u8>,
 ) -> Result<(), OutOfMemory>
-    ensures ok { OnOk result (line.new.items ≡ line.old.items ++ verdict_line (with_label verdict.now label.now)) }
+    ensures ok { OnOk result
+        (line.new.items ≡ line.old.items ++ verdict_line (with_label verdict.now label.now)) }
     ensures err { OnErr result (Extends line.old.items line.new.items) }
 {
     match verdict {

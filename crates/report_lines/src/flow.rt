@@ -49,7 +49,8 @@ pub fn write_walked(
     walked: &Walked,
     line: &mut Vec<u8>,
 ) -> Result<(), OutOfMemory>
-    ensures ok { OnOk result (line.new.items ≡ line.old.items ++ walked_line flow number names.now hops.now walked.now) }
+    ensures ok { OnOk result
+        (line.new.items ≡ line.old.items ++ walked_line flow number names.now hops.now walked.now) }
     ensures err { OnErr result (line.new.items ≡ line.old.items) }
 {
     let before = line.len();
@@ -67,7 +68,8 @@ fn append_walked(
     walked: &Walked,
     line: &mut Vec<u8>,
 ) -> Result<(), OutOfMemory>
-    ensures ok { OnOk result (line.new.items ≡ line.old.items ++ walked_line flow number names.now hops.now walked.now) }
+    ensures ok { OnOk result
+        (line.new.items ≡ line.old.items ++ walked_line flow number names.now hops.now walked.now) }
     ensures err { OnErr result (Extends line.old.items line.new.items) }
 {
     line.extend_from_slice(b"packet ")?;
@@ -89,7 +91,8 @@ fn append_end(
     end: &End,
     line: &mut Vec<u8>,
 ) -> Result<(), OutOfMemory>
-    ensures ok { OnOk result (line.new.items ≡ line.old.items ++ end_text names.now hops.now end.now) }
+    ensures ok { OnOk result
+        (line.new.items ≡ line.old.items ++ end_text names.now hops.now end.now) }
     ensures err { OnErr result (Extends line.old.items line.new.items) }
 {
     match end {
@@ -200,7 +203,8 @@ pub fn write_flow_end(
     denied: u64,
     line: &mut Vec<u8>,
 ) -> Result<(), OutOfMemory>
-    ensures ok { OnOk result (line.new.items ≡ line.old.items ++ flow_end_line flow packets passed denied) }
+    ensures ok { OnOk result
+        (line.new.items ≡ line.old.items ++ flow_end_line flow packets passed denied) }
     ensures err { OnErr result (line.new.items ≡ line.old.items) }
 {
     let before = line.len();
@@ -217,7 +221,8 @@ fn append_flow_end(
     denied: u64,
     line: &mut Vec<u8>,
 ) -> Result<(), OutOfMemory>
-    ensures ok { OnOk result (line.new.items ≡ line.old.items ++ flow_end_line flow packets passed denied) }
+    ensures ok { OnOk result
+        (line.new.items ≡ line.old.items ++ flow_end_line flow packets passed denied) }
     ensures err { OnErr result (Extends line.old.items line.new.items) }
 {
     line.extend_from_slice(b"end ")?;

@@ -29,7 +29,9 @@ pub fn write_packet(
     label: &mut Label,
     line: &mut Vec<u8>,
 ) -> Result<(), OutOfMemory>
-    ensures ok { OnOk result ((text : List ℕ) × IsShown link frame.now text × (line.new.items ≡ line.old.items ++ shown_line number text)) }
+    ensures ok { OnOk result
+        ((text : List ℕ) × IsShown link frame.now text
+        × (line.new.items ≡ line.old.items ++ shown_line number text)) }
     ensures err { OnErr result (line.new.items ≡ line.old.items) }
 {
     let before = line.len();
@@ -46,7 +48,9 @@ fn append_packet(
     label: &mut Label,
     line: &mut Vec<u8>,
 ) -> Result<(), OutOfMemory>
-    ensures ok { OnOk result ((text : List ℕ) × IsShown link frame.now text × (line.new.items ≡ line.old.items ++ shown_line number text)) }
+    ensures ok { OnOk result
+        ((text : List ℕ) × IsShown link frame.now text
+        × (line.new.items ≡ line.old.items ++ shown_line number text)) }
     ensures err { OnErr result (Extends line.old.items line.new.items) }
 {
     line.extend_from_slice(b"packet ")?;
@@ -64,7 +68,9 @@ fn append_frame(
     label: &mut Label,
     line: &mut Vec<u8>,
 ) -> Result<(), OutOfMemory>
-    ensures ok { OnOk result ((text : List ℕ) × IsShown link frame.now text × (line.new.items ≡ line.old.items ++ text)) }
+    ensures ok { OnOk result
+        ((text : List ℕ) × IsShown link frame.now text
+        × (line.new.items ≡ line.old.items ++ text)) }
     ensures err { OnErr result (Extends line.old.items line.new.items) }
 {
     let Some(packet) = ip_part(link, frame) else {
@@ -90,7 +96,8 @@ fn append_fault(name: &[u8], octet: usize, line: &mut Vec<u8>) -> Result<(), Out
 
 /// Appends what a label option says, where there is one; its label is lent.
 fn append_option(mark: Option<Mark>, label: &Label, line: &mut Vec<u8>) -> Result<(), OutOfMemory>
-    ensures ok { OnOk result (line.new.items ≡ line.old.items ++ option_text (wire_with mark label.now)) }
+    ensures ok { OnOk result
+        (line.new.items ≡ line.old.items ++ option_text (wire_with mark label.now)) }
     ensures err { OnErr result (Extends line.old.items line.new.items) }
 {
     match mark {
@@ -111,7 +118,8 @@ fn append_cipso(
     label: &Label,
     line: &mut Vec<u8>,
 ) -> Result<(), OutOfMemory>
-    ensures ok { OnOk result (line.new.items ≡ line.old.items ++ option_text (Some (wire.Cipso at doi tag label.now))) }
+    ensures ok { OnOk result
+        (line.new.items ≡ line.old.items ++ option_text (Some (wire.Cipso at doi tag label.now))) }
     ensures err { OnErr result (Extends line.old.items line.new.items) }
 {
     append_doi(b"cipsov4", doi, line)?;
@@ -121,7 +129,8 @@ fn append_cipso(
 
 /// Appends what a CALIPSO option at this octet says.
 fn append_calipso(at: usize, doi: u32, label: &Label, line: &mut Vec<u8>) -> Result<(), OutOfMemory>
-    ensures ok { OnOk result (line.new.items ≡ line.old.items ++ option_text (Some (wire.Calipso at doi label.now))) }
+    ensures ok { OnOk result
+        (line.new.items ≡ line.old.items ++ option_text (Some (wire.Calipso at doi label.now))) }
     ensures err { OnErr result (Extends line.old.items line.new.items) }
 {
     append_doi(b"calipso", doi, line)?;
@@ -130,7 +139,8 @@ fn append_calipso(at: usize, doi: u32, label: &Label, line: &mut Vec<u8>) -> Res
 
 /// Appends a protocol by its name, and its DOI.
 fn append_doi(name: &[u8], doi: u32, line: &mut Vec<u8>) -> Result<(), AllocError>
-    ensures ok { OnOk result (line.new.items ≡ line.old.items ++ (name.now ++ codes " doi " ++ decimal doi)) }
+    ensures ok { OnOk result
+        (line.new.items ≡ line.old.items ++ (name.now ++ codes " doi " ++ decimal doi)) }
     ensures err { OnErr result (Extends line.old.items line.new.items) }
 {
     line.extend_from_slice(name)?;
@@ -140,7 +150,8 @@ fn append_doi(name: &[u8], doi: u32, line: &mut Vec<u8>) -> Result<(), AllocErro
 
 /// Appends the type of a tag.
 fn append_tag(tag: Tag, line: &mut Vec<u8>) -> Result<(), AllocError>
-    ensures ok { OnOk result (line.new.items ≡ line.old.items ++ (codes " tag " ++ decimal (tag_type tag))) }
+    ensures ok { OnOk result
+        (line.new.items ≡ line.old.items ++ (codes " tag " ++ decimal (tag_type tag))) }
     ensures err { OnErr result (Extends line.old.items line.new.items) }
 {
     line.extend_from_slice(b" tag ")?;
@@ -149,7 +160,9 @@ fn append_tag(tag: Tag, line: &mut Vec<u8>) -> Result<(), AllocError>
 
 /// Appends a label, and the octet of its option.
 fn append_said(label: &Label, at: usize, line: &mut Vec<u8>) -> Result<(), OutOfMemory>
-    ensures ok { OnOk result (line.new.items ≡ line.old.items ++ (codes " " ++ label_text label.now ++ octet_detail at)) }
+    ensures ok { OnOk result
+        (line.new.items ≡ line.old.items
+        ++ (codes " " ++ label_text label.now ++ octet_detail at)) }
     ensures err { OnErr result (Extends line.old.items line.new.items) }
 {
     line.extend_from_slice(b" ")?;

@@ -46,7 +46,8 @@ fn append_script_fault(fault: ScriptFault, line: &mut Vec<u8>) -> Result<(), Out
 
 /// Appends the last word of a line.
 fn append_last(word: &str, line: &mut Vec<u8>) -> Result<(), OutOfMemory>
-    ensures ok { OnOk result (line.new.items ≡ line.old.items ++ (codes " " ++ word.now ++ 10 ∷ [])) }
+    ensures ok { OnOk result
+        (line.new.items ≡ line.old.items ++ (codes " " ++ word.now ++ 10 ∷ [])) }
     ensures err { OnErr result (Extends line.old.items line.new.items) }
 {
     line.extend_from_slice(b" ")?;

@@ -8,7 +8,8 @@ ghost use Rattle.script_lines.specs.Word.{is_word_text, placed, words_of_line, I
 
 /// No line has a LF.
 pub fn lines_have_no_line_feed()
-    ensures { (text : List ℕ) → All (λ line. list_any (λ octet. octet == 10) line ≡ false) (lines text) }
+    ensures { (text : List ℕ)
+        → All (λ line. list_any (λ octet. octet == 10) line ≡ false) (lines text) }
 {}
 
 /// A word stands in its line at its place, and is one: it isn't empty, has no blank and doesn't begin with `#`.
@@ -24,7 +25,8 @@ pub fn plain_octets_are_a_line()
 
 /// Words that are joined by spaces are the words of that line, also behind blanks.
 pub fn joined_words_read_back()
-    ensures { (blanks : List ℕ) (texts : List (List ℕ)) → All (λ octet. IsTrue (is_blank octet)) blanks
+    ensures { (blanks : List ℕ) (texts : List (List ℕ))
+        → All (λ octet. IsTrue (is_blank octet)) blanks
         → All (λ text. IsTrue (is_word_text text)) texts
         → words_of_line (blanks ++ join_with_byte 32 texts) ≡ placed (length blanks) texts }
 {}

@@ -76,7 +76,8 @@ fn append_words<'a>(line: &'a [u8], words: &mut Vec<Word<'a>>) -> Result<(), Out
 
 /// Appends a word that isn't empty.
 fn append_word<'a>(word: Word<'a>, words: &mut Vec<Word<'a>>) -> Result<(), OutOfMemory>
-    ensures { OnOk result (words.new.items ≡ words.old.items ++ filter (λ w. has_octets w.text) (word.entry ∷ [])) }
+    ensures { OnOk result
+        (words.new.items ≡ words.old.items ++ filter (λ w. has_octets w.text) (word.entry ∷ [])) }
 {
     if !word.text.is_empty() {
         words.push(word)?;

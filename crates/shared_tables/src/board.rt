@@ -41,8 +41,17 @@ impl Board {
         requires viewers { (0 < viewers) × (viewers ≤ 16) }
         requires version { version ≤ length (arc_value plan).steps }
         requires network { network ≡ network_after (arc_value plan) version }
-        ensures publisher { IfOk result (λ begun. (begun.0.plan ≡ arc_value plan) × (begun.0.version ≡ version)) }
-        ensures viewers { IfOk result (λ begun. (length begun.1.items ≡ viewers) × All (λ viewer. viewer ≡ record { board = begun.0.board; plan = arc_value plan; seen = version }) begun.1.items) }
+        ensures publisher { IfOk result
+            (λ begun. (begun.0.plan ≡ arc_value plan) × (begun.0.version ≡ version)) }
+        ensures viewers { IfOk result
+            (λ begun. (length begun.1.items ≡ viewers)
+            × All
+            (λ viewer. viewer
+            ≡ record {
+              board = begun.0.board;
+              plan = arc_value plan;
+              seen = version;
+            }) begun.1.items) }
         ensures err { IfErr result (λ unbegun. unbegun.network ≡ network) }
     {
         let Ok(writer) = open(alloc, &network, &plan, version, viewers) else {
@@ -75,7 +84,9 @@ fn open(
     requires within { version ≤ length (arc_value plan.now).steps }
     requires network { network.now ≡ network_after (arc_value plan.now) version }
     requires viewers { (0 < viewers) × (viewers ≤ 16) }
-    ensures state { IfOk result (λ writer. (arc_value writer.desk.shown.value.plan ≡ arc_value plan.now) × (writer.desk.shown.value.version ≡ version)) }
+    ensures state { IfOk result
+        (λ writer. (arc_value writer.desk.shown.value.plan ≡ arc_value plan.now)
+        × (writer.desk.shown.value.version ≡ version)) }
     ensures pending { IfOk result (λ writer. drop writer.behind writer.log.items ≡ []) }
 {
     let first = state_of(network, plan, version)?;
@@ -87,7 +98,8 @@ fn open(
 fn state_of(network: &Network, plan: &Arc<Plan>, version: u32) -> Result<State, OutOfMemory>
     requires within { version ≤ length (arc_value plan.now).steps }
     requires network { network.now ≡ network_after (arc_value plan.now) version }
-    ensures { IfOk result (λ state. (arc_value state.plan ≡ arc_value plan.now) × (state.version ≡ version)) }
+    ensures { IfOk result
+        (λ state. (arc_value state.plan ≡ arc_value plan.now) × (state.version ≡ version)) }
 {
     let network = network.copy()?;
     let plan = Arc::try_clone(plan).map_err(|_| OutOfMemory)?;
@@ -104,10 +116,21 @@ fn seats(
     writer: &mut Writer<State, Advance, View, Rule>,
     viewers: usize,
 ) -> Result<Vec<Viewer>, OutOfMemory>
-    requires { view writer.old.desk.place ≡ known (arc_value writer.old.desk.shown.value.plan) writer.old.desk.shown.value.version }
-    ensures kept { (writer.new.desk.shown.value ≡ writer.old.desk.shown.value) × (drop writer.new.behind writer.new.log.items ≡ drop writer.old.behind writer.old.log.items) × (view writer.new.desk.place ≡ view writer.old.desk.place) }
+    requires { view writer.old.desk.place ≡ known
+        (arc_value writer.old.desk.shown.value.plan) writer.old.desk.shown.value.version }
+    ensures kept { (writer.new.desk.shown.value ≡ writer.old.desk.shown.value)
+        ×
+        (drop writer.new.behind writer.new.log.items ≡ drop writer.old.behind writer.old.log.items)
+        × (view writer.new.desk.place ≡ view writer.old.desk.place) }
     ensures count { IfOk result (λ all. length all.items ≡ viewers) }
-    ensures each { IfOk result (λ all. All (λ viewer. viewer ≡ record { board = board_name; plan = arc_value writer.old.desk.shown.value.plan; seen = writer.old.desk.shown.value.version }) all.items) }
+    ensures each { IfOk result
+        (λ all. All
+        (λ viewer. viewer
+        ≡ record {
+          board = board_name;
+          plan = arc_value writer.old.desk.shown.value.plan;
+          seen = writer.old.desk.shown.value.version;
+        }) all.items) }
 {
     let mut all = Vec::new(alloc);
     for _ in 0..viewers {
@@ -119,9 +142,19 @@ fn seats(
 
 // A place for a viewer, which knows what the writer knows.
 fn place(writer: &mut Writer<State, Advance, View, Rule>) -> Result<Viewer, OutOfMemory>
-    requires { view writer.old.desk.place ≡ known (arc_value writer.old.desk.shown.value.plan) writer.old.desk.shown.value.version }
-    ensures kept { (writer.new.desk.shown.value ≡ writer.old.desk.shown.value) × (drop writer.new.behind writer.new.log.items ≡ drop writer.old.behind writer.old.log.items) × (view writer.new.desk.place ≡ view writer.old.desk.place) }
-    ensures viewer { IfOk result (λ viewer. viewer ≡ record { board = board_name; plan = arc_value writer.old.desk.shown.value.plan; seen = writer.old.desk.shown.value.version }) }
+    requires { view writer.old.desk.place ≡ known
+        (arc_value writer.old.desk.shown.value.plan) writer.old.desk.shown.value.version }
+    ensures kept { (writer.new.desk.shown.value ≡ writer.old.desk.shown.value)
+        ×
+        (drop writer.new.behind writer.new.log.items ≡ drop writer.old.behind writer.old.log.items)
+        × (view writer.new.desk.place ≡ view writer.old.desk.place) }
+    ensures viewer { IfOk result
+        (λ viewer. viewer
+        ≡ record {
+          board = board_name;
+          plan = arc_value writer.old.desk.shown.value.plan;
+          seen = writer.old.desk.shown.value.version;
+        }) }
 {
     let Ok(mut reader) = writer.factory().reader() else {
         return Err(OutOfMemory);

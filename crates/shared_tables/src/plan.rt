@@ -24,7 +24,8 @@ impl Model for Plan {
 
     ghost view = { λ plan. record { nodes = plan.nodes; steps = plan.steps.items } };
 
-    ghost invariant = { λ plan. (length plan.steps.items < 2 ^ 32) × All (λ step. step.node < plan.nodes) plan.steps.items };
+    ghost invariant = { λ plan. (length plan.steps.items < 2 ^ 32)
+        × All (λ step. step.node < plan.nodes) plan.steps.items };
 }
 
 impl Plan {
@@ -37,7 +38,8 @@ impl Plan {
         requires nodes { nodes ≤ 32 }
         requires inside { All (λ step. step.node < nodes) steps.items }
         requires few { length steps.items < 2 ^ 32 }
-        ensures { IfOk result (λ plan. arc_value plan ≡ record { nodes = nodes; steps = steps.items }) }
+        ensures { IfOk result
+            (λ plan. arc_value plan ≡ record { nodes = nodes; steps = steps.items }) }
     {
         let plan = Plan { nodes, steps };
         Arc::new(alloc, plan).map_err(|_| OutOfMemory)

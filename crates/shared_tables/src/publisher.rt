@@ -39,15 +39,23 @@ impl Model for Publisher {
 
     ghost view = { λ p. record { board = board_name; plan = arc_value p.writer.desk.shown.value.plan; version = p.writer.desk.shown.value.version } };
 
-    ghost invariant = { λ p. IsReady p.writer.desk.shown.value (sides.view p.writer.desk.place) (length (drop p.writer.behind p.writer.log.items)) p.ahead p.waiting };
+    ghost invariant = { λ p. IsReady p.writer.desk.shown.value (sides.view p.writer.desk.place)
+        (length (drop p.writer.behind p.writer.log.items)) p.ahead p.waiting };
 }
 
 impl Publisher {
     pub(crate) fn of(writer: Writer<State, Advance, View, Rule>, network: Network) -> Publisher
-        requires knows { view writer.desk.place ≡ known (arc_value writer.desk.shown.value.plan) writer.desk.shown.value.version }
+        requires knows { view writer.desk.place ≡ known
+            (arc_value writer.desk.shown.value.plan) writer.desk.shown.value.version }
         requires none { length (drop writer.behind writer.log.items) ≡ 0 }
-        requires network { network ≡ network_after (arc_value writer.desk.shown.value.plan) writer.desk.shown.value.version }
-        ensures { result ≡ record { board = board_name; plan = arc_value writer.desk.shown.value.plan; version = writer.desk.shown.value.version } }
+        requires network { network ≡ network_after
+            (arc_value writer.desk.shown.value.plan) writer.desk.shown.value.version }
+        ensures { result
+            ≡ record {
+              board = board_name;
+              plan = arc_value writer.desk.shown.value.plan;
+              version = writer.desk.shown.value.version;
+            } }
     {
         Publisher {
             writer,
@@ -61,7 +69,8 @@ impl Publisher {
     /// that step, once.
     pub fn step<R: Wait>(&mut self, rt: &R) -> Result<Reply, OutOfMemory>
         requires { self.old.version < length self.old.plan.steps }
-        ensures reply { IfOk result (λ reply. reply_after self.old.plan self.old.version ≡ Some reply) }
+        ensures reply { IfOk result
+            (λ reply. reply_after self.old.plan self.old.version ≡ Some reply) }
         ensures ok { OnOk result (self.new ≡ record self.old { version = self.old.version + 1 }) }
         ensures err { OnErr result (self.new ≡ self.old) }
     {
@@ -124,8 +133,12 @@ fn prepare(
     waiting: &mut Option<Reply>,
 ) -> Result<(), OutOfMemory>
     requires left { state.now.version < length (arc_value state.now.plan).steps }
-    requires ahead { MatchOption waiting.old (ahead.old ≡ network_after (arc_value state.now.plan) state.now.version) (λ reply. IsNext (arc_value state.now.plan) state.now.version ahead.old reply) }
-    ensures ok { OnOk result (MatchOption waiting.new ⊥ (λ reply. IsNext (arc_value state.now.plan) state.now.version ahead.new reply)) }
+    requires ahead { MatchOption waiting.old
+        (ahead.old ≡ network_after (arc_value state.now.plan) state.now.version)
+        (λ reply. IsNext (arc_value state.now.plan) state.now.version ahead.old reply) }
+    ensures ok { OnOk result
+        (MatchOption waiting.new ⊥
+        (λ reply. IsNext (arc_value state.now.plan) state.now.version ahead.new reply)) }
     ensures err { OnErr result ((ahead.new ≡ ahead.old) × (waiting.new ≡ waiting.old)) }
 {
     if waiting.is_none() {
@@ -140,7 +153,9 @@ fn append(writer: &mut Writer<State, Advance, View, Rule>) -> Result<(), OutOfMe
     requires { length (drop writer.old.behind writer.old.log.items) ≤ 1 }
     ensures desk { writer.new.desk ≡ writer.old.desk }
     ensures ok { OnOk result (length (drop writer.new.behind writer.new.log.items) ≡ 1) }
-    ensures err { OnErr result (length (drop writer.new.behind writer.new.log.items) ≡ length (drop writer.old.behind writer.old.log.items)) }
+    ensures err { OnErr result
+        (length (drop writer.new.behind writer.new.log.items) ≡ length
+        (drop writer.old.behind writer.old.log.items)) }
 {
     if writer.has_pending_operations() {
         return Ok(());
@@ -153,8 +168,14 @@ pub(crate) fn publish<R: Wait>(
     writer: Writer<State, Advance, View, Rule>,
     rt: &R,
 ) -> (Writer<State, Advance, View, Rule>, Result<(), AllocError>)
-    ensures ok { OnOk result.1 (HasPublished writer.desk.shown.value (length (drop writer.behind writer.log.items)) result.0.desk.shown.value (length (drop result.0.behind result.0.log.items)) (view result.0.desk.place)) }
-    ensures err { OnErr result.1 ((result.0.desk.shown.value ≡ writer.desk.shown.value) × (drop result.0.behind result.0.log.items ≡ drop writer.behind writer.log.items) × (view result.0.desk.place ≡ view writer.desk.place)) }
+    ensures ok { OnOk result.1
+        (HasPublished writer.desk.shown.value
+        (length (drop writer.behind writer.log.items)) result.0.desk.shown.value
+        (length (drop result.0.behind result.0.log.items)) (view result.0.desk.place)) }
+    ensures err { OnErr result.1
+        ((result.0.desk.shown.value ≡ writer.desk.shown.value)
+        × (drop result.0.behind result.0.log.items ≡ drop writer.behind writer.log.items)
+        × (view result.0.desk.place ≡ view writer.desk.place)) }
 {
     writer.publish_as::<Sees, R>(rt)
 }

@@ -36,7 +36,8 @@ impl State {
     pub fn advance(&mut self) -> Result<Reply, OutOfMemory>
         requires { self.old.version < length (arc_value self.old.plan).steps }
         ensures plan { arc_value self.new.plan ≡ arc_value self.old.plan }
-        ensures reply { IfOk result (λ reply. reply_after (arc_value self.old.plan) self.old.version ≡ Some reply) }
+        ensures reply { IfOk result
+            (λ reply. reply_after (arc_value self.old.plan) self.old.version ≡ Some reply) }
         ensures ok { OnOk result (self.new.version ≡ self.old.version + 1) }
         ensures err { OnErr result (self.new.version ≡ self.old.version) }
     {

@@ -34,7 +34,8 @@ fn command(rt: &impl Abort, alloc: Global, line: &str) -> Command {
 
 fn plan_of(rt: &impl Abort, alloc: Global, lines: &[&str]) -> Arc<Plan>
     requires { length lines.now < 2 ^ 32 }
-    ensures { ((arc_value result).nodes ≡ 1) × (length (arc_value result).steps ≡ length lines.now) }
+    ensures { ((arc_value result).nodes ≡ 1)
+        × (length (arc_value result).steps ≡ length lines.now) }
 {
     let mut steps = Vec::new(alloc);
     for line in lines {
@@ -62,7 +63,8 @@ fn begun<R: Wait + Abort>(
     requires version { version ≤ length (arc_value plan).steps }
     requires network { network ≡ network_after (arc_value plan) version }
     ensures publisher { (result.0.plan ≡ arc_value plan) × (result.0.version ≡ version) }
-    ensures viewer { result.1 ≡ record { board = result.0.board; plan = arc_value plan; seen = version } }
+    ensures viewer { result.1
+        ≡ record { board = result.0.board; plan = arc_value plan; seen = version } }
 {
     let Ok((publisher, mut viewers)) = Board::begin(rt, alloc, network, plan, version, 1) else {
         panic!(rt; "memory")

@@ -40,7 +40,12 @@ impl Model for Viewer {
 impl Viewer {
     pub(crate) fn of(reader: Reader<State, View, Rule>, seen: u32) -> Viewer
         requires { (view reader.place).knows ≡ true }
-        ensures { result ≡ record { board = board_name; plan = (view reader.place).plan; seen = seen } }
+        ensures { result ≡ record {
+          board = board_name;
+          plan =
+              (view reader.place).plan;
+          seen = seen;
+        } }
     {
         Viewer {
             reader,
@@ -53,7 +58,8 @@ impl Viewer {
     /// nobody. Where a look is refused, `f` isn't called.
     pub fn look<R, F: FnOnce(u32, &Network) -> R>(&mut self, f: F) -> Result<R, OutOfMemory>
         requires { MayLook F.FnOnce f self.old.plan self.old.seen }
-        ensures ok { IfOk result (λ given. HasLooked F.FnOnce f self.old.plan self.old.seen self.new.seen given) }
+        ensures ok { IfOk result
+            (λ given. HasLooked F.FnOnce f self.old.plan self.old.seen self.new.seen given) }
         ensures kept { (self.new.board ≡ self.old.board) × (self.new.plan ≡ self.old.plan) }
         ensures err { OnErr result (self.new ≡ self.old) }
     {
@@ -95,8 +101,10 @@ fn look_in<R, F: FnOnce(u32, &Network) -> R>(
 ) -> (Reader<State, View, Rule>, Result<(u32, R), OutOfMemory>)
     requires knows { (view reader.place).knows ≡ true }
     requires may { MayLook F.FnOnce with.0 (view reader.place).plan with.1 }
-    ensures knows { ((view result.0.place).knows ≡ true) × ((view result.0.place).plan ≡ (view reader.place).plan) }
-    ensures ok { IfOk result.1 (λ seen. HasLooked F.FnOnce with.0 (view reader.place).plan with.1 seen.0 seen.1) }
+    ensures knows { ((view result.0.place).knows ≡ true)
+        × ((view result.0.place).plan ≡ (view reader.place).plan) }
+    ensures ok { IfOk result.1
+        (λ seen. HasLooked F.FnOnce with.0 (view reader.place).plan with.1 seen.0 seen.1) }
 {
     let (f, floor) = with;
     match reader.enter_as::<Sees>() {

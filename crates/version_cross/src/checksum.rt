@@ -38,7 +38,8 @@ fn written_checksum(protocol: u8, checksum: u16) -> u16
 /// Puts a number of 16 bits at this place, in network order.
 fn put_u16(number: u16, place: usize, octets: &mut Vec<u8>)
     requires { place + 1 < length octets.old.items }
-    ensures { octets.new.items ≡ take place octets.old.items ++ to_be_bytes w16 number ++ drop (place + 2) octets.old.items }
+    ensures { octets.new.items ≡ take place octets.old.items ++ to_be_bytes w16 number
+        ++ drop (place + 2) octets.old.items }
 {
     let bytes = number.to_be_bytes();
     octets[place] = bytes[0];
@@ -49,7 +50,8 @@ fn put_u16(number: u16, place: usize, octets: &mut Vec<u8>)
 pub fn update_segment(protocol: u8, segment: &[u8], old: u16, new: u16, packet: &mut Vec<u8>)
     requires whole { segment_minimum protocol ≤ length segment.now }
     requires within { length segment.now ≤ length packet.old.items }
-    ensures { (head : List ℕ) → packet.old.items ≡ head ++ segment.now → packet.new.items ≡ head ++ crossed_segment protocol old new segment.now }
+    ensures { (head : List ℕ) → packet.old.items ≡ head ++ segment.now → packet.new.items ≡ head
+        ++ crossed_segment protocol old new segment.now }
 {
     let checksum = updated_checksum(segment_checksum(protocol, segment), old, new);
     let place = packet.len() - segment.len() + checksum_place(protocol);

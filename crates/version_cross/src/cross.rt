@@ -31,8 +31,11 @@ pub fn cross4to6(
 ) -> Result<(), CrossFault>
     requires crossable { cross_cause view.now ≡ None }
     requires label { IsLabelOption V6 option.now }
-    ensures ok { OnOk result (out.new.items ≡ packet_octets (crossed_with view.now source destination (Some option.now) hops)) }
-    ensures too_long { (result ≡ Err CrossFault.TooLong) ↔ (65535 < rebuilt_length (crossed_with view.now source destination (Some option.now) hops)) }
+    ensures ok { OnOk result
+        (out.new.items ≡ packet_octets
+        (crossed_with view.now source destination (Some option.now) hops)) }
+    ensures too_long { (result ≡ Err CrossFault.TooLong) ↔
+        (65535 < rebuilt_length (crossed_with view.now source destination (Some option.now) hops)) }
     ensures err { OnErr result (out.new.items ≡ []) }
 {
     let fields = Fields6 {
@@ -63,8 +66,11 @@ pub fn cross6to4(
 ) -> Result<(), CrossFault>
     requires crossable { cross_cause view.now ≡ None }
     requires label { IsLabelOption V4 option.now }
-    ensures ok { OnOk result (out.new.items ≡ packet_octets (crossed_with view.now source destination (Some option.now) hops)) }
-    ensures too_long { (result ≡ Err CrossFault.TooLong) ↔ (65535 < rebuilt_length (crossed_with view.now source destination (Some option.now) hops)) }
+    ensures ok { OnOk result
+        (out.new.items ≡ packet_octets
+        (crossed_with view.now source destination (Some option.now) hops)) }
+    ensures too_long { (result ≡ Err CrossFault.TooLong) ↔
+        (65535 < rebuilt_length (crossed_with view.now source destination (Some option.now) hops)) }
     ensures err { OnErr result (out.new.items ≡ []) }
 {
     let fields = Fields4 {
@@ -94,8 +100,14 @@ fn write_crossed6(
     requires whole { segment_minimum fields.now.protocol ≤ length segment.now }
     requires flow { fields.now.flow_label < 2 ^ 20 }
     requires label { IsLabelOption V6 option.now }
-    ensures ok { OnOk result (out.new.items ≡ packet_octets (packet6 fields.now (Some option.now) [] (crossed_segment fields.now.protocol old new segment.now))) }
-    ensures too_long { (result ≡ Err CrossFault.TooLong) ↔ (65535 < rebuilt_length (packet6 fields.now (Some option.now) [] (crossed_segment fields.now.protocol old new segment.now))) }
+    ensures ok { OnOk result
+        (out.new.items ≡ packet_octets
+        (packet6 fields.now (Some option.now) []
+        (crossed_segment fields.now.protocol old new segment.now))) }
+    ensures too_long { (result ≡ Err CrossFault.TooLong) ↔
+        (65535 < rebuilt_length
+        (packet6 fields.now (Some option.now) []
+        (crossed_segment fields.now.protocol old new segment.now))) }
     ensures err { OnErr result (out.new.items ≡ []) }
 {
     match write6(fields, Some(option), segment, out) {
@@ -120,8 +132,14 @@ fn write_crossed4(
 ) -> Result<(), CrossFault>
     requires whole { segment_minimum fields.now.protocol ≤ length segment.now }
     requires label { IsLabelOption V4 option.now }
-    ensures ok { OnOk result (out.new.items ≡ packet_octets (packet4 fields.now (Some option.now) [] (crossed_segment fields.now.protocol old new segment.now))) }
-    ensures too_long { (result ≡ Err CrossFault.TooLong) ↔ (65535 < rebuilt_length (packet4 fields.now (Some option.now) [] (crossed_segment fields.now.protocol old new segment.now))) }
+    ensures ok { OnOk result
+        (out.new.items ≡ packet_octets
+        (packet4 fields.now (Some option.now) []
+        (crossed_segment fields.now.protocol old new segment.now))) }
+    ensures too_long { (result ≡ Err CrossFault.TooLong) ↔
+        (65535 < rebuilt_length
+        (packet4 fields.now (Some option.now) []
+        (crossed_segment fields.now.protocol old new segment.now))) }
     ensures err { OnErr result (out.new.items ≡ []) }
 {
     match write4(fields, Some(option), segment, out) {

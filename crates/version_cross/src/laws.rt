@@ -37,7 +37,8 @@ pub fn crossed_packets_can_cross_back()
 pub fn crossed_packets_have_room()
     ensures { (p : Headers) (source destination : List ℕ) (option : Option (List ℕ)) (hops : ℕ)
         → IfSome option (IsLabelOption (other_version p.version))
-        → rebuilt_room (crossed_with p source destination option hops) ≤ room_limit (other_version p.version) }
+        → rebuilt_room (crossed_with p source destination option hops) ≤ room_limit
+        (other_version p.version) }
 {}
 
 /// A packet that crossed is read as itself, within its length.
@@ -47,5 +48,7 @@ pub fn crossed_packets_read_back()
         → hops < 256
         → IfSome option (λ o. IsLabelOption (other_version p.version) o × IsOctets o)
         → rebuilt_length (crossed_with p source destination option hops) ≤ 65535
-        → packet_of (other_version p.version) (packet_octets (crossed_with p source destination option hops)) ≡ Ok (crossed_with p source destination option hops) }
+        → packet_of (other_version p.version)
+        (packet_octets (crossed_with p source destination option hops)) ≡ Ok
+        (crossed_with p source destination option hops) }
 {}
