@@ -4,8 +4,8 @@ use Rattle.std.specs.Option.{option_map}
 use Rattle.pcap_frames.specs.declared.fault.CaptureFault.{CaptureFault}
 use Rattle.pcap_frames.specs.Record.{Frame}
 use Rattle.pcap_frames.specs.Capture.{Capture}
-use Rattle.report_lines.specs.Fixed.{packets_limit_line}
-use Rattle.report_lines.specs.Capture.{capture_line}
+use Rattle.call_report.specs.Lines.Fixed.{packets_limit_line}
+use Rattle.call_report.specs.Lines.Capture.{capture_line}
 
 -- the status, and the line that tells it
 pub record Event : Type 0 where

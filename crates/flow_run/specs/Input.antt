@@ -7,7 +7,7 @@ use Rattle.pcap_frames.specs.Record.{Frame}
 use Rattle.pcap_frames.specs.Capture.{Capture, capture_of}
 use Rattle.pcap_frames.specs.Ip.{ip_part_of}
 use Rattle.packet_walk.specs.declared.packet.PacketIn.{PacketIn}
-use Rattle.report_lines.specs.Capture.{capture_line}
+use Rattle.call_report.specs.Lines.Capture.{capture_line}
 use Rattle.call_report.specs.Event.{Event, capture_event}
 
 -- the header of a capture that could be begun, its frames that may be judged, and the event behind them, if there is one

@@ -11,7 +11,7 @@ use Rattle.shared_tables.specs.Plan.{PlanState}
 use Rattle.label_flow.specs.Pair.{PairState}
 use Rattle.label_flow.specs.Walked.{AreWalked}
 use Rattle.label_flow.specs.Schedule.{versions_in}
-use Rattle.report_lines.specs.Flow.{flow_line, walked_line, flow_end_line}
+use Rattle.call_report.specs.Lines.Flow.{flow_line, walked_line, flow_end_line}
 use Rattle.call_report.specs.Output.{Output}
 use Rattle.flow_run.specs.Input.{FlowInput, packets_in}
 

@@ -18,7 +18,7 @@ use Rattle.netlabel_run.specs.Commands.{netlabel_says}
 use Rattle.call_report.specs.Report.{Report, late_report}
 use Rattle.call_report.specs.Stages.{reading_stage}
 use Rattle.call_report.specs.Outside.{Outside}
-use Rattle.call_report.specs.Numbers.{status_number}
+use Rattle.call_report.specs.Status.{status_number}
 use Rattle.call_report.specs.Printing.{Printed}
 use Rattle.netlabel_run.proofs.Endings.{ends_printed}
 use Rattle.netlabel_run.specs.inside.Ending.{IsOnlyRead, ReadsScript}

@@ -22,8 +22,8 @@ use Rattle.label_receive.specs.declared.receiving.Delivered.{Delivered}
 use Rattle.label_receive.specs.Incoming.{address_in}
 use Rattle.label_receive.specs.Receive.{receive_of}
 use Rattle.label_receive.specs.Judged.{IsJudged}
-use Rattle.report_lines.specs.Denial.{Verdict, verdict_line}
-use Rattle.report_lines.specs.Fixed.{packet_limit_line}
+use Rattle.call_report.specs.Lines.Denial.{Verdict, verdict_line}
+use Rattle.call_report.specs.Lines.Fixed.{packet_limit_line}
 use Rattle.call_report.specs.Report.{Report, late_report}
 use Rattle.call_report.specs.Says.{Says, reading_says}
 

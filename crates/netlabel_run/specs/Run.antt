@@ -7,7 +7,7 @@ use Rattle.call_report.specs.Report.{Folder, Versions, Report, late_report}
 use Rattle.call_report.specs.Event.{packets_limit}
 use Rattle.call_report.specs.Output.{Output}
 use Rattle.call_report.specs.Stages.{Stage, reading_stage}
-use Rattle.report_lines.specs.Script.{script_stop_line}
+use Rattle.call_report.specs.Lines.Script.{script_stop_line}
 use Rattle.flow_access.specs.Access.{HaveAccess}
 use Rattle.flow_run.specs.Input.{packets_in}
 use Rattle.flow_run.specs.Run.{FlowRun}

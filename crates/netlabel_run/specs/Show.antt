@@ -5,8 +5,8 @@ use Rattle.std.specs.Option.{option_map_or}
 use Rattle.pcap_frames.specs.declared.fault.CaptureFault.{CaptureFault}
 use Rattle.pcap_frames.specs.Record.{Frame}
 use Rattle.pcap_frames.specs.Capture.{Capture, capture_of}
-use Rattle.report_lines.specs.Packet.{IsShown, shown_line, shown_end_line}
-use Rattle.report_lines.specs.Capture.{capture_line}
+use Rattle.call_report.specs.Lines.Packet.{IsShown, shown_line, shown_end_line}
+use Rattle.call_report.specs.Lines.Capture.{capture_line}
 use Rattle.call_report.specs.Report.{Report, late_report}
 use Rattle.call_report.specs.Event.{Event, packets_limit, capture_event}
 use Rattle.call_report.specs.Says.{Says, reading_says}

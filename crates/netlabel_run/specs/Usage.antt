@@ -1,6 +1,6 @@
 -- What is said of words that are no form.
 use Rattle.std.specs.Prelude.{◌≡◌, []}
-use Rattle.report_lines.specs.Fixed.{usage_line}
+use Rattle.call_report.specs.Lines.Fixed.{usage_line}
 use Rattle.call_report.specs.Report.{late_report}
 use Rattle.call_report.specs.Says.{Says}
 

@@ -6,7 +6,7 @@ ghost use Rattle.packet_label.specs.Packet.{IsOfItsVersion, headers_of};
 ghost use Rattle.command_values.specs.Ranges.{range_below};
 ghost use Rattle.node_tables.specs.Effect.{applied};
 ghost use Rattle.netlabel_run.specs.Judge.{protocol_in, judge_node, IsVerdict};
-ghost use Rattle.report_lines.specs.Denial.{with_label};
+ghost use Rattle.call_report.specs.Lines.Denial.{with_label};
 
 use address_text::{Name, read_name};
 use command_forms::{Command, Step};

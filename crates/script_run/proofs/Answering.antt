@@ -13,8 +13,9 @@ use Rattle.node_tables.specs.Steps.{step_applied, step_reply, reply_at, tables_a
 use Rattle.node_tables.proofs.Law.{steps_apply_one_by_one, nodes_keep_their_number}
 use Rattle.shared_tables.specs.Plan.{PlanState, reply_after}
 use Rattle.label_flow.specs.Round.{AreReplies}
-use Rattle.reply_lines.specs.Reply.{reply_text, name_at, reply_line_at, replies_text}
-use Rattle.reply_lines.proofs.Law.{no_steps_have_no_replies, replies_come_one_by_one, a_step_is_answered_at_its_node}
+use Rattle.call_report.specs.Lines.Parts.{name_at}
+use Rattle.call_report.specs.Lines.Reply.{reply_text, reply_line_at, replies_text}
+use Rattle.call_report.proofs.Law.{no_steps_have_no_replies, replies_come_one_by_one, a_step_is_answered_at_its_node}
 use Rattle.call_report.specs.Printing.{HandsOn}
 use Rattle.call_report.proofs.Law.{texts_join, nothing_is_handed_on, a_failing_text_fails_with_more}
 
