@@ -6,8 +6,8 @@ ghost use Rattle.call_report.specs.inside.Extends.{Extends};
 
 use crate::parts::append_octet;
 use crate::whole::all_or_nothing;
-use decimal_text::write_decimal;
 use mls_label::OutOfMemory;
+use octet_grammar::write_decimal;
 use pcap_frames::{CaptureFault, CaptureKind};
 
 /// Appends the line of a capture that is broken, by the capture's number. After an error `line` is as it was.

@@ -6,9 +6,9 @@ ghost use Rattle.call_report.specs.inside.Extends.{Extends};
 
 use crate::parts::append_octet;
 use crate::whole::all_or_nothing;
-use decimal_text::write_decimal;
 use mls_label::{Label, OutOfMemory};
 use mls_range::write_label;
+use octet_grammar::write_decimal;
 use packet_label::{Denial, cause_name};
 use std::alloc::AllocError;
 

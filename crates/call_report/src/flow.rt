@@ -9,9 +9,9 @@ ghost use Rattle.call_report.specs.inside.Extends.{Extends};
 use crate::denial::{append_delivered, append_denied};
 use crate::whole::all_or_nothing;
 use address_text::{Name, write_address};
-use decimal_text::write_decimal;
 use flow_lines::{FileName, Hop};
 use mls_label::OutOfMemory;
+use octet_grammar::write_decimal;
 use packet_label::Carrier;
 use packet_walk::{End, Walked};
 

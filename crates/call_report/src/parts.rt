@@ -4,7 +4,7 @@ ghost use Rattle.std.specs.Prelude.{◌≡◌, ◌++◌, OnOk, OnErr};
 ghost use Rattle.call_report.specs.Lines.Parts.{octet_detail};
 ghost use Rattle.call_report.specs.inside.Extends.{Extends};
 
-use decimal_text::write_decimal;
+use octet_grammar::write_decimal;
 use std::alloc::AllocError;
 
 /// Appends an octet, that of a fault or of an option.
