@@ -5,8 +5,8 @@ ghost use Rattle.report_lines.specs.Capture.{kind_name, capture_line};
 ghost use Rattle.report_lines.specs.inside.Extends.{Extends};
 
 use crate::denial::append_octet;
-use octet_grammar::write_decimal;
 use mls_label::OutOfMemory;
+use octet_grammar::write_decimal;
 use pcap_frames::{CaptureFault, CaptureKind};
 use reply_lines::all_or_nothing;
 

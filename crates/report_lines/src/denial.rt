@@ -4,9 +4,9 @@ ghost use Rattle.std.specs.Prelude.{◌≡◌, ◌++◌, OnOk, OnErr};
 ghost use Rattle.report_lines.specs.Denial.{octet_detail, detail_of, denial_text, delivered_text, verdict_line, with_label};
 ghost use Rattle.report_lines.specs.inside.Extends.{Extends};
 
-use octet_grammar::write_decimal;
 use mls_label::{Label, OutOfMemory};
 use mls_range::write_label;
+use octet_grammar::write_decimal;
 use packet_label::{Denial, cause_name};
 use reply_lines::all_or_nothing;
 use std::alloc::AllocError;

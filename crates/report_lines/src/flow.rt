@@ -8,9 +8,9 @@ ghost use Rattle.report_lines.specs.inside.Extends.{Extends};
 
 use crate::denial::{append_delivered, append_denied};
 use address_text::{Name, write_address};
-use octet_grammar::write_decimal;
 use flow_lines::{FileName, Hop};
 use mls_label::OutOfMemory;
+use octet_grammar::write_decimal;
 use packet_label::Carrier;
 use packet_walk::{End, Walked};
 use reply_lines::all_or_nothing;

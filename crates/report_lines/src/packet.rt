@@ -12,9 +12,9 @@ ghost use Rattle.report_lines.specs.inside.Extends.{Extends};
 
 use crate::denial::append_octet;
 use cipso_tags::type_octet;
-use octet_grammar::write_decimal;
 use mls_label::{Label, OutOfMemory, Tag};
 use mls_range::write_label;
+use octet_grammar::write_decimal;
 use packet_label::{CarryFault, Mark, carried_into};
 use pcap_frames::ip_part;
 use reply_lines::all_or_nothing;

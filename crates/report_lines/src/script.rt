@@ -5,9 +5,9 @@ ghost use Rattle.report_lines.specs.Script.{script_kind_name, script_line, limit
 ghost use Rattle.report_lines.specs.inside.Extends.{Extends};
 
 use crate::denial::append_octet;
-use octet_grammar::write_decimal;
 use label_commands::{LimitName, ScriptFault, ScriptKind, ScriptStop};
 use mls_label::OutOfMemory;
+use octet_grammar::write_decimal;
 use reply_lines::all_or_nothing;
 
 /// Appends the line that tells why a text is no script; nothing for want of memory. After an error `line` is as it was.
