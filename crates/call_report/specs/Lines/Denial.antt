@@ -8,7 +8,7 @@ use Rattle.packet_label.specs.declared.denial.Denial.TheVariants.{BadHeader, Bad
 use Rattle.packet_label.specs.Denial.{number_of, name_of, cause_name}
 use Rattle.call_report.specs.Lines.Parts.{line_of, octet_detail}
 
--- what is printed behind a denial's name: the octet at fault, the category, or the cause
+-- what is printed behind a denial's name: the octet at fault, the category, the cause, or nothing
 abbrev pub detail_of : Denial → List ℕ
 detail_of (BadHeader octet) = octet_detail octet
 detail_of (BadOption octet) = octet_detail octet
