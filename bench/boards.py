@@ -156,7 +156,7 @@ fn step_to<R: Wait>(rt: &R, publisher: &mut Publisher, version: u32)
 
 PROOFS = {
     "steps_of/Invariants.antt": """use Rattle.std.proofs.Common.{◌<◌, All}
-use Rattle.command_forms.specs.declared.command.Step.{Step}
+use Rattle.script_lines.specs.declared.command.Step.{Step}
 use Rattle.bench_program.proofs.steps_of.Given as goal
 
 abbrev pub invariant-loop-line : goal.invariant-loop-line

@@ -3,8 +3,8 @@ use Rattle.std.specs.Prelude.{ℕ, Bool, List, [], ◌∷◌, ◌++◌, length, 
 use Rattle.std.specs.List.{slice_get}
 use Rattle.std.specs.Str.{bytes_eq}
 use Rattle.node_readings.specs.Reading.{NamedMeanings}
-use Rattle.command_forms.specs.declared.command.Command.{Command}
-use Rattle.command_forms.specs.declared.command.Step.{Step}
+use Rattle.script_lines.specs.declared.command.Command.{Command}
+use Rattle.script_lines.specs.declared.command.Step.{Step}
 use Rattle.flow_lines.specs.declared.flow.FlowLine.{FlowLine}
 
 -- the nodes in the order in which they come first, the number of the current one, the steps, each node's reading where a line gives one,

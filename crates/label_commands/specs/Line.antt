@@ -13,13 +13,13 @@ use Rattle.address_text.specs.Name.{is_name, name_of_text}
 use Rattle.node_readings.specs.declared.fault.ReadingFault.{ReadingFault}
 use Rattle.node_readings.specs.declared.fault.ReadingFault.TheVariants as Unread
 use Rattle.node_readings.specs.Reading.{NamedMeanings, reading_fault}
-use Rattle.line_forms.specs.declared.row.Row.{Row}
-use Rattle.line_forms.specs.declared.row.Row.TheVariants.{Reading}
-use Rattle.line_forms.specs.declared.fields.Fields.{Fields}
-use Rattle.line_forms.specs.declared.said.Said.{Said}
-use Rattle.line_forms.specs.Form.{Edition, line_rows}
-use Rattle.line_forms.specs.Said.{begins_line, read_said}
-use Rattle.command_forms.specs.Command.{command_of}
+use Rattle.script_lines.specs.declared.row.Row.{Row}
+use Rattle.script_lines.specs.declared.row.Row.TheVariants.{Reading}
+use Rattle.script_lines.specs.declared.fields.Fields.{Fields}
+use Rattle.script_lines.specs.declared.said.Said.{Said}
+use Rattle.script_lines.specs.Form.{Edition, line_rows}
+use Rattle.script_lines.specs.Said.{begins_line, read_said}
+use Rattle.script_lines.specs.Command.{command_of}
 use Rattle.flow_lines.specs.Flow.{read_flow}
 use Rattle.label_commands.specs.Above.{Above, at_node, with_step, has_reading, with_reading, with_flow}
 

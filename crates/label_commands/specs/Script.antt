@@ -7,7 +7,7 @@ use Rattle.script_lines.specs.declared.stop.LimitName.TheVariants.{Octets}
 use Rattle.script_lines.specs.declared.stop.LineStop.{LineStop}
 use Rattle.script_lines.specs.declared.stop.LineStop.TheVariants as Of
 use Rattle.node_readings.specs.Reading.{NamedMeanings}
-use Rattle.line_forms.specs.Form.{Edition}
+use Rattle.script_lines.specs.Form.{Edition}
 use Rattle.label_commands.specs.declared.script.Script.{Script}
 use Rattle.label_commands.specs.declared.stop.ScriptStop.{ScriptStop}
 use Rattle.label_commands.specs.declared.stop.ScriptStop.TheVariants as Stop

@@ -14,8 +14,8 @@ use Rattle.packet_label.specs.Packet.{IsPacket}
 use Rattle.domain_map.specs.declared.protocol.Protocol.{Protocol}
 use Rattle.domain_map.specs.declared.protocol.Protocol.TheVariants.{Cipso, Calipso}
 use Rattle.command_values.specs.Ranges.{range_below}
-use Rattle.command_forms.specs.declared.command.Command.{Command}
-use Rattle.command_forms.specs.declared.command.Command.TheVariants.{CipsoAddPass, CalipsoAddPass, MapAdd, ReceiverAdd}
+use Rattle.script_lines.specs.declared.command.Command.{Command}
+use Rattle.script_lines.specs.declared.command.Command.TheVariants.{CipsoAddPass, CalipsoAddPass, MapAdd, ReceiverAdd}
 use Rattle.node_tables.specs.Tables.{TableState, fresh}
 use Rattle.node_tables.specs.Effect.{applied}
 use Rattle.label_receive.specs.declared.receiving.Delivered.{Delivered}

@@ -7,9 +7,9 @@ use Rattle.doi_table.specs.Table.{Entries, same_proto}
 use Rattle.domain_map.specs.Domains.{Domains, Line, lines_of}
 use Rattle.domain_map.specs.Statics.{Statics}
 use Rattle.domain_map.specs.declared.static_map.StaticEntry.{StaticEntry}
-use Rattle.command_forms.specs.declared.command.Command.{Command}
-use Rattle.command_forms.specs.declared.command.Command.TheVariants.{CipsoAddPass, CipsoAddTrans, CalipsoAddPass, CalipsoAddTrans, MapAdd, AcceptOn, AcceptOff, UnlblAdd}
-use Rattle.command_forms.specs.Command.{command_text}
+use Rattle.script_lines.specs.declared.command.Command.{Command}
+use Rattle.script_lines.specs.declared.command.Command.TheVariants.{CipsoAddPass, CipsoAddTrans, CalipsoAddPass, CalipsoAddTrans, MapAdd, AcceptOn, AcceptOff, UnlblAdd}
+use Rattle.script_lines.specs.Command.{command_text}
 
 -- pairs of categories as a command has them, which leaves them out where there are none
 abbrev pub some_pairs : List (ℕ × ℕ) → Option (List (ℕ × ℕ))

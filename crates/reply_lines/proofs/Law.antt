@@ -1,6 +1,6 @@
 -- The statements of the laws, as terms.
 use Rattle.std.proofs.Common.{◌≡◌, ℕ, ◌+◌, suc, List, [], ◌++◌, length, Some, slice_get, refl, ap, arith}
-use Rattle.command_forms.specs.declared.command.Step.{Step}
+use Rattle.script_lines.specs.declared.command.Step.{Step}
 use Rattle.node_tables.specs.declared.reply.Reply.{Reply}
 use Rattle.node_tables.specs.Steps.{step_reply, tables_after}
 use Rattle.reply_lines.specs.Reply.{reply_text, reply_line_at, replies_text}

@@ -1,7 +1,7 @@
 //! What the definitions say of each other, for all scripts.
 
 ghost use Rattle.std.specs.Prelude.{◌≡◌, ℕ, ◌+◌, List, [], ◌++◌, Some, length, slice_get};
-ghost use Rattle.command_forms.specs.declared.command.Step.{Step};
+ghost use Rattle.script_lines.specs.declared.command.Step.{Step};
 ghost use Rattle.node_tables.specs.declared.reply.Reply.{Reply};
 ghost use Rattle.node_tables.specs.Steps.{step_reply, tables_after};
 ghost use Rattle.reply_lines.specs.Reply.{reply_text, reply_line_at, replies_text};

@@ -1,7 +1,7 @@
 use super::*;
 use address_text::read_name;
-use command_forms::{Command, Step};
 use node_tables::{Network, Reply};
+use script_lines::{Command, Step};
 use std::alloc::Global;
 use std::process::Abort;
 
