@@ -18,7 +18,9 @@ use doi_table::Listed;
 use flow_lines::{Flows, NodeNames, read_flow};
 use mls_label::OutOfMemory;
 use node_readings::Reading;
-use script_lines::{Command, Fields, LimitName, LineStop, Said, ScriptKind, Step, Word, first_unfit, words_into};
+use script_lines::{
+    Command, Fields, LimitName, LineStop, Said, ScriptKind, Step, Word, first_unfit, words_into,
+};
 use std::alloc::Global;
 use std::marker::Model;
 

@@ -10,7 +10,9 @@ ghost use Rattle.label_commands.specs.Line.{read_only_name, named_by, reading_st
 use address_text::{Name, read_name};
 use command_values::is_word;
 use node_readings::{Reading, ReadingFault};
-use script_lines::{Command, Fields, LineStop, Row, Said, ScriptKind, Word, begins_line, command_of, read_said};
+use script_lines::{
+    Command, Fields, LineStop, Row, Said, ScriptKind, Word, begins_line, command_of, read_said,
+};
 use std::alloc::Global;
 
 /// The one name that the words are; `end` is the line's length.

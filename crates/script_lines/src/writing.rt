@@ -61,7 +61,11 @@ fn append_fixed(fixed: &[&str], out: &mut Vec<u8>) -> Result<(), OutOfMemory>
 }
 
 /// Appends the words of those parameters that are given, each behind a space.
-fn append_parameters(slots: &[Slot], fields: &Shown<'_>, out: &mut Vec<u8>) -> Result<(), OutOfMemory>
+fn append_parameters(
+    slots: &[Slot],
+    fields: &Shown<'_>,
+    out: &mut Vec<u8>,
+) -> Result<(), OutOfMemory>
     ensures ok { OnOk result (out.new.items ≡ out.old.items ++ spaced_words slots.now fields.now) }
     ensures values { OnOk result (All (λ slot. IsValue slot.parameter fields.now) slots.now) }
     ensures err { OnErr result (Extends out.old.items out.new.items) }
