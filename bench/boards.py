@@ -3,7 +3,7 @@
 USES are the lines that the functions of BOARDS need beside the program's own (PacketIn of label_flow), PROOFS the files of their proofs.
 """
 
-CRATES = "mls_label address_text line_forms command_forms script_lines flow_lines node_tables shared_tables packet_walk label_flow"
+CRATES = "mls_label address_text script_lines flow_lines node_tables shared_tables packet_walk label_flow"
 
 USES = """ghost use Rattle.std.specs.Prelude.{◌≡◌, ◌<◌, ◌≤◌, ◌^◌, length, true, All, IfSome};
 ghost use Rattle.std.specs.Arc.{arc_value};
@@ -11,11 +11,9 @@ ghost use Rattle.flow_lines.specs.Hop.{node_of};
 ghost use Rattle.shared_tables.specs.Plan.{network_after};
 
 use address_text::read_name;
-use command_forms::{Step, command_of};
 use flow_lines::{FlowLine, Flows, NodeNames, read_flow};
-use line_forms::read_said;
 use node_tables::Network;
-use script_lines::words_into;
+use script_lines::{Step, command_of, read_said, words_into};
 use shared_tables::{Board, Plan, Publisher, Viewer};
 use std::alloc::Global;
 use std::sync::{Arc, Wait};
