@@ -1,7 +1,7 @@
 //! What the words of the command line ask for.
 
 use command_values::Doi;
-use decimal_text::read_decimal;
+use octet_grammar::read_decimal;
 use mls_label::Label;
 use std::marker::Model;
 

@@ -2,8 +2,7 @@
 -- RFC 5570).
 use Rattle.std.specs.Prelude.{◌≡◌, ℕ, ◌^◌, ◌<◌, List, None, IfSome, Result, Ok, MatchResult, MatchBool}
 use Rattle.std.specs.Option.{option_map}
-use Rattle.mls_label.specs.declared.label.Label.{Label}
-use Rattle.mls_label.specs.Cats.{IsCats}
+use Rattle.mls_label.specs.Label.{IsLabel}
 use Rattle.cipso_tags.specs.Text.{Fits}
 use Rattle.cipso_option.specs.Text.{cipso_text}
 use Rattle.calipso_option.specs.Text.{IsExpressible, calipso_text}
@@ -26,11 +25,6 @@ wire_text (Calipso at doi label) = calipso_text doi label
 -- the headers that a packet is written with: its label option in that form, in its first place
 abbrev pub written : ParsedPacket Wire → Headers
 written p = rewritten p (option_map wire_text p.label) p.hops
-
--- a label of mls
-pub record IsLabel (label : Label) : Type 0 where
-  pub level : label.level < 256
-  pub cats : IsCats label.cats
 
 -- an option of this version can say it
 abbrev pub CanSay : Version → Wire → Type 0

@@ -22,9 +22,9 @@ use command_values::{
     CommaList, Doi, ListEntry, MapProtocol, Tags, write_map_protocol, write_receiver_range,
     write_static_range,
 };
-use decimal_text::write_decimal;
 use mls_label::OutOfMemory;
 use mls_range::KeptRange;
+use octet_grammar::write_decimal;
 
 /// Appends the value of a parameter, if it is given.
 pub(crate) fn append_value(
