@@ -41,7 +41,7 @@ then_some (Some x) stop next y e goes = goes x refl e
 -- ---- values
 
 -- the fields with a value in its place, if there is one
-abbrev put : {X : Type 0} → Option X → (Option X → Fields) → Option Fields
+abbrev pub put : {X : Type 0} → Option X → (Option X → Fields) → Option Fields
 put value place = cond (is_some value) (Some (place value)) None
 
 abbrev ReadsAlike : Edition → Edition → Type 0

@@ -37,17 +37,14 @@ use Rattle.script_lines.specs.declared.command.Command.TheVariants as Is
 use Rattle.script_lines.specs.Form.{with_translations, form_of, line_rows, is_key}
 use Rattle.script_lines.specs.Fields.{no_fields, is_given, with_value}
 use Rattle.script_lines.specs.Value.{is_default, key_by, text_or_none, value_text, IsValue}
-use Rattle.script_lines.proofs.Apart.{keys_found}
 use Rattle.script_lines.specs.Said.{is_spelled, shared_words, unfit_or_missing, read_row, key_of, slot_of, with_parameter, with_word, with_words, is_complete, read_fields, read_said}
 use Rattle.script_lines.specs.Command.{IsCommand, said_of, texts_of_said, command_text}
+use Rattle.script_lines.proofs.Apart.{FindsKeys, keys_found}
+use Rattle.script_lines.proofs.Kept.{put}
 use Rattle.script_lines.proofs.Joined.{given_words}
 use Rattle.script_lines.proofs.Dark.{written_words}
 
 -- ---- one parameter
-
--- the fields with a value in its place, if there is one
-abbrev put : {X : Type 0} → Option X → (Option X → Fields) → Option Fields
-put value place = if is_some value then Some (place value) else None
 
 -- the fields with one parameter of others
 abbrev copied : Parameter → Fields → Fields → Fields
@@ -69,12 +66,12 @@ copied Six from to = record to { six = from.six }
 copied ReadingLevels from to = record to { reading_levels = from.reading_levels }
 copied ReadingCategories from to = record to { reading_categories = from.reading_categories }
 
-none_of : {X : Type 0} (value : Option X) → is_some value ≡ false → value ≡ None
-none_of None none = refl
-none_of (Some x) none = absurd (true≢false none)
+none_is : {X : Type 0} (value : Option X) → is_some value ≡ false → value ≡ None
+none_is None none = refl
+none_is (Some x) none = absurd (true≢false none)
 
 same_none : {X : Type 0} (from to : Option X) → is_some from ≡ false → is_some to ≡ false → from ≡ to
-same_none from to none empty = none_of from none ∙ sym (none_of to empty)
+same_none from to none empty = none_is from none ∙ sym (none_is to empty)
 
 copied_none : (parameter : Parameter) (from to : Fields) → is_given parameter from ≡ false → is_given parameter to ≡ false → copied parameter from to ≡ to
 copied_none Doi from to none empty = ap (λ v. record to { doi = v }) (same_none from.doi to.doi none empty)
@@ -150,10 +147,6 @@ value_back ReadingLevels from to is given = record { key = refl; value = put_bac
 value_back ReadingCategories from to is given = record { key = refl; value = put_back from.reading_categories (list_of_text (pair_of_text 65534 4294967295)) (list_text pair_text) (λ v. record to { reading_categories = v }) (IfSome_then from.reading_categories is (λ ps h. written_pairs_read_back 65534 4294967295 ps (omega arith) (omega arith) h)) given }
 
 -- ---- one word
-
--- each key of the slot's parameter finds the slot
-abbrev FindsKeys : List Slot → Slot → Type 0
-FindsKeys slots slot = (key : List ℕ) → IsTrue (is_key slot.parameter key) → slot_of slots key ≡ Some slot
 
 some_found : (slots : List Slot) (key : List ℕ) (slot : Slot) → slot_of slots key ≡ Some slot → nat_eq (length slots) 0 ≡ false
 some_found [] key slot e = absurd (none-some slot e)
