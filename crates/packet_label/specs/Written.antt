@@ -37,6 +37,7 @@ pub record IsWritable (p : ParsedPacket Wire) : Type 0 where
   pub headers : IsParsed (rewritten p None p.hops)
   pub label : IfSome p.label (CanSay p.version)
 
+-- what an option says, with this as the octet at which it stands
 abbrev pub moved_to : ℕ → Wire → Wire
 moved_to place (Cipso at doi tag label) = Cipso place doi tag label
 moved_to place (Calipso at doi label) = Calipso place doi label
