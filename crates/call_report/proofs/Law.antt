@@ -7,7 +7,7 @@ use Rattle.net_io.specs.declared.fault.IoFault.{IoFault}
 use Rattle.net_io.specs.declared.fault.IoFault.TheVariants.{Failed, OutOfMemory as NoMemory}
 use Rattle.net_io.specs.Faults.{Rose}
 use Rattle.net_io.specs.Sink.{SinkState, WritesPrefix, WritesLess}
-use Rattle.command_forms.specs.declared.command.Step.{Step}
+use Rattle.script_lines.specs.declared.command.Step.{Step}
 use Rattle.node_tables.specs.declared.reply.Reply.{Reply}
 use Rattle.node_tables.specs.Steps.{step_reply, tables_after}
 use Rattle.call_report.specs.declared.status.Status.{Status}

@@ -22,5 +22,6 @@ records_event number most frames fault =
     if nat_lt most (length frames) then Some (record { status = 7; line = packets_limit_line })
     else option_map (λ f. record { status = 5; line = capture_line number f }) fault
 
+-- the first event of a capture of which so many packets may be read
 abbrev pub capture_event : ℕ → ℕ → Capture → Option Event
 capture_event number most capture = records_event number most capture.frames capture.fault

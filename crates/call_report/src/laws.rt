@@ -6,7 +6,7 @@ ghost use Rattle.net_io.specs.declared.fault.IoFault.{IoFault};
 ghost use Rattle.net_io.specs.declared.fault.IoFault.TheVariants.{OutOfMemory as NoMemory};
 ghost use Rattle.net_io.specs.Faults.{Rose};
 ghost use Rattle.net_io.specs.Sink.{SinkState, WritesPrefix, WritesLess};
-ghost use Rattle.command_forms.specs.declared.command.Step.{Step};
+ghost use Rattle.script_lines.specs.declared.command.Step.{Step};
 ghost use Rattle.node_tables.specs.declared.reply.Reply.{Reply};
 ghost use Rattle.node_tables.specs.Steps.{step_reply, tables_after};
 ghost use Rattle.call_report.specs.declared.status.Status.{Status as Ending};

@@ -30,5 +30,6 @@ flow_input number most (Some file) = input_by number most (capture_of file)
 abbrev pub packet_in : ℕ → Frame → PacketIn
 packet_in link frame = option_map_or (λ packet. record { bytes = packet; is_ip = true }) (ip_part_of link frame.octets) (record { bytes = frame.octets; is_ip = false })
 
+-- the packets of an input
 abbrev pub packets_in : FlowInput → List PacketIn
 packets_in input = option_map_or (λ header. map (packet_in header.link) input.frames) input.header []

@@ -35,6 +35,7 @@ is_judged run = length run.pairs == length run.input.frames
 abbrev pub goes_on : FlowRun → Bool
 goes_on run = is_judged run && is_some run.input.header && not (is_some run.input.event)
 
+-- a packet was denied on its way
 abbrev pub is_denied : End → Bool
 is_denied (the_end.Denied hop why) = true
 is_denied end = false

@@ -7,7 +7,7 @@ use Rattle.net_io.specs.Depot.{octets_of}
 use Rattle.net_io.specs.Faults.{Rose, SameCounts}
 use Rattle.net_io.specs.Sink.{SinkState}
 use Rattle.script_lines.specs.declared.stop.LimitName.TheVariants.{Octets}
-use Rattle.line_forms.specs.Form.{with_translations}
+use Rattle.script_lines.specs.Form.{with_translations}
 use Rattle.label_commands.specs.declared.stop.ScriptStop.{ScriptStop}
 use Rattle.label_commands.specs.declared.stop.ScriptStop.TheVariants as stop
 use Rattle.label_commands.specs.Script.{read_text, IsScriptStop}

@@ -28,9 +28,11 @@ abbrev pub script_status : Result Script ScriptStop → ℕ
 script_status (Ok script) = 0
 script_status (Err stop) = script_stop_status stop
 
+-- the status that is due by what the file holds, none where it is absent
 abbrev pub CheckStatus : List ℕ → Option (List ℕ) → ℕ → Type 0
 CheckStatus file None status = ⊥
 CheckStatus file (Some text) status = status ≡ script_status (script_read file text)
 
+-- it reads one file, and prints nothing in front of the read
 abbrev pub check_says : List ℕ → Says
 check_says file = reading_says file (CheckReport file) (CheckStatus file) (Unit {0})

@@ -4,6 +4,7 @@ use Rattle.call_report.specs.Lines.Fixed.{usage_line}
 use Rattle.call_report.specs.Report.{late_report}
 use Rattle.call_report.specs.Says.{Says}
 
+-- words that are no form: the usage line, no file, status 1
 abbrev pub usage_says : Says
 usage_says = record {
   report = λ held seen report. report ≡ late_report [] usage_line;

@@ -1,7 +1,7 @@
 //! `check`: what the commands of a script answer, each at its node, and how much the script has.
 
 ghost use Rattle.std.specs.Prelude.{◌++◌, ◌<◌, [], Some, All, length};
-ghost use Rattle.command_forms.specs.declared.command.Step.{Step as StepValue};
+ghost use Rattle.script_lines.specs.declared.command.Step.{Step as StepValue};
 ghost use Rattle.netlabel_run.specs.declared.command.Command.TheVariants.{Check};
 ghost use Rattle.call_report.specs.Lines.Script.{ok_line};
 ghost use Rattle.netlabel_run.specs.Check.{check_text};

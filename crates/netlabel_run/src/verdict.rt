@@ -9,13 +9,13 @@ ghost use Rattle.netlabel_run.specs.Judge.{protocol_in, judge_node, IsVerdict};
 ghost use Rattle.call_report.specs.Lines.Denial.{with_label};
 
 use address_text::{Name, read_name};
-use command_forms::{Command, Step};
 use command_values::{Doi, MapProtocol, Tags};
 use label_receive::{Room, destination_of, fault_denial, receive_marked};
 use mls_label::{Label, OutOfMemory, Tag};
 use mls_range::{KeptRange, Range};
 use node_tables::Network;
 use packet_label::{Denial, Packet, carried_into};
+use script_lines::{Command, Step};
 use std::alloc::Global;
 
 /// Judges the packet at the front of the octets for a receiver of this level, by a node that is set up for it. Of the room that is

@@ -1,7 +1,7 @@
 //! Replies to steps, handed on one by one.
 
 ghost use Rattle.std.specs.Prelude.{◌≡◌, ◌+◌, ◌<◌, ◌≤◌, All, Some, length, OnOk};
-ghost use Rattle.command_forms.specs.declared.command.Step.{Step as StepValue};
+ghost use Rattle.script_lines.specs.declared.command.Step.{Step as StepValue};
 ghost use Rattle.node_tables.specs.Steps.{reply_at, tables_after};
 ghost use Rattle.label_flow.specs.Round.{AreReplies};
 ghost use Rattle.call_report.specs.Lines.Reply.{reply_line_at, reply_text, replies_text};

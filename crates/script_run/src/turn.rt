@@ -1,7 +1,7 @@
 //! What comes behind a flow's packets.
 
 ghost use Rattle.std.specs.Prelude.{◌≤◌, ◌<◌, [], All, length, Err};
-ghost use Rattle.command_forms.specs.declared.command.Step.{Step as StepValue};
+ghost use Rattle.script_lines.specs.declared.command.Step.{Step as StepValue};
 ghost use Rattle.call_report.specs.Lines.Capture.{capture_line};
 ghost use Rattle.call_report.specs.declared.status.Status.TheVariants.{WrongCapture};
 ghost use Rattle.call_report.specs.Printing.{Printed};

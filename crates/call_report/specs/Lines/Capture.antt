@@ -6,6 +6,7 @@ use Rattle.pcap_frames.specs.declared.fault.CaptureKind.{CaptureKind}
 use Rattle.pcap_frames.specs.declared.fault.CaptureKind.TheVariants.{Magic, Version, LinkType, Captured, SnapCut, Short}
 use Rattle.call_report.specs.Lines.Parts.{line_of, octet_detail}
 
+-- a fault's name
 abbrev pub kind_name : CaptureKind → List ℕ
 kind_name Magic = codes "Magic"
 kind_name Version = codes "Version"

@@ -38,6 +38,7 @@ detail_of BelowRange = []
 unfoldable pub denial_text : Denial → List ℕ
 denial_text denial = codes "denied " ++ decimal (number_of denial) ++ codes " " ++ name_of denial ++ detail_of denial
 
+-- a packet that is delivered, with its label
 unfoldable pub delivered_text : Label → List ℕ
 delivered_text label = codes "delivered " ++ label_text label
 
@@ -45,6 +46,7 @@ delivered_text label = codes "delivered " ++ label_text label
 abbrev pub Verdict : Type 0
 Verdict = Result Label Denial
 
+-- the line of a verdict
 abbrev pub verdict_line : Verdict → List ℕ
 verdict_line (Ok label) = line_of (delivered_text label)
 verdict_line (Err denial) = line_of (denial_text denial)

@@ -2,8 +2,8 @@
 
 use crate::write_reply;
 use address_text::read_name;
-use command_forms::{Command, Step};
 use node_tables::{Network, Reply};
+use script_lines::{Command, Step};
 use std::alloc::Global;
 use std::process::Abort;
 

@@ -2,7 +2,7 @@
 use Rattle.std.specs.Prelude.{ℕ, ◌≡◌, ◌-◌, List, [], length, Result, Ok, Err}
 use Rattle.net_io.specs.declared.fault.IoFault.{IoFault}
 use Rattle.net_io.specs.Sink.{SinkState}
-use Rattle.command_forms.specs.declared.command.Step.{Step}
+use Rattle.script_lines.specs.declared.command.Step.{Step}
 use Rattle.label_commands.specs.declared.script.Script.{Script}
 use Rattle.label_commands.specs.Script.{before}
 use Rattle.node_tables.specs.Tables.{TableState}

@@ -1,7 +1,7 @@
 use Rattle.std.proofs.Common.{ℕ, subst, sym, ap, [], Some}
 use Rattle.net_io.specs.Depot.{DepotState}
 use Rattle.net_io.specs.Sink.{SinkState}
-use Rattle.line_forms.specs.Form.{with_translations}
+use Rattle.script_lines.specs.Form.{with_translations}
 use Rattle.label_commands.proofs.Law.{scripts_are_sound}
 use Rattle.call_report.specs.Outside.{Outside}
 use Rattle.call_report.specs.Report.{Versions}
