@@ -42,7 +42,7 @@ passes true b c o protocol e = absurd (cc)
 passes false true c o protocol e = absurd (cc)
 passes false false true o protocol e = absurd (cc)
 passes false false false None protocol e = absurd (cc)
-passes false false false (Some found) protocol e = let same : found ≡ protocol = cc in record { first = refl; second = refl; third = refl; found = ap Some same }
+passes false false false (Some given) protocol e = let same : given ≡ protocol = cc in record { first = refl; second = refl; third = refl; found = ap Some same }
 
 -- what is made of a packet that goes on
 abbrev made_of : Label → Protocol → ParsedPacket Wire → Forwarded

@@ -71,7 +71,7 @@ module _ (t : TableState) (domain interface : List ℕ) (label : Label) (h : Hea
   by_range true = refl
   by_range false = by_version (suits h.version protocol)
 
-  by_label : (o : Option Placed) → (elim o as (λ _. Result Protocol Denial) [ Some option ↦ Err (AlreadyLabelled option.place) | None ↦ free_protocol t domain interface label h ] >>= sent_with t label h)
+  by_label : (o : Option Placed) → ((elim o as (λ _. Result Protocol Denial) [ Some option ↦ Err (AlreadyLabelled option.place) | None ↦ free_protocol t domain interface label h ]) >>= sent_with t label h)
       ≡ Err (unwrap_or (elim o as (λ _. Option Denial) [ Some option ↦ Some (AlreadyLabelled option.place) | None ↦ if is_outside t.ranges interface label label then Some OutsideRange else if suits h.version protocol then None else Some WrongVersion ]) Inexpressible)
   by_label (Some option) = refl
   by_label None =

@@ -77,7 +77,7 @@ module _ (t : TableState) (domain interface : List ℕ) (label : Label) (octets 
     by_range free false released e = by_found free released (find_of t.domains domain (address_in h.version h.destination)) refl e
 
     by_option : (o : Option Placed) → h.label ≡ o
-        → (elim o as (λ _. Result Protocol Denial) [ Some option ↦ Err (AlreadyLabelled option.place) | None ↦ free_protocol t domain interface label h ] >>= sent_with t label h) ≡ Ok sent
+        → ((elim o as (λ _. Result Protocol Denial) [ Some option ↦ Err (AlreadyLabelled option.place) | None ↦ free_protocol t domain interface label h ]) >>= sent_with t label h) ≡ Ok sent
         → IsSent t domain interface label octets sent
     by_option (Some option) free e = absurd (cc)
     by_option None free e = by_range free (is_outside t.ranges interface label label) refl e
