@@ -57,7 +57,7 @@ unfoldable pub receive_of : TableState → List ℕ → ParsedPacket Wire → Re
 receive_of t interface p = do
   incoming ← label_of t interface p
   if is_outside t.ranges interface incoming.low incoming.high then Err OutsideRange
-  else delivered_to t (address_in p.version p.source) (address_in p.version p.destination) incoming
+      else delivered_to t (address_in p.version p.source) (address_in p.version p.destination) incoming
 
 -- the verdict of a call that leaves the label in a room
 abbrev pub left_in : Label → Result Address Denial → Result Delivered Denial
