@@ -28,7 +28,7 @@ use Rattle.shared_tables.specs.Plan.{PlanState, network_after}
 use Rattle.packet_walk.specs.declared.packet.PacketIn.{PacketIn}
 use Rattle.packet_walk.specs.declared.walked.End.{End}
 use Rattle.packet_walk.specs.declared.walked.End.TheVariants as the_end
-use Rattle.packet_walk.specs.Walk.{Coming, from_outside, from_hop, octets_in, IsReadFrom, Verdict, denied, goes_on, arrives, hop_verdict, Follows, IsWalk, IsWalkOf, Ends}
+use Rattle.packet_walk.specs.Walk.{Coming, from_outside, from_hop, octets_in, IsReadFrom, HopVerdict, denied, goes_on, arrives, hop_verdict, Follows, IsWalk, IsWalkOf, Ends}
 use Rattle.packet_walk.proofs.Law.{hops_read_in_one_way}
 use Rattle.flow_access.specs.Labels.{hop_label, hop_tables, reading_at, first_reading}
 use Rattle.flow_access.specs.Sound.{IsOrigin, AtLast}
@@ -63,7 +63,7 @@ ArrivesWell plan readings May hops octets versions (the_end.Sent carrier) = Unit
 ArrivesWell plan readings May hops octets versions (the_end.Denied hop why) = Unit {0}
 
 -- what follows a hop's verdict
-abbrev Going : PlanState → ℕ → List Hop → Coming → List ℕ → End → List ℕ → Verdict → Type 0
+abbrev Going : PlanState → ℕ → List Hop → Coming → List ℕ → End → List ℕ → HopVerdict → Type 0
 Going plan k hops coming versions end out verdict = Follows k (octets_in coming) (λ next. IsWalk plan (k + 1) hops next versions end out) versions end out verdict
 
 module _ (plan : PlanState) (readings : List NamedMeanings) (tables : (version : ℕ) (hop : Hop) → AreValid (hop_tables plan version hop)) (named : (hop : Hop) → IsReading (reading_at readings hop))
@@ -117,13 +117,13 @@ module _ (plan : PlanState) (readings : List NamedMeanings) (tables : (version :
         → IsWalk plan k (hop ∷ hops) coming (v ∷ versions) end out → Fine (hop ∷ hops) coming (v ∷ versions) → EndsWell (hop ∷ hops) (v ∷ versions) end
     walks_well k hop [] coming v versions end out no_send takes walk fine = by_verdict (hop_verdict (network_after plan v) hop (octets_in coming) walk.0) refl walk.2
       where
-        by_verdict : (r : Verdict) → hop_verdict (network_after plan v) hop (octets_in coming) walk.0 ≡ r → Going plan k [] coming versions end out r → EndsWell (hop ∷ []) (v ∷ versions) end
+        by_verdict : (r : HopVerdict) → hop_verdict (network_after plan v) hop (octets_in coming) walk.0 ≡ r → Going plan k [] coming versions end out r → EndsWell (hop ∷ []) (v ∷ versions) end
         by_verdict (denied why) is g = denied_well hop [] coming v takes walk.0 walk.1 k versions end out why g
         by_verdict (goes_on carrier packet) is g = sent_well hop [] coming v takes walk.0 walk.1 versions end out (octets_in (from_hop carrier packet)) carrier g
         by_verdict (arrives delivered) is g = arrived_well hop [] coming v takes walk.0 walk.1 versions end out (octets_in coming) delivered is g
     walks_well k hop (next ∷ hops) coming v [] end out no_send takes walk fine = by_verdict (hop_verdict (network_after plan v) hop (octets_in coming) walk.0) refl walk.2
       where
-        by_verdict : (r : Verdict) → hop_verdict (network_after plan v) hop (octets_in coming) walk.0 ≡ r → Going plan k (next ∷ hops) coming [] end out r → EndsWell (hop ∷ next ∷ hops) (v ∷ []) end
+        by_verdict : (r : HopVerdict) → hop_verdict (network_after plan v) hop (octets_in coming) walk.0 ≡ r → Going plan k (next ∷ hops) coming [] end out r → EndsWell (hop ∷ next ∷ hops) (v ∷ []) end
         by_verdict (denied why) is g = denied_well hop (next ∷ hops) coming v takes walk.0 walk.1 k [] end out why g
         by_verdict (goes_on carrier packet) is g = absurd g
         by_verdict (arrives delivered) is g = arrived_well hop (next ∷ hops) coming v takes walk.0 walk.1 [] end out (octets_in coming) delivered is g
@@ -133,7 +133,7 @@ module _ (plan : PlanState) (readings : List NamedMeanings) (tables : (version :
       where
         by_verdict : is_send next ≡ false
             → ((carrier : Carrier) (packet : ParsedPacket Wire) → Takes w next (from_hop carrier packet) → IsWalk plan (k + 1) (next ∷ hops) (from_hop carrier packet) (w ∷ versions) end out → Fine (next ∷ hops) (from_hop carrier packet) (w ∷ versions) → EndsWell (next ∷ hops) (w ∷ versions) end)
-            → (r : Verdict) → hop_verdict (network_after plan v) hop (octets_in coming) walk.0 ≡ r → Going plan k (next ∷ hops) coming (w ∷ versions) end out r
+            → (r : HopVerdict) → hop_verdict (network_after plan v) hop (octets_in coming) walk.0 ≡ r → Going plan k (next ∷ hops) coming (w ∷ versions) end out r
             → EndsWell (hop ∷ next ∷ hops) (v ∷ w ∷ versions) end
         by_verdict no_send more (denied why) is g = denied_well hop (next ∷ hops) coming v takes walk.0 walk.1 k (w ∷ versions) end out why g
         by_verdict no_send more (arrives delivered) is g = arrived_well hop (next ∷ hops) coming v takes walk.0 walk.1 (w ∷ versions) end out (octets_in coming) delivered is g
@@ -171,7 +171,7 @@ module _ (plan : PlanState) (readings : List NamedMeanings) (tables : (version :
           ))
           walk fine)
 
-      by_verdict : (r : Verdict) → hop_verdict (network_after plan v) hop octets walk.0 ≡ r → Going plan 1 hops (from_outside octets) versions end out r → ArrivesWell plan readings May (hop ∷ hops) octets (v ∷ versions) end
+      by_verdict : (r : HopVerdict) → hop_verdict (network_after plan v) hop octets walk.0 ≡ r → Going plan 1 hops (from_outside octets) versions end out r → ArrivesWell plan readings May (hop ∷ hops) octets (v ∷ versions) end
       by_verdict (denied why) is g = denied_arrives (hop ∷ hops) octets (v ∷ versions) 1 why end g.1
       by_verdict (goes_on carrier packet) is g =
           let j : HasLabel (hop_tables plan v hop) hop walk.0 (goes_on carrier packet) = judges_so (network_after plan v) hop octets walk.0 (goes_on carrier packet) is in

@@ -21,24 +21,24 @@ use Rattle.label_send.specs.Send.{Sent, send_octets}
 use Rattle.label_send.proofs.Law.{sent_packets_may_go_out}
 use Rattle.label_gateway.specs.Forward.{Forwarded, forward_of}
 use Rattle.label_gateway.proofs.Law.{forwarded_packets_may_go_on, packets_that_go_on_say_the_label}
-use Rattle.packet_walk.specs.Walk.{Verdict, denied, goes_on, arrives, verdict_of, tables_of, hop_verdict}
+use Rattle.packet_walk.specs.Walk.{HopVerdict, denied, goes_on, arrives, verdict_of, tables_of, hop_verdict}
 use Rattle.flow_access.specs.Labels.{high_of, hop_label}
 
 -- ---- what a hop makes of a packet with this label
 
 -- what goes on says it under some protocol, and what arrives has it, and its receiver's level dominates it
-abbrev pub ByLabel : TableState → Label → Verdict → Type 0
+abbrev pub ByLabel : TableState → Label → HopVerdict → Type 0
 ByLabel t x (denied why) = Unit {0}
 ByLabel t x (goes_on carrier packet) = (protocol : Protocol) × (outgoing t.definitions protocol x ≡ Ok packet.label)
 ByLabel t x (arrives delivered) = (delivered.label ≡ x) × ((receiver : Receiver) × (find_receiver_of t.receivers delivered.receiver ≡ Some receiver) × Dominates receiver.level x)
 
-pub record HasLabel (t : TableState) (hop : Hop) (read : Result (ParsedPacket Wire) CarryFault) (verdict : Verdict) : Type 0 where
+pub record HasLabel (t : TableState) (hop : Hop) (read : Result (ParsedPacket Wire) CarryFault) (verdict : HopVerdict) : Type 0 where
   pub label : Label
   pub is : hop_label t hop read ≡ Ok label
   pub made : ByLabel t label verdict
 
 -- a packet that isn't denied has one
-abbrev pub Judges : TableState → Hop → Result (ParsedPacket Wire) CarryFault → Verdict → Type 0
+abbrev pub Judges : TableState → Hop → Result (ParsedPacket Wire) CarryFault → HopVerdict → Type 0
 Judges t hop read (denied why) = Unit {0}
 Judges t hop read (goes_on carrier packet) = HasLabel t hop read (goes_on carrier packet)
 Judges t hop read (arrives delivered) = HasLabel t hop read (arrives delivered)
@@ -84,7 +84,7 @@ judges network (Receive node interface) octets (Ok p) =
     receive_judges t node interface p (receive_of t interface p) refl
 
 -- so where this is the verdict
-pub judges_so : (network : List TableState) (hop : Hop) (octets : List ℕ) (read : Result (ParsedPacket Wire) CarryFault) (verdict : Verdict) → hop_verdict network hop octets read ≡ verdict
+pub judges_so : (network : List TableState) (hop : Hop) (octets : List ℕ) (read : Result (ParsedPacket Wire) CarryFault) (verdict : HopVerdict) → hop_verdict network hop octets read ≡ verdict
     → Judges (tables_of network (node_of hop)) hop read verdict
 judges_so network hop octets read verdict is = subst (Judges (tables_of network (node_of hop)) hop read) is (judges network hop octets read)
 

@@ -12,7 +12,7 @@ use Rattle.shared_tables.specs.Plan.{PlanState, network_after}
 use Rattle.packet_walk.specs.declared.packet.PacketIn.{PacketIn}
 use Rattle.packet_walk.specs.declared.walked.End.{End}
 use Rattle.packet_walk.specs.declared.walked.End.TheVariants as the_end
-use Rattle.packet_walk.specs.Walk.{Coming, from_hop, octets_in, Verdict, denied, goes_on, arrives, hop_verdict, IsWalkOf}
+use Rattle.packet_walk.specs.Walk.{Coming, from_hop, octets_in, HopVerdict, denied, goes_on, arrives, hop_verdict, IsWalkOf}
 use Rattle.packet_walk.proofs.Law.{hops_read_in_one_way}
 use Rattle.flow_access.specs.Labels.{hop_tables, reading_at}
 use Rattle.flow_access.specs.Kept.{PutLabels, NeighboursAgree, LabelIsKept}
@@ -24,7 +24,7 @@ use Rattle.flow_access.proofs.Along.{GoesWell, DeliversWell, ArrivesWell, arrive
 
 -- ---- each link
 
-abbrev Putting : PlanState → Hop → List Hop → List ℕ → Verdict → Type 0
+abbrev Putting : PlanState → Hop → List Hop → List ℕ → HopVerdict → Type 0
 Putting plan next hops versions verdict = elim verdict [
   | denied why ↦ Unit {0}
   | goes_on carrier packet ↦ IsSome packet.label × PutLabels plan (next ∷ hops) (from_hop carrier packet) versions

@@ -10,7 +10,7 @@ use Rattle.packet_walk.specs.declared.walked.End.TheVariants as the_end
 use Rattle.packet_walk.specs.declared.walked.Walked.{Walked}
 use Rattle.label_flow.specs.Pair.{PairState}
 use Rattle.packet_walk.specs.declared.packet.PacketIn.{PacketIn}
-use Rattle.packet_walk.specs.Walk.{Coming, from_outside, from_hop, octets_in, Verdict, denied, goes_on, arrives, hop_verdict, Ends, Follows, IsWalk, IsWalked}
+use Rattle.packet_walk.specs.Walk.{Coming, from_outside, from_hop, octets_in, HopVerdict, denied, goes_on, arrives, hop_verdict, Ends, Follows, IsWalk, IsWalked}
 use Rattle.packet_label.specs.declared.denial.Denial.{Denial}
 use Rattle.packet_label.specs.declared.denial.Denial.TheVariants.{NotIp}
 use Rattle.flow_lines.specs.Hop.{node_of}
@@ -92,7 +92,7 @@ works_length hops w n batch k (v ∷ vs) (d ∷ ds) [] h = absurd h
 works_length hops w n batch k (v ∷ vs) (d ∷ ds) (u ∷ us) h = ap suc (works_length hops w n batch (k + 1) vs ds us h.1)
 
 follows_denied : (k m : ℕ) (octets versions : List ℕ) (end : End) (out : List ℕ) (walk : Coming → Type 0) → k ≤ m → ((next : Coming) → walk next → IsDeniedBy m end)
-    → (verdict : Verdict) → Follows k octets walk versions end out verdict → IsDeniedBy m end
+    → (verdict : HopVerdict) → Follows k octets walk versions end out verdict → IsDeniedBy m end
 follows_denied k m octets versions end out walk low rec (denied why) h = subst (IsDeniedBy m) (sym h.1) low
 follows_denied k m octets versions end out walk low rec (goes_on carrier packet) h = rec (from_hop carrier packet) h
 follows_denied k m octets versions end out walk low rec (arrives delivered) h = subst (IsDeniedBy m) (sym h.1) tt

@@ -19,7 +19,7 @@ use Rattle.shared_tables.specs.Plan.{PlanState, network_after}
 use Rattle.packet_walk.specs.declared.packet.PacketIn.{PacketIn}
 use Rattle.packet_walk.specs.declared.walked.End.{End}
 use Rattle.packet_walk.specs.declared.walked.End.TheVariants as the_end
-use Rattle.packet_walk.specs.Walk.{Coming, from_outside, from_hop, octets_in, Verdict, denied, goes_on, verdict_of, tables_of, hop_verdict, Follows, IsWalk, IsWalkOf, Ends}
+use Rattle.packet_walk.specs.Walk.{Coming, from_outside, from_hop, octets_in, HopVerdict, denied, goes_on, verdict_of, tables_of, hop_verdict, Follows, IsWalk, IsWalkOf, Ends}
 use Rattle.packet_walk.specs.NoOption.{HopHasNoOption, ComesToNoOption, MeetsNoOption}
 use Rattle.packet_walk.proofs.OneWay.{read_once}
 
@@ -43,7 +43,7 @@ module _ (plan : PlanState) (at : ℕ) (why : Denial) (end : End) (out : List �
   IsDenied = (end ≡ the_end.Denied at why) × (out ≡ [])
 
   -- what follows a hop's verdict on what is read
-  abbrev Behind : ℕ → List Hop → Coming → List ℕ → Verdict → Type 0
+  abbrev Behind : ℕ → List Hop → Coming → List ℕ → HopVerdict → Type 0
   Behind k hops coming versions verdict = Follows k (octets_in coming) (λ next. IsWalk plan (k + 1) hops next versions end out) versions end out verdict
 
   by_hop : (k : ℕ) (hop : Hop) (hops : List Hop) (coming : Coming) (version : ℕ) (versions : List ℕ) (read : Result (ParsedPacket Wire) CarryFault)

@@ -13,7 +13,7 @@ use Rattle.shared_tables.proofs.Law.{beginnings_agree}
 use Rattle.packet_walk.specs.declared.packet.PacketIn.{PacketIn}
 use Rattle.packet_walk.specs.declared.walked.End.{End}
 use Rattle.packet_walk.specs.declared.walked.End.TheVariants as the_end
-use Rattle.packet_walk.specs.Walk.{Coming, from_outside, from_hop, octets_in, IsReadFrom, Verdict, denied, goes_on, arrives, hop_verdict, Follows, IsWalk, IsWalkOf, Ends}
+use Rattle.packet_walk.specs.Walk.{Coming, from_outside, from_hop, octets_in, IsReadFrom, HopVerdict, denied, goes_on, arrives, hop_verdict, Follows, IsWalk, IsWalkOf, Ends}
 use Rattle.packet_walk.proofs.Walks.{one_read}
 
 next_once : (hides : Bool) (octets : List ℕ) (next a b : Result (ParsedPacket Wire) CarryFault) → MatchBool hides (IsReadAs octets a) (a ≡ next) → MatchBool hides (IsReadAs octets b) (b ≡ next) → a ≡ b
@@ -34,7 +34,7 @@ module _ (end end' : End) (out out' : List ℕ) where
   end_same at octets a b x y = (x.0 ∙ sym y.0, x.1 ∙ sym y.1, x.2 ∙ sym y.2)
 
   follows_same : (k : ℕ) (octets a b : List ℕ) (X Y : Coming → Type 0) → ((next : Coming) → X next → Y next → Same a b)
-      → (verdict : Verdict) → Follows k octets X a end out verdict → Follows k octets Y b end' out' verdict → Same a b
+      → (verdict : HopVerdict) → Follows k octets X a end out verdict → Follows k octets Y b end' out' verdict → Same a b
   follows_same k octets a b X Y more (denied why) x y = end_same (the_end.Denied k why) [] a b x y
   follows_same k octets a b X Y more (goes_on carrier packet) x y = more (from_hop carrier packet) x y
   follows_same k octets a b X Y more (arrives delivered) x y = end_same (the_end.Delivered delivered.label delivered.receiver) octets a b x y
@@ -78,7 +78,7 @@ abbrev first_steps : PlanState → ℕ → PlanState
 first_steps plan m = record plan { steps = take m plan.steps }
 
 follows_over : (k : ℕ) (octets versions : List ℕ) (end : End) (out : List ℕ) (X Y : Coming → Type 0) → ((next : Coming) → X next → Y next)
-    → (verdict : Verdict) → Follows k octets X versions end out verdict → Follows k octets Y versions end out verdict
+    → (verdict : HopVerdict) → Follows k octets X versions end out verdict → Follows k octets Y versions end out verdict
 follows_over k octets versions end out X Y more (denied why) x = x
 follows_over k octets versions end out X Y more (goes_on carrier packet) x = more (from_hop carrier packet) x
 follows_over k octets versions end out X Y more (arrives delivered) x = x

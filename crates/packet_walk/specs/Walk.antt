@@ -42,13 +42,13 @@ IsReadFrom (from_outside octets) read = IsReadAs octets read
 IsReadFrom (from_hop carrier packet) read = IsNext packet read
 
 -- what a hop makes of a packet: it denies it, wrote one that goes on, or delivers a label
-pub data Verdict : Type 0 where
-  denied : Denial → Verdict
-  goes_on : Carrier → ParsedPacket Wire → Verdict
-  arrives : Delivered → Verdict
+pub data HopVerdict : Type 0 where
+  denied : Denial → HopVerdict
+  goes_on : Carrier → ParsedPacket Wire → HopVerdict
+  arrives : Delivered → HopVerdict
 
 -- what a rule gives, as a verdict
-abbrev pub verdict_of : {X : Type 0} → (X → Verdict) → Result X Denial → Verdict
+abbrev pub verdict_of : {X : Type 0} → (X → HopVerdict) → Result X Denial → HopVerdict
 verdict_of made (Ok x) = made x
 verdict_of made (Err why) = denied why
 
@@ -57,7 +57,7 @@ abbrev pub tables_of : List TableState → ℕ → TableState
 tables_of network node = unwrap_or (slice_get network node) fresh
 
 -- what a hop makes of octets that are read so, under the tables of its node: one that sends reads their headers alone
-abbrev pub hop_verdict : List TableState → Hop → List ℕ → Result (ParsedPacket Wire) CarryFault → Verdict
+abbrev pub hop_verdict : List TableState → Hop → List ℕ → Result (ParsedPacket Wire) CarryFault → HopVerdict
 hop_verdict network (Send node domain interface label) octets read =
     verdict_of (λ sent. goes_on sent.carrier sent.packet) (send_octets (tables_of network node) domain interface label octets)
 hop_verdict network (Forward node from to domain) octets read =
@@ -71,7 +71,7 @@ Ends versions end out at octets = (versions ≡ []) × (end ≡ at) × (out ≡ 
 
 -- What follows the verdict of hop k on these octets. One that denies the packet is named, and then no octet is left; behind one that wrote
 -- a packet stands the walk of what comes to the next hop; one that delivers it leaves the octets as they came.
-abbrev pub Follows : ℕ → List ℕ → (Coming → Type 0) → List ℕ → End → List ℕ → Verdict → Type 0
+abbrev pub Follows : ℕ → List ℕ → (Coming → Type 0) → List ℕ → End → List ℕ → HopVerdict → Type 0
 Follows k octets walk versions end out (denied why) = Ends versions end out (the_end.Denied k why) []
 Follows k octets walk versions end out (goes_on carrier packet) = walk (from_hop carrier packet)
 Follows k octets walk versions end out (arrives delivered) = Ends versions end out (the_end.Delivered delivered.label delivered.receiver) octets

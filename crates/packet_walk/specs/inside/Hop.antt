@@ -12,14 +12,14 @@ use Rattle.flow_lines.specs.declared.hop.Hop.{Hop}
 use Rattle.shared_tables.specs.Plan.{PlanState, network_after}
 use Rattle.packet_walk.specs.declared.hop.Given.{Given}
 use Rattle.packet_walk.specs.declared.hop.Given.TheVariants.{Goes, Arrives, Denied, OutOfMemory}
-use Rattle.packet_walk.specs.Walk.{Verdict, denied, goes_on, arrives, hop_verdict}
+use Rattle.packet_walk.specs.Walk.{HopVerdict, denied, goes_on, arrives, hop_verdict}
 
 -- the octets of a packet that was written are read as the packet that it then is
 abbrev pub ReadsBack : ParsedPacket Wire → Type 0
 ReadsBack packet = (read : Result (ParsedPacket Wire) CarryFault) → IsReadAs (packet_octets (written packet)) read → IsNext packet read
 
 -- a verdict, as it is answered with a label and the octets of a packet that goes on
-abbrev pub Answered : Verdict → Given → Label → List ℕ → Type 0
+abbrev pub Answered : HopVerdict → Given → Label → List ℕ → Type 0
 Answered verdict (Goes carrier) label out =
     (packet : ParsedPacket Wire) × (verdict ≡ goes_on carrier packet) × (out ≡ packet_octets (written packet)) × ReadsBack packet × (length out ≤ 65575)
 Answered verdict (Arrives receiver) label out = verdict ≡ arrives (record { label = label; receiver = receiver })
@@ -32,7 +32,7 @@ stopped_as (stop.Denied why) = Denied why
 stopped_as stop.OutOfMemory = OutOfMemory
 
 -- the verdict on what is read of the octets, as it is answered
-pub record AnsweredOf (octets : List ℕ) (verdict : Result (ParsedPacket Wire) CarryFault → Verdict) (given : Given) (label : Label)
+pub record AnsweredOf (octets : List ℕ) (verdict : Result (ParsedPacket Wire) CarryFault → HopVerdict) (given : Given) (label : Label)
     (out : List ℕ) : Type 0 where
   pub read : Result (ParsedPacket Wire) CarryFault
   pub reads : IsReadAs octets read
