@@ -11,7 +11,6 @@ use Rattle.packet_walk.specs.declared.walked.Walked.{Walked}
 use Rattle.label_flow.specs.Pair.{PairState}
 use Rattle.packet_walk.specs.declared.packet.PacketIn.{PacketIn}
 use Rattle.packet_walk.specs.Walk.{Coming, from_outside, from_hop, octets_in, HopVerdict, denied, goes_on, arrives, hop_verdict, Ends, Follows, IsWalk, IsWalked}
-use Rattle.packet_label.specs.declared.denial.Denial.{Denial}
 use Rattle.packet_label.specs.declared.denial.Denial.TheVariants.{NotIp}
 use Rattle.flow_lines.specs.Hop.{node_of}
 use Rattle.label_flow.specs.Feed.{MayAccept, IsDeniedBy, AreFetched, IsOver, AreBegun, AreWhole}

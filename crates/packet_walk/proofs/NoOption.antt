@@ -1,5 +1,5 @@
 -- A hop that has no option for a packet's label denies it, and there its walk ends.
-use Rattle.std.proofs.Common.{◌≡◌, ◌⊎◌, ℕ, ◌+◌, IsTrue, Bool, true, false, List, [], ◌∷◌, MatchBool, Result, Ok, inl, inr, sym, ap, subst, ◌∙◌}
+use Rattle.std.proofs.Common.{◌≡◌, ◌⊎◌, ℕ, ◌+◌, IsTrue, Bool, true, false, List, [], ◌∷◌, MatchBool, Result, inl, inr, sym, ap, subst, ◌∙◌}
 use Rattle.std.proofs.lemmas.Bool.{false≢true}
 use Rattle.ip_headers.specs.Packet.{ParsedPacket}
 use Rattle.packet_label.specs.declared.denial.Carrier.{Carrier}

@@ -6,6 +6,7 @@ use Rattle.packet_label.specs.declared.denial.Denial.TheVariants.{NotIp}
 use Rattle.packet_label.specs.declared.fault.CarryFault.{CarryFault}
 use Rattle.packet_label.specs.declared.packet.Wire.{Wire}
 use Rattle.packet_label.specs.Written.{IsReadAs, written, settled_packet}
+use Rattle.packet_label.proofs.Law.{octets_are_a_packet_or_have_one_fault}
 use Rattle.flow_lines.specs.declared.hop.Hop.{Hop}
 use Rattle.node_tables.specs.Tables.{TableState}
 use Rattle.shared_tables.specs.Plan.{PlanState, network_after}
@@ -14,14 +15,13 @@ use Rattle.packet_walk.specs.declared.packet.PacketIn.{PacketIn}
 use Rattle.packet_walk.specs.declared.walked.End.{End}
 use Rattle.packet_walk.specs.declared.walked.End.TheVariants as the_end
 use Rattle.packet_walk.specs.Walk.{Coming, from_outside, from_hop, octets_in, IsReadFrom, HopVerdict, denied, goes_on, arrives, hop_verdict, Follows, IsWalk, IsWalkOf, Ends}
-use Rattle.packet_walk.proofs.Walks.{one_read}
 
 next_once : (hides : Bool) (octets : List ℕ) (next a b : Result (ParsedPacket Wire) CarryFault) → MatchBool hides (IsReadAs octets a) (a ≡ next) → MatchBool hides (IsReadAs octets b) (b ≡ next) → a ≡ b
-next_once true octets next a b x y = one_read octets a b x y
+next_once true octets next a b x y = (octets_are_a_packet_or_have_one_fault octets).one a b x y
 next_once false octets next a b x y = x ∙ sym y
 
 pub read_once : (coming : Coming) (a b : Result (ParsedPacket Wire) CarryFault) → IsReadFrom coming a → IsReadFrom coming b → a ≡ b
-read_once (from_outside octets) a b x y = one_read octets a b x y
+read_once (from_outside octets) a b x y = (octets_are_a_packet_or_have_one_fault octets).one a b x y
 read_once (from_hop carrier p) a b x y = next_once (hides_payload p.version (written p)) (packet_octets (written p)) (Ok (settled_packet p)) a b x y
 
 -- ---- one way, and no walk's versions begin those of another walk of the same packet
