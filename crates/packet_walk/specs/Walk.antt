@@ -69,7 +69,7 @@ hop_verdict network (Receive node interface) octets read =
 abbrev pub Ends : List ℕ → End → List ℕ → End → List ℕ → Type 0
 Ends versions end out at octets = (versions ≡ []) × (end ≡ at) × (out ≡ octets)
 
--- What follows the verdict of hop k on these octets. One that denies the packet is named, and then no octet is left; behind one that wrote
+-- What follows the verdict of hop k on these octets. A hop that denies the packet is named, and then no octet is left; behind one that wrote
 -- a packet stands the walk of what comes to the next hop; one that delivers it leaves the octets as they came.
 abbrev pub Follows : ℕ → List ℕ → (Coming → Type 0) → List ℕ → End → List ℕ → HopVerdict → Type 0
 Follows k octets walk versions end out (denied why) = Ends versions end out (the_end.Denied k why) []
