@@ -1,6 +1,9 @@
 //! Packets in hexadecimal digits, worked from RFC 791, RFC 8200, FIPS 188 and RFC 5570, apart from the program. Each is UDP from
 //! 10.0.0.1 or fd00::1 to 10.0.0.2 or fd00::2.
 
+/// The head of a capture file of packets alone, in seconds and millionths.
+pub const CAPTURE_HEAD: &str = "d4c3b2a10200040000000000000000000000040065000000";
+
 /// IPv4 without an option.
 pub const PLAIN_4: &str = "4500001c00004000401126cf0a0000010a00000203e800350008e7be";
 
