@@ -50,3 +50,11 @@ packet 2.1 sent calipso,9 versions 15,15
 end 2 packets 1 passed 1 denied 0
 done
 ";
+
+/// Commands of the gateway `h` behind those of `CROSSING`: it exchanges the numbers of two categories.
+pub const EXCHANGE: &str = "node h
+map del default
+cipsov4 del doi:10
+cipsov4 add trans doi:10 tags:2 levels:2=12 categories:1=4,3=5
+map add default protocol:cipsov4,10
+";

@@ -12,17 +12,11 @@ use std::str::from_utf8;
 use std::sync::Wait;
 use std::sync::atomic::{AtomicU64, Ordering};
 use std::thread::{Threads, yield_now};
+use worked_values::octets_of;
+use worked_values::scripts::{CROSSING, EXCHANGE};
 
 /// So many turns a gate waits at most.
 const LIMIT: u64 = 1_000_000_000;
-
-/// Commands of the gateway `h` behind the flow: it exchanges the numbers of two categories.
-const EXCHANGE: &str = "node h
-map del default
-cipsov4 del doi:10
-cipsov4 add trans doi:10 tags:2 levels:2=12 categories:1=4,3=5
-map add default protocol:cipsov4,10
-";
 
 /// For the last command that the first packet's third look finds, what becomes of that packet.
 const ENDS: [(u32, &str); 5] = [
