@@ -1,8 +1,8 @@
 //! What the words of the command line ask for.
 
 use command_values::Doi;
-use octet_grammar::read_decimal;
 use mls_label::Label;
+use octet_grammar::read_decimal;
 use std::marker::Model;
 
 /// A command with what its words name.

@@ -4,8 +4,8 @@ ghost use Rattle.std.specs.Prelude.{◌<◌};
 
 use super::flows::{CROSSING, ONE_LABEL_REPLIES, THREE, call, folder, octets_of, with_line};
 use call_report::FlowSeen;
-use octet_grammar::write_decimal;
 use label_flow::{Gate, OpenGate};
+use octet_grammar::write_decimal;
 use std::alloc::Global;
 use std::process::Abort;
 use std::str::from_utf8;

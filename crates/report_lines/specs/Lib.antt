@@ -1,7 +1,0 @@
-pub mod Fixed
-pub mod Denial
-pub mod Packet
-pub mod Capture
-pub mod Script
-pub mod Flow
-pub mod inside
