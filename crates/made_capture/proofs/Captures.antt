@@ -33,9 +33,10 @@ begins_by seed few zero many e =
 begins_by seed few (suc by) many e =
     let below = begins_by seed few by (few + by) refl in
     let next : many ≡ few + by + 1 = omega arith in
-    let frame = frame_text seed (few + by + 1) in
-    (below.0 ++ frame,
-      ap (capture_made seed) next ∙ more seed (few + by) ∙ ap (λ octets. octets ++ frame) below.1 ∙ append_assoc (capture_made seed few) below.0 frame)
+    let frame = frame_text seed (few + by + 1) in (
+      below.0 ++ frame,
+      ap (capture_made seed) next ∙ more seed (few + by) ∙ ap (λ octets. octets ++ frame) below.1 ∙ append_assoc (capture_made seed few) below.0 frame,
+    )
 
 pub begins : (seed few many : ℕ) → few ≤ many → (rest : List ℕ) × (capture_made seed many ≡ capture_made seed few ++ rest)
 begins seed few many le = begins_by seed few (many - few) many (omega arith)

@@ -36,8 +36,27 @@ bitmap_is = refl
 
 first_label : label_made 0x6C576FAC43FD007C ≡ record { level = 0; cats = first_cats }
 first_label =
-    let ascends : IsCats first_cats = (omega arith, omega arith, (omega arith, omega arith, (omega arith, omega arith, (omega arith, omega arith, (omega arith, omega arith,
-    (omega arith, omega arith, (omega arith, omega arith, (omega arith, omega arith, (omega arith, omega arith, (omega arith, omega arith, (omega arith, omega arith, tt))))))))))) in
+    let ascends : IsCats first_cats = (
+      omega arith,
+      omega arith,
+      (
+        omega arith,
+        omega arith,
+        (
+          omega arith,
+          omega arith,
+          (
+            omega arith,
+            omega arith,
+            (
+              omega arith,
+              omega arith,
+              (omega arith, omega arith, (omega arith, omega arith, (omega arith, omega arith, (omega arith, omega arith, (omega arith, omega arith, (omega arith, omega arith, tt)))))),
+            ),
+          ),
+        ),
+      ),
+    ) in
     let cats : bitmap_cats (0x57 ∷ 0x6f ∷ []) ≡ first_cats = ap bitmap_cats (sym bitmap_is) ∙ written_bitmap_reads_back first_cats 2 ascends (omega arith) in
     ap (λ (cats : List ℕ). let label : Label = record { level = 0; cats = cats } in label) cats
 
