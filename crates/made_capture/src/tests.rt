@@ -237,8 +237,10 @@ fn a_capture_of_two_packets(rt: HostRuntime) -> Result<(), Fail> {
     let mut file = Vec::new(rt.alloc());
     write_head(false, &mut file)?;
     let head = maker.next(&mut octets)?;
+    assert_eq!(rt; octets.len(), 40);
     write_frame(head, &octets, &mut file)?;
     let head = maker.next(&mut octets)?;
+    assert_eq!(rt; octets.len(), 40);
     write_frame(head, &octets, &mut file)?;
     assert_eq!(rt; file.as_slice(), CAPTURE.as_slice());
     Ok(())
