@@ -1,0 +1,14 @@
+use Rattle.std.proofs.Common.{◌<◌, ap, Err, ◌∙◌, arith}
+use Rattle.ip_headers.specs.Written.{rebuilt_room, rebuilt_length}
+use Rattle.made_capture.proofs.Sizes.{room_is, length_is}
+use Rattle.made_capture.specs.Packet.{empty_datagram}
+use Rattle.made_capture.proofs.packet.write_datagram.Goals as goal
+
+pub unreachable-requires : goal.unreachable-requires
+unreachable-requires c =
+    omega (arith, c.write4.ensures.no_room.0 (c.in-Err-NoRoom.is ∙ ap Err c.in-Err-NoRoom.field-0-is), room_is c.datagram_fields.result c.args.option.now empty_datagram, c.requires.short)
+
+pub unreachable-requires-in-Err-TooLong : goal.unreachable-requires-in-Err-TooLong
+unreachable-requires-in-Err-TooLong c =
+    let told = c.write4.ensures.too_long.0 (c.in-Err-TooLong.is ∙ ap Err c.in-Err-TooLong.field-0-is) in
+    omega (arith, told.1, length_is c.datagram_fields.result c.args.option.now empty_datagram, c.requires.short)

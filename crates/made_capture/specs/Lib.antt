@@ -1,0 +1,4 @@
+pub mod Number
+pub mod Packet
+pub mod Capture
+pub mod Maker
