@@ -4,4 +4,5 @@ pub mod Packet
 pub mod Capture
 pub mod Script
 pub mod Flow
+pub mod Agreement
 pub mod inside

@@ -3,6 +3,7 @@
 //! RFC 5952 does. The next line is a definition in the file of its noun in `specs`, and in `src` a function whose contract it is.
 #![tactic(auto)]
 
+mod agreement;
 mod capture;
 mod denial;
 mod fixed;
@@ -10,6 +11,7 @@ mod flow;
 mod packet;
 mod script;
 
+pub use agreement::{agree_or_disagree, bad_versions, no_flow, write_hops};
 pub use capture::write_capture;
 pub use denial::write_verdict;
 pub use fixed::{done, packet_limit, packets_limit, usage};
