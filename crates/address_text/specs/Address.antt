@@ -52,6 +52,7 @@ abbrev pub IsAddress : Address → Type 0
 IsAddress (V4 octets) = IsOctetsOf 4 octets
 IsAddress (V6 octets) = IsOctetsOf 16 octets
 
+-- an address of version 6, written without a dot
 abbrev pub six_of_text : List ℕ → Option Address
 six_of_text text = if has_dot text then None else option_map (λ groups. V6 (octets_of groups)) (whole_value (read_ipv6 text))
 

@@ -17,6 +17,7 @@ abbrev pub first_bits : ℕ → List ℕ → List ℕ
 first_bits bits [] = []
 first_bits bits (octet ∷ octets) = (octet - octet % 2 ^ (8 - bits)) ∷ first_bits (bits - 8) octets
 
+-- an address with all bits behind the first so many cleared
 abbrev pub masked : ℕ → Address → Address
 masked bits (V4 octets) = V4 (first_bits bits octets)
 masked bits (V6 octets) = V6 (first_bits bits octets)
@@ -43,6 +44,7 @@ holds block address = same_address (masked block.bits address) block.address
 abbrev pub whole_block : Address → AddressBlock
 whole_block address = block_of address (width_of address)
 
+-- the prefix by what stands in front of a slash and behind it; an address alone is one of all its bits
 abbrev pub block_of_parts : List (List ℕ) → Option AddressBlock
 block_of_parts (address ∷ []) = option_map whole_block (address_of_text address)
 block_of_parts (address ∷ bits ∷ []) = option_and_then (λ a. option_map (block_of a) (number_of_text (width_of a) bits)) (address_of_text address)

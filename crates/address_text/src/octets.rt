@@ -6,7 +6,7 @@ ghost use Rattle.std.specs.Str.{bytes_eq};
 ghost use Rattle.address_text.specs.Number.{number_of_text};
 ghost use Rattle.address_text.specs.Prefix.{first_bits};
 
-use decimal_text::read_decimal;
+use octet_grammar::read_decimal;
 
 /// The first `bits` bits of an octet, the others cleared.
 fn first_of(octet: u8, bits: u8) -> u8

@@ -11,7 +11,7 @@ ghost use Rattle.address_text.specs.inside.Extends.{Extends};
 
 use crate::address::Address;
 use crate::prefix::Prefix;
-use decimal_text::write_decimal;
+use octet_grammar::write_decimal;
 use mls_label::OutOfMemory;
 use std::net::Ipv6Addr;
 

@@ -6,6 +6,7 @@ use Rattle.std.specs.Int.{w16, bit_not}
 unfoldable pub shifted : ℕ → ℕ
 shifted register = if register % 2 == 1 then bit_xor (register / 2) 33800 else register / 2
 
+-- the register after so many shifts
 abbrev pub shifted_times : ℕ → ℕ → ℕ
 shifted_times zero register = register
 shifted_times (suc n) register = shifted (shifted_times n register)
@@ -14,6 +15,7 @@ shifted_times (suc n) register = shifted (shifted_times n register)
 unfoldable pub with_octet : ℕ → ℕ → ℕ
 with_octet register octet = shifted_times 8 (bit_xor register octet)
 
+-- the register after these octets
 abbrev pub register_after : ℕ → List ℕ → ℕ
 register_after register [] = register
 register_after register (octet ∷ octets) = register_after (with_octet register octet) octets

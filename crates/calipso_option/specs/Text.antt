@@ -22,5 +22,6 @@ text_with doi label checksum =
     let words = words_needed label.cats in
     option_octets doi words label.level checksum (bitmap_of label.cats (4 * words))
 
+-- the option with its checksum, which is counted with 0 in its own place
 abbrev pub calipso_text : ℕ → Label → List ℕ
 calipso_text doi label = text_with doi label (crc_of (text_with doi label 0))

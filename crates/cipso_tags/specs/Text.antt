@@ -35,6 +35,7 @@ body_text One cats = bitmap_of cats (octets_needed cats)
 body_text Two cats = words cats
 body_text Five cats = words (range_numbers (runs_of cats))
 
+-- type, length, an octet of 0, level, and the categories
 abbrev pub tag_text : Tag → Label → List ℕ
 tag_text tag label = tag_type tag ∷ (HEADER_OCTETS + length (body_text tag label.cats)) ∷ 0 ∷ label.level ∷ body_text tag label.cats
 

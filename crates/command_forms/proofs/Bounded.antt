@@ -2,7 +2,7 @@
 use Rattle.std.proofs.Common.{ℕ, List, Option, Some, None, arith, All}
 use Rattle.std.specs.Prelude.{IfSome}
 use Rattle.mls_range.specs.Range.{LabelRange}
-use Rattle.packet_label.specs.Written.{IsLabel}
+use Rattle.mls_label.specs.Label.{IsLabel}
 use Rattle.command_values.specs.List.{AreEntries}
 use Rattle.command_values.specs.Pairs.{IsPairWithin}
 use Rattle.command_values.specs.Ranges.{IsMlsRange}

@@ -1,6 +1,6 @@
 -- What the numbers keep that a command brings into tables. It follows from `IsCommand`, and says nothing of names, tags and addresses.
 use Rattle.std.specs.Prelude.{ℕ, List, All, Option, IsTrue, IfSome}
-use Rattle.packet_label.specs.Written.{IsLabel}
+use Rattle.mls_label.specs.Label.{IsLabel}
 use Rattle.command_values.specs.Doi.{is_doi}
 use Rattle.command_values.specs.Pairs.{IsPairWithin}
 use Rattle.command_forms.specs.declared.command.Command.{Command}

@@ -21,7 +21,7 @@ use command_values::{
     CommaList, Doi, ListEntry, MapProtocol, Tags, write_map_protocol, write_receiver_range,
     write_static_range,
 };
-use decimal_text::write_decimal;
+use octet_grammar::write_decimal;
 use line_forms::Parameter;
 use mls_label::OutOfMemory;
 use mls_range::KeptRange;

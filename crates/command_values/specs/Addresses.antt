@@ -4,10 +4,12 @@ use Rattle.address_text.specs.declared.address.Address.{Address}
 use Rattle.address_text.specs.declared.address.Address.TheVariants.{V4, V6}
 use Rattle.address_text.specs.Address.{address_of_text}
 
+-- the octets of an address of version 4
 abbrev pub four_octets : Address → Option (List ℕ)
 four_octets (V4 octets) = Some octets
 four_octets (V6 octets) = None
 
+-- the octets of an address of version 6
 abbrev pub sixteen_octets : Address → Option (List ℕ)
 sixteen_octets (V4 octets) = None
 sixteen_octets (V6 octets) = Some octets

@@ -26,6 +26,7 @@ map_protocol_of_text text =
     if bytes_eq text (codes "unlbl") then Some Unlbl
     else protocol_by_name (before_first (λ c. c == 44) text) (after_first (λ c. c == 44) text)
 
+-- a map's protocol as it is written
 abbrev pub map_protocol_text : Protocol → List ℕ
 map_protocol_text Unlbl = codes "unlbl"
 map_protocol_text (Cipso doi) = codes "cipsov4," ++ decimal doi

@@ -10,6 +10,7 @@ pair_of_text first second text =
     option_and_then (λ l. option_map (λ r. (l, r)) (number_of_text second (after_first (λ c. c == 61) text)))
     (number_of_text first (before_first (λ c. c == 61) text))
 
+-- a pair as it is written: its numbers with `=` between them
 abbrev pub pair_text : ℕ × ℕ → List ℕ
 pair_text pair = decimal pair.0 ++ 61 ∷ decimal pair.1
 

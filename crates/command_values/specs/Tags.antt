@@ -7,6 +7,7 @@ use Rattle.mls_label.specs.declared.label.Tag.TheVariants.{One, Two, Five}
 use Rattle.cipso_tags.specs.Tag.{tag_type}
 use Rattle.command_values.specs.List.{list_of_text}
 
+-- a tag by its type's number
 abbrev pub tag_number_text : Tag → List ℕ
 tag_number_text tag = decimal (tag_type tag)
 

@@ -3,7 +3,7 @@
 ghost use Rattle.std.specs.Prelude.{◌≡◌, ◌≤◌, IfSome};
 ghost use Rattle.address_text.specs.Number.{number_of_text};
 
-use decimal_text::read_decimal;
+use octet_grammar::read_decimal;
 
 /// The number up to `most` whose decimal text this is.
 pub(crate) fn read_number(text: &[u8], most: u32) -> Option<u32>

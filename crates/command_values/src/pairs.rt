@@ -7,7 +7,7 @@ ghost use Rattle.command_values.specs.inside.Extends.{Extends};
 use crate::list::{CommaList, ListEntry};
 use crate::number::read_number;
 use crate::parts::around;
-use decimal_text::write_decimal;
+use octet_grammar::write_decimal;
 use mls_label::OutOfMemory;
 
 /// Pairs of levels, the local number first.

@@ -7,7 +7,7 @@ ghost use Rattle.command_values.specs.inside.Extends.{Extends};
 
 use crate::doi::{Doi, read_doi};
 use crate::parts::{around, is_word};
-use decimal_text::write_decimal;
+use octet_grammar::write_decimal;
 use domain_map::Protocol;
 use mls_label::OutOfMemory;
 use std::marker::Model;

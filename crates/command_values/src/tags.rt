@@ -6,7 +6,7 @@ ghost use Rattle.command_values.specs.Tags.{tag_of_text, tag_number_text, tags_o
 
 use crate::list::{CommaList, ListEntry};
 use crate::parts::is_word;
-use decimal_text::write_decimal;
+use octet_grammar::write_decimal;
 use mls_label::{OutOfMemory, Tag};
 use std::alloc::Global;
 use std::marker::Model;

@@ -11,9 +11,11 @@ number_by pairs n = lookup (nat_eq n) pairs
 abbrev pub flipped : List (ℕ × ℕ) → List (ℕ × ℕ)
 flipped pairs = map (λ p. (p.1, p.0)) pairs
 
+-- the first numbers of pairs
 abbrev pub firsts : List (ℕ × ℕ) → List ℕ
 firsts pairs = map (λ p. p.0) pairs
 
+-- their second numbers
 abbrev pub seconds : List (ℕ × ℕ) → List ℕ
 seconds pairs = map (λ p. p.1) pairs
 

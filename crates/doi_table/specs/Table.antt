@@ -8,6 +8,7 @@ use Rattle.doi_table.specs.declared.fault.DoiFault.{DoiFault}
 use Rattle.doi_table.specs.declared.fault.DoiFault.TheVariants.{Exists, TooManyPairs, NotOneToOne, Full, OutOfMemory}
 use Rattle.doi_table.specs.Definition.{is_plan_one_to_one}
 
+-- definitions by protocol and DOI, in order of insertion
 abbrev pub Entries : Type 0
 Entries = List ((Proto × ℕ) × DoiPlan)
 
@@ -17,6 +18,7 @@ same_proto Cipso Cipso = true
 same_proto Calipso Calipso = true
 same_proto _ _ = false
 
+-- one protocol and one DOI
 abbrev pub same_doi : Proto × ℕ → Proto × ℕ → Bool
 same_doi a b = same_proto a.0 b.0 && nat_eq a.1 b.1
 

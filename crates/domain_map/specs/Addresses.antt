@@ -6,6 +6,7 @@ use Rattle.domain_map.specs.declared.protocol.Protocol.{Protocol}
 use Rattle.domain_map.specs.declared.fault.MapFault.{MapFault}
 use Rattle.domain_map.specs.declared.fault.MapFault.TheVariants as Fault
 
+-- prefixes with their protocols, in order of insertion
 abbrev pub Addresses : Type 0
 Addresses = List (AddressBlock × Protocol)
 

@@ -22,9 +22,11 @@ use Rattle.domain_map.specs.Addresses.{with_address, map_ok}
 abbrev pub Domain : Type 0
 Domain = Option (List ℕ)
 
+-- the entries of a map, in order of insertion
 abbrev pub Domains : Type 0
 Domains = List (Domain × Rule)
 
+-- one name, or the default domain both times
 abbrev pub same_domain : Domain → Domain → Bool
 same_domain = option_eq bytes_eq
 
@@ -34,6 +36,7 @@ rule_of domains domain = lookup (same_domain domain) domains
 
 -- adding
 
+-- the rule of a new entry: plain without a prefix, else for this one
 abbrev pub first_rule : Option AddressBlock → Protocol → Rule
 first_rule None protocol = Plain protocol
 first_rule (Some block) protocol = Addresses ((block, protocol) ∷ [])
@@ -85,9 +88,11 @@ find_of domains domain address = elim (rule_of domains (Some domain)) [
 
 -- listing
 
+-- a line of `map list`
 abbrev pub Line : Type 0
 Line = Domain × Option AddressBlock × Protocol
 
+-- the lines of an entry's rule
 abbrev pub rule_lines : Rule → List (Option AddressBlock × Protocol)
 rule_lines (Plain protocol) = (None, protocol) ∷ []
 rule_lines (Addresses addresses) = map (λ entry. (Some entry.0, entry.1)) addresses

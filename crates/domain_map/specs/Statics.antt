@@ -11,6 +11,7 @@ use Rattle.domain_map.specs.declared.fault.StaticFault.TheVariants as Fault
 use Rattle.domain_map.specs.Domains.{Domain, same_domain}
 use Rattle.domain_map.specs.Longest.{longest}
 
+-- static labels, in order of insertion
 abbrev pub Statics : Type 0
 Statics = List StaticEntry
 

@@ -5,6 +5,7 @@ use Rattle.std.specs.List.{list_any}
 use Rattle.std.proofs.lemmas.Map.Entries.{All-lookup}
 use Rattle.std.proofs.lemmas.List.Elements.{All-head}
 use Rattle.mls_label.specs.declared.label.Label.{Label}
+use Rattle.mls_label.specs.Label.{IsLabel}
 use Rattle.address_text.specs.declared.address.Address.{Address}
 use Rattle.address_text.specs.Address.{same_address}
 use Rattle.ip_headers.specs.Packet.{ParsedPacket}
@@ -13,7 +14,7 @@ use Rattle.packet_label.specs.declared.denial.Denial.TheVariants.{NotIp}
 use Rattle.packet_label.specs.declared.denial.Carrier.{Carrier}
 use Rattle.packet_label.specs.declared.fault.CarryFault.{CarryFault}
 use Rattle.packet_label.specs.declared.packet.Wire.{Wire}
-use Rattle.packet_label.specs.Written.{IsLabel, IsNext}
+use Rattle.packet_label.specs.Written.{IsNext}
 use Rattle.flow_lines.specs.declared.hop.Hop.{Hop}
 use Rattle.flow_lines.specs.Hop.{is_send}
 use Rattle.node_readings.specs.Reading.{NamedMeanings, IsReading}

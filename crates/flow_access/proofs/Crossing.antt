@@ -5,6 +5,7 @@ use Rattle.mls_label.specs.declared.label.Label.{Label}
 use Rattle.mls_label.specs.declared.label.Proto.TheVariants as Of
 use Rattle.mls_label.specs.declared.label.Tag.{Tag}
 use Rattle.mls_label.specs.Cats.{has}
+use Rattle.mls_label.specs.Label.{IsLabel}
 use Rattle.cipso_tags.specs.Text.{first_tag_of}
 use Rattle.doi_table.specs.declared.plan.DoiPlan.{DoiPlan}
 use Rattle.doi_table.specs.declared.unmapped.Unmapped.{Unmapped}
@@ -21,7 +22,7 @@ use Rattle.packet_label.specs.declared.denial.Carrier.{Carrier}
 use Rattle.packet_label.specs.declared.denial.Carrier.TheVariants as carried
 use Rattle.packet_label.specs.declared.denial.Denial.{Denial}
 use Rattle.packet_label.specs.declared.denial.Denial.TheVariants.{Inexpressible, UnknownDoi, TagNotAllowed}
-use Rattle.packet_label.specs.Written.{IsLabel, CanSay, moved_to}
+use Rattle.packet_label.specs.Written.{CanSay, moved_to}
 use Rattle.node_readings.specs.Reading.{NamedMeanings}
 use Rattle.node_readings.specs.Meaning.{meaning_of}
 use Rattle.node_tables.specs.Tables.{TableState}

@@ -3,11 +3,12 @@ use Rattle.std.proofs.Common.{◌≡◌, ℕ, false, List, [], ◌∷◌, Result
 use Rattle.std.specs.Prelude.{All, IsSome}
 use Rattle.std.proofs.lemmas.List.Elements.{All-weaker}
 use Rattle.mls_label.specs.declared.label.Label.{Label}
+use Rattle.mls_label.specs.Label.{IsLabel}
 use Rattle.ip_headers.specs.Packet.{ParsedPacket}
 use Rattle.packet_label.specs.declared.denial.Carrier.{Carrier}
 use Rattle.packet_label.specs.declared.fault.CarryFault.{CarryFault}
 use Rattle.packet_label.specs.declared.packet.Wire.{Wire}
-use Rattle.packet_label.specs.Written.{IsLabel, IsNext}
+use Rattle.packet_label.specs.Written.{IsNext}
 use Rattle.domain_map.specs.declared.protocol.Protocol.{Protocol}
 use Rattle.line_forms.specs.Form.{Edition}
 use Rattle.flow_lines.specs.declared.hop.Hop.{Hop}

@@ -3,12 +3,13 @@ use Rattle.std.proofs.Common.{◌≡◌, Bool, true, false, ℕ, List, Option, S
 use Rattle.std.specs.Prelude.{IsSome, ◌||◌}
 use Rattle.std.proofs.lemmas.Bool.{false≢true}
 use Rattle.mls_label.specs.declared.label.Label.{Label}
+use Rattle.mls_label.specs.Label.{IsLabel}
 use Rattle.ip_headers.specs.Packet.{ParsedPacket}
 use Rattle.ip_headers.specs.Reading.{first_place}
 use Rattle.packet_label.specs.declared.denial.Denial.{Denial}
 use Rattle.packet_label.specs.declared.fault.CarryFault.{CarryFault}
 use Rattle.packet_label.specs.declared.packet.Wire.{Wire}
-use Rattle.packet_label.specs.Written.{IsLabel, IsNext, moved_to, settled_packet}
+use Rattle.packet_label.specs.Written.{IsNext, moved_to, settled_packet}
 use Rattle.flow_lines.specs.declared.hop.Hop.{Hop}
 use Rattle.flow_lines.specs.declared.hop.Hop.TheVariants.{Send, Forward, Receive}
 use Rattle.flow_lines.specs.Hop.{is_send}

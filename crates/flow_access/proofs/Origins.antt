@@ -9,6 +9,7 @@ use Rattle.mls_label.specs.declared.label.Tag.{Tag}
 use Rattle.mls_label.specs.declared.label.Tag.TheVariants.{One, Two, Five}
 use Rattle.mls_label.specs.Cats.{IsCats}
 use Rattle.mls_label.proofs.Law.{tests_give_sets}
+use Rattle.mls_label.specs.Label.{IsLabel}
 use Rattle.category_bitmap.specs.Bitmap.{has_bit}
 use Rattle.cipso_tags.specs.Body.{IsBody, covers}
 use Rattle.cipso_option.specs.declared.cipso.Cipso.{Cipso}
@@ -32,8 +33,8 @@ use Rattle.packet_label.specs.declared.fault.CarryFault.{CarryFault}
 use Rattle.packet_label.specs.declared.packet.Wire.{Wire}
 use Rattle.packet_label.specs.declared.packet.Wire.TheVariants as wire
 use Rattle.packet_label.specs.Packet.{IsPacket}
-use Rattle.packet_label.specs.Wire.{label_said, IsWire, Says}
-use Rattle.packet_label.specs.Written.{IsLabel, IsReadAs}
+use Rattle.packet_label.specs.Wire.{label_said, IsWire, OptionSays}
+use Rattle.packet_label.specs.Written.{IsReadAs}
 use Rattle.flow_lines.specs.declared.hop.Hop.{Hop}
 use Rattle.flow_lines.specs.declared.hop.Hop.TheVariants.{Send, Forward, Receive}
 use Rattle.node_tables.specs.Tables.{TableState}
@@ -65,7 +66,7 @@ said_label V6 option (wire.Calipso at doi w) is = calipso_label option.octets (r
 said_label V4 option (wire.Calipso at doi w) is = absurd is
 said_label V6 option (wire.Cipso at doi tag w) is = absurd is
 
-read_label : (v : Version) (option : Option Placed) (said : Wire) → Says v option (Some said) → IsLabel (label_said said)
+read_label : (v : Version) (option : Option Placed) (said : Wire) → OptionSays v option (Some said) → IsLabel (label_said said)
 read_label v None said is = absurd is
 read_label v (Some option) said is = said_label v option said is
 
@@ -126,7 +127,7 @@ module _ (t : TableState) (valid : AreValid t) (incoming : Incoming) where
     by_option : (o : Option Wire) → p.label ≡ o → (elim o as (λ _. Result Incoming Denial) [ None ↦ static_labels t interface (address_in p.version p.source) | Some said ↦ option_labels t.definitions said ]) ≡ Ok incoming → IsLabel incoming.high
     by_option None l e = static_label interface (address_in p.version p.source) e
     by_option (Some said) l e =
-        local_label_is said (read_label is.headers.version is.headers.label said (subst (Says is.headers.version is.headers.label) l is.option)) (reads_of t.definitions incoming said e)
+        local_label_is said (read_label is.headers.version is.headers.label said (subst (OptionSays is.headers.version is.headers.label) l is.option)) (reads_of t.definitions incoming said e)
 
     incoming_label : label_of t interface p ≡ Ok incoming → IsLabel incoming.high
     unfolding label_of

@@ -2,11 +2,12 @@
 
 ghost use Rattle.std.specs.Prelude.{◌≡◌, ℕ, false, List, length, All, Result, Ok, IsSome};
 ghost use Rattle.mls_label.specs.declared.label.Label.{Label};
+ghost use Rattle.mls_label.specs.Label.{IsLabel};
 ghost use Rattle.ip_headers.specs.Packet.{ParsedPacket};
 ghost use Rattle.packet_label.specs.declared.denial.Carrier.{Carrier};
 ghost use Rattle.packet_label.specs.declared.fault.CarryFault.{CarryFault};
 ghost use Rattle.packet_label.specs.declared.packet.Wire.{Wire};
-ghost use Rattle.packet_label.specs.Written.{IsLabel, IsNext};
+ghost use Rattle.packet_label.specs.Written.{IsNext};
 ghost use Rattle.domain_map.specs.declared.protocol.Protocol.{Protocol};
 ghost use Rattle.line_forms.specs.Form.{Edition};
 ghost use Rattle.flow_lines.specs.declared.hop.Hop.{Hop};

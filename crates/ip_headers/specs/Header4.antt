@@ -17,6 +17,7 @@ version_number octets = slice_index octets 0 / 16
 abbrev pub header_length : List ℕ → ℕ
 header_length octets = 4 * (slice_index octets 0 % 16)
 
+-- the whole packet by its length field
 abbrev pub total_length : List ℕ → ℕ
 total_length octets = u16_at octets 2
 
@@ -34,9 +35,11 @@ fixed_fault4 octets =
     (if not (ones_sum (take (header_length octets) octets) == 65535) then fault_at 10 Checksum else
     None))))
 
+-- the header with its options
 abbrev pub head4 : List ℕ → List ℕ
 head4 octets = take (header_length octets) octets
 
+-- what stands behind the header, up to the total length
 abbrev pub payload4 : List ℕ → List ℕ
 payload4 octets = slice_range octets (header_length octets) (total_length octets)
 

@@ -57,6 +57,7 @@ pub record Listed : Type 0 where
   pub options : List Placed
   pub broken : Option HeadFault
 
+-- an option in front of those behind it
 abbrev pub with_first : Placed → Listed → Listed
 with_first option others = record { options = option ∷ others.options; broken = others.broken }
 
@@ -77,6 +78,7 @@ abbrev pub label_type : Version → ℕ
 label_type V4 = 134
 label_type V6 = 7
 
+-- the type octet of a label option
 abbrev pub is_label_type : Version → ℕ → Bool
 is_label_type version type = type == label_type version
 
@@ -89,12 +91,15 @@ is_jumbo_type V6 type = type == 194
 abbrev pub is_other_type : Version → ℕ → Bool
 is_other_type version type = not (type == 0 || type == 1 || is_label_type version type)
 
+-- a label option
 abbrev pub is_label : Version → Placed → Bool
 is_label version option = is_label_type version (type_octet option.octets)
 
+-- a Jumbo Payload option
 abbrev pub is_jumbo : Version → Placed → Bool
 is_jumbo version option = is_jumbo_type version (type_octet option.octets)
 
+-- an option that is neither padding nor a label
 abbrev pub is_other : Version → Placed → Bool
 is_other version option = is_other_type version (type_octet option.octets)
 

@@ -17,6 +17,7 @@ abbrev pub first_place : Version → ℕ
 first_place V4 = 20
 first_place V6 = 42
 
+-- the first test of the fields before the options that fails
 abbrev pub fixed_fault : Version → List ℕ → Option HeadFault
 fixed_fault V4 octets = fixed_fault4 octets
 fixed_fault V6 octets = fixed_fault6 octets
@@ -26,6 +27,7 @@ abbrev pub head_of : Version → List ℕ → List ℕ
 head_of V4 octets = head4 octets
 head_of V6 octets = head6 octets
 
+-- what stands behind the headers
 abbrev pub payload_of : Version → List ℕ → List ℕ
 payload_of V4 octets = payload4 octets
 payload_of V6 octets = payload6 octets

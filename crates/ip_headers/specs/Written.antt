@@ -113,9 +113,11 @@ abbrev pub room_of : Version → Headers → ℕ
 room_of V4 p = length (kept_options p)
 room_of V6 p = length (hop_by_hop p)
 
+-- how much room the options of a packet need
 unfoldable pub rebuilt_room : Headers → ℕ
 rebuilt_room p = room_of p.version p
 
+-- how much there is
 abbrev pub room_limit : Version → ℕ
 room_limit V4 = 40
 room_limit V6 = 2048
@@ -126,6 +128,7 @@ abbrev pub length_of : Version → Headers → ℕ
 length_of V4 p = 20 + length (option_area p) + length p.payload
 length_of V6 p = length (hop_by_hop p) + length p.payload
 
+-- the length field of a packet
 unfoldable pub rebuilt_length : Headers → ℕ
 rebuilt_length p = length_of p.version p
 

@@ -12,12 +12,12 @@ use Rattle.std.proofs.NetLemmas.Options.{map_some}
 use Rattle.mls_label.specs.declared.label.Label.{Label}
 use Rattle.mls_label.specs.Cats.{IsCats}
 use Rattle.mls_label.proofs.Law.{tests_give_sets}
+use Rattle.mls_label.specs.Label.{IsLabel}
 use Rattle.mls_range.specs.LabelText.{IsLabelText, term_has}
 use Rattle.mls_range.specs.Computed.{label_of_text, lone_range, range_of_text}
 use Rattle.mls_range.specs.Range.{LabelRange}
 use Rattle.mls_range.specs.RangeText.{IsRangeText}
 use Rattle.mls_range.proofs.Law.{computed_labels_are_of_the_text, computed_ranges_are_of_the_text}
-use Rattle.packet_label.specs.Written.{IsLabel}
 use Rattle.address_text.specs.Number.{number_of_text}
 use Rattle.command_values.specs.Doi.{is_doi, doi_of_text}
 use Rattle.command_values.specs.List.{all_of, list_of_text}

@@ -1,6 +1,6 @@
 -- What the numbers of every script keep that is read.
 use Rattle.std.specs.Prelude.{All}
-use Rattle.packet_label.specs.Written.{IsLabel}
+use Rattle.mls_label.specs.Label.{IsLabel}
 use Rattle.node_readings.specs.Reading.{IsReading}
 use Rattle.command_forms.specs.declared.command.Step.{Step}
 use Rattle.command_forms.specs.Bounded.{IsBounded}

@@ -3,12 +3,12 @@ use Rattle.std.proofs.Common.{◌≡◌, ◌⊎◌, ℕ, ◌+◌, List, None, Ok
 use Rattle.std.specs.Prelude.{unwrap_or, Option}
 use Rattle.octet_grammar.specs.Octets.{IsOctets}
 use Rattle.mls_label.specs.declared.label.Label.{Label}
+use Rattle.mls_label.specs.Label.{IsLabel}
 use Rattle.domain_map.specs.declared.protocol.Protocol.{Protocol}
 use Rattle.ip_headers.specs.Packet.{ParsedPacket, relabelled}
 use Rattle.packet_label.specs.declared.packet.Wire.{Wire}
 use Rattle.packet_label.specs.declared.denial.Denial.TheVariants.{Inexpressible, WrongVersion}
 use Rattle.packet_label.specs.Packet.{IsPacket}
-use Rattle.packet_label.specs.Written.{IsLabel}
 use Rattle.version_cross.specs.Cause.{cross_cause}
 use Rattle.version_cross.specs.Checksum.{checksum_sum}
 use Rattle.version_cross.specs.Cross.{crossed}

@@ -9,6 +9,7 @@ use Rattle.std.proofs.lemmas.Map.Entries.{All-lookup}
 use Rattle.octet_grammar.specs.Octets.{IsOctets}
 use Rattle.octet_grammar.proofs.Octets.{octets-take}
 use Rattle.mls_label.specs.declared.label.Label.{Label}
+use Rattle.mls_label.specs.Label.{IsLabel}
 use Rattle.domain_map.specs.Domains.{find_of}
 use Rattle.domain_map.specs.declared.protocol.Protocol.{Protocol}
 use Rattle.domain_map.specs.declared.protocol.Protocol.TheVariants.{Unlbl, Cipso, Calipso}
@@ -24,7 +25,7 @@ use Rattle.packet_label.specs.declared.denial.Denial.{Denial}
 use Rattle.packet_label.specs.declared.denial.Stop.{Stop}
 use Rattle.packet_label.specs.Choice.{chosen, read_in}
 use Rattle.packet_label.specs.Packet.{IsPacket}
-use Rattle.packet_label.specs.Written.{CanSay, IsLabel, wire_text}
+use Rattle.packet_label.specs.Written.{CanSay, wire_text}
 use Rattle.packet_label.proofs.Law.{read_packets_may_be_written, written_options_suit_their_version}
 use Rattle.version_cross.specs.Cross.{other_version}
 use Rattle.version_cross.specs.Laws.{IsAddressOf, CanCross}

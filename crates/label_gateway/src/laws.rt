@@ -3,12 +3,12 @@
 ghost use Rattle.std.specs.Prelude.{◌≡◌, ◌⊎◌, ℕ, ◌+◌, List, None, Ok, Err, unwrap_or, Option};
 ghost use Rattle.octet_grammar.specs.Octets.{IsOctets};
 ghost use Rattle.mls_label.specs.declared.label.Label.{Label};
+ghost use Rattle.mls_label.specs.Label.{IsLabel};
 ghost use Rattle.domain_map.specs.declared.protocol.Protocol.{Protocol};
 ghost use Rattle.ip_headers.specs.Packet.{ParsedPacket, relabelled};
 ghost use Rattle.packet_label.specs.declared.packet.Wire.{Wire};
 ghost use Rattle.packet_label.specs.declared.denial.Denial.TheVariants.{Inexpressible, WrongVersion};
 ghost use Rattle.packet_label.specs.Packet.{IsPacket};
-ghost use Rattle.packet_label.specs.Written.{IsLabel};
 ghost use Rattle.version_cross.specs.Cause.{cross_cause};
 ghost use Rattle.version_cross.specs.Checksum.{checksum_sum};
 ghost use Rattle.version_cross.specs.Cross.{crossed};

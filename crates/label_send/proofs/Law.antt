@@ -2,6 +2,7 @@
 use Rattle.std.proofs.Common.{◌≡◌, ℕ, List, Some, None, Ok, Err}
 use Rattle.std.specs.Prelude.{IsTrue, unwrap_or}
 use Rattle.mls_label.specs.declared.label.Label.{Label}
+use Rattle.mls_label.specs.Label.{IsLabel}
 use Rattle.doi_table.specs.Table.{Entries}
 use Rattle.address_text.specs.declared.address.Address.{Address}
 use Rattle.domain_map.specs.declared.protocol.Protocol.{Protocol}
@@ -12,7 +13,6 @@ use Rattle.ip_headers.specs.Written.{IsParsed, rewritten}
 use Rattle.packet_label.specs.declared.packet.Wire.{Wire}
 use Rattle.packet_label.specs.declared.denial.Denial.{Denial}
 use Rattle.packet_label.specs.declared.denial.Denial.TheVariants.{Inexpressible}
-use Rattle.packet_label.specs.Written.{IsLabel}
 use Rattle.node_tables.specs.Coherence.{NamesDefined}
 use Rattle.node_tables.specs.Tables.{TableState}
 use Rattle.label_send.specs.Outgoing.{CanGoOut, outgoing, suits}

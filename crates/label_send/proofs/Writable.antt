@@ -6,6 +6,7 @@ use Rattle.octet_grammar.specs.Octets.{IsOctets}
 use Rattle.mls_label.specs.declared.label.Label.{Label}
 use Rattle.mls_label.specs.declared.label.Proto.TheVariants as Of
 use Rattle.mls_label.specs.declared.label.Tag.{Tag}
+use Rattle.mls_label.specs.Label.{IsLabel}
 use Rattle.cipso_tags.specs.Text.{first_tag_of}
 use Rattle.doi_table.specs.declared.plan.DoiPlan.{DoiPlan}
 use Rattle.doi_table.specs.declared.unmapped.Unmapped.{Unmapped}
@@ -27,7 +28,7 @@ use Rattle.packet_label.specs.declared.denial.Denial.TheVariants.{Inexpressible,
 use Rattle.packet_label.specs.Choice.{front_in}
 use Rattle.packet_label.proofs.Law.{read_packets_may_be_written}
 use Rattle.node_tables.specs.Tables.{TableState}
-use Rattle.packet_label.specs.Written.{IsLabel, CanSay, IsWritable, written}
+use Rattle.packet_label.specs.Written.{CanSay, IsWritable, written}
 use Rattle.label_send.specs.Outgoing.{CanGoOut, suits, cipso_with, cipso_said, cipso_by, is_in_words, calipso_said, calipso_by, outgoing}
 use Rattle.label_send.specs.Room.{within_room, sent_saying, sent_under}
 use Rattle.label_send.specs.Send.{send_octets, send_protocol, send_read, sent_as, sent_with}

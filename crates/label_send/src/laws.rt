@@ -2,6 +2,7 @@
 
 ghost use Rattle.std.specs.Prelude.{◌≡◌, ℕ, ◌<◌, List, None, Some, Ok, Err, IsTrue, unwrap_or};
 ghost use Rattle.mls_label.specs.declared.label.Label.{Label};
+ghost use Rattle.mls_label.specs.Label.{IsLabel};
 ghost use Rattle.doi_table.specs.Table.{Entries};
 ghost use Rattle.address_text.specs.declared.address.Address.{Address};
 ghost use Rattle.domain_map.specs.declared.protocol.Protocol.{Protocol};
@@ -12,7 +13,6 @@ ghost use Rattle.ip_headers.specs.Written.{IsParsed, rewritten};
 ghost use Rattle.packet_label.specs.declared.packet.Wire.{Wire};
 ghost use Rattle.packet_label.specs.declared.denial.Denial.{Denial};
 ghost use Rattle.packet_label.specs.declared.denial.Denial.TheVariants.{Inexpressible};
-ghost use Rattle.packet_label.specs.Written.{IsLabel};
 ghost use Rattle.node_tables.specs.Coherence.{NamesDefined};
 ghost use Rattle.node_tables.specs.Tables.{TableState};
 ghost use Rattle.label_send.specs.Outgoing.{CanGoOut, outgoing, suits};

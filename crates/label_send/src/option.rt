@@ -4,7 +4,7 @@ ghost use Rattle.std.specs.Prelude.{◌≡◌, Err, OnOk, IfErr};
 ghost use Rattle.std.specs.Option.{option_copied};
 ghost use Rattle.domain_map.specs.declared.protocol.Protocol.TheVariants.{Calipso, Cipso};
 ghost use Rattle.ip_headers.specs.declared.version.Version.TheVariants.{V4, V6};
-ghost use Rattle.packet_label.specs.Written.{IsLabel};
+ghost use Rattle.mls_label.specs.Label.{IsLabel};
 ghost use Rattle.label_send.specs.Outgoing.{IsExpressed, outgoing};
 ghost use Rattle.label_send.specs.inside.Option.{IsDefinedFor};
 

@@ -11,6 +11,7 @@ abbrev pub Ascends : ℕ → ℕ → List ℕ → Type 0
 Ascends low high [] = Unit {0}
 Ascends low high (c ∷ cats) = (low ≤ c) × (c < high) × Ascends (c + 1) high cats
 
+-- a set of categories: ascending numbers, 65534 the highest
 abbrev pub IsCats : List ℕ → Type 0
 IsCats cats = Ascends 0 65535 cats
 

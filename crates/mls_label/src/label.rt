@@ -4,23 +4,6 @@ ghost use Rattle.std.specs.Prelude.{◌≡◌, ◌↔◌, [], IsTrue};
 ghost use Rattle.mls_label.specs.Label.{Dominates};
 
 use crate::CatSet;
-use std::alloc::{AllocError, AllocFailed};
-
-/// Memory ran out. Other faults, for which the call would test later, may hold as well.
-#[derive(Clone, Copy, Debug, PartialEq, Eq)]
-pub struct OutOfMemory;
-
-impl From<AllocError> for OutOfMemory {
-    fn from(_failed: AllocError) -> OutOfMemory {
-        OutOfMemory
-    }
-}
-
-impl<T: Drop> From<AllocFailed<T>> for OutOfMemory {
-    fn from(_failed: AllocFailed<T>) -> OutOfMemory {
-        OutOfMemory
-    }
-}
 
 /// A label: a level from 0 to 255 and a set of categories from 0 to 65534 (SELinux MLS).
 #[derive(Debug, Drop)]

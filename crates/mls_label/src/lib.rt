@@ -12,5 +12,5 @@ mod tests;
 
 pub use cat_set::{CatSet, MOST_RUNS, TooManyRuns};
 pub use kept_label::KeptLabel;
-pub use label::{Label, OutOfMemory, Proto, Tag};
-pub use octet_grammar::{WireFault, WireKind};
+pub use label::{Label, Proto, Tag};
+pub use octet_grammar::{OutOfMemory, WireFault, WireKind};

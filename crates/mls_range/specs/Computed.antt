@@ -17,6 +17,7 @@ pub record LabelTerms : Type 0 where
   pub level : ℕ
   pub terms : List (ℕ × ℕ)
 
+-- the label that a level and terms say
 abbrev pub label_of_terms : LabelTerms → Label
 label_of_terms said = record { level = said.level; cats = cats_of_terms said.terms }
 
@@ -36,6 +37,7 @@ said_by_parts [] = record { level = 0; terms = [] }
 said_by_parts (level ∷ terms) =
     record { level = number_behind_letter level; terms = map (λ term. term_of_parts (slice_split (λ c. c == dot) term)) terms }
 
+-- each term ascends or is one category, and all are below 65535
 abbrev pub are_terms : List (ℕ × ℕ) → Bool
 are_terms terms = list_all (λ term. nat_le term.0 term.1 && nat_lt term.1 65535) terms
 
@@ -47,6 +49,7 @@ is_roomy terms = nat_le (length terms) MOST_RUNS || list_all (λ n. nat_le (run_
 abbrev pub is_said_by : List ℕ → LabelTerms → Bool
 is_said_by text said = bytes_eq (letter_s ∷ decimal said.level ++ terms_text said.terms) text && nat_lt said.level 256 && are_terms said.terms && is_roomy said.terms
 
+-- a text's level and terms, if what they say is written so
 unfoldable pub terms_of_text : List ℕ → Option LabelTerms
 terms_of_text text = let said = said_by_parts (slice_split (λ c. c == colon || c == comma) text) in if is_said_by text said then Some said else None
 
@@ -62,6 +65,7 @@ dominates a b = nat_le b.level a.level && list_all (has a.cats) b.cats
 abbrev pub dominates_by_terms : LabelTerms → LabelTerms → Bool
 dominates_by_terms a b = nat_le b.level a.level && list_all (λ term. list_all (term_has a.terms) (range_with_len term.0 (term.1 + 1 - term.0))) b.terms
 
+-- the range of one label alone
 abbrev pub lone_range : Label → LabelRange
 lone_range label = record { low = label; high = label }
 

@@ -11,7 +11,7 @@ use crate::fault::TextFault;
 use crate::number::read_number;
 use crate::octet::{is_label_end, read_octet};
 use crate::terms::read_terms;
-use decimal_text::write_decimal;
+use octet_grammar::write_decimal;
 use mls_label::{CatSet, Label, OutOfMemory};
 
 /// The greatest level.

@@ -1,6 +1,6 @@
 use super::TextKind::*;
 use super::*;
-use decimal_text::write_decimal;
+use octet_grammar::write_decimal;
 use mls_label::{Label, OutOfMemory};
 use std::alloc::Global;
 use std::test::Fail;

@@ -4,12 +4,9 @@ ghost use Rattle.net_io.specs.declared.fault.IoFault.TheVariants.{OutOfMemory as
 ghost use Rattle.net_io.specs.declared.fault.WholeFault.TheVariants.{OutOfMemory as WholeOutOfMemory};
 ghost use Rattle.net_io.specs.inside.Whole.{whole_fault};
 
-use std::alloc::{AllocError, AllocFailed};
+use octet_grammar::OutOfMemory;
+use std::alloc::AllocError;
 use thiserror::Error;
-
-/// No memory was left for what the call keeps.
-#[derive(Clone, Copy, Debug, PartialEq, Eq)]
-pub struct OutOfMemory;
 
 /// Why a read, a write or the making of a file has failed.
 #[derive(Clone, Copy, Debug, PartialEq, Eq, Error)]
@@ -31,18 +28,6 @@ pub enum WholeFault {
     Failed,
     /// No memory was left for the file's octets. No fault is counted.
     OutOfMemory,
-}
-
-impl From<AllocError> for OutOfMemory {
-    fn from(_: AllocError) -> Self {
-        OutOfMemory
-    }
-}
-
-impl<T: Drop> From<AllocFailed<T>> for OutOfMemory {
-    fn from(_: AllocFailed<T>) -> Self {
-        OutOfMemory
-    }
 }
 
 impl From<AllocError> for IoFault {

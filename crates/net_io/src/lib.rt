@@ -25,9 +25,10 @@ mod writing;
 
 pub use depot::Depot;
 pub use failed::DepotCall;
-pub use fault::{IoFault, OutOfMemory, WholeFault};
+pub use fault::{IoFault, WholeFault};
 pub use memory_depot::MemoryDepot;
 pub use memory_sink::MemorySink;
+pub use octet_grammar::OutOfMemory;
 pub use reading::{read_full, read_whole};
 pub use real_depot::RealDepot;
 pub use real_sink::RealSink;

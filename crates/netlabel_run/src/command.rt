@@ -2,7 +2,7 @@
 
 use crate::versions::NamedVersions;
 use command_values::Doi;
-use decimal_text::read_decimal;
+use octet_grammar::read_decimal;
 use mls_label::Label;
 use std::marker::Model;
 

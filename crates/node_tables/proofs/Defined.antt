@@ -19,7 +19,7 @@ use Rattle.node_tables.specs.declared.reply.Refusal.TheVariants.{DoiUnknown, Doi
 use Rattle.node_tables.specs.Refusal.{doi_refusal, map_refusal}
 use Rattle.node_tables.specs.Change.{definition_added, definition_deleted, is_defined, refused_map, entry_added, or_refused, entry_deleted}
 use Rattle.node_tables.specs.Coherence.{NamesDefined, IsCoherent}
-use Rattle.mls_label.specs.declared.label.OutOfMemory.{OutOfMemory}
+use Rattle.octet_grammar.specs.declared.memory.OutOfMemory.{OutOfMemory}
 use Rattle.node_tables.specs.declared.stop.Stop.{Stop}
 use Rattle.node_tables.specs.declared.stop.Stop.TheVariants as Stopped
 use Rattle.node_tables.specs.inside.Turns.{Turns}

@@ -8,8 +8,8 @@ use Rattle.std.proofs.lemmas.List.Elements.{All-from_recursion, recursion_from_A
 use Rattle.mls_label.specs.declared.label.Proto.{Proto}
 use Rattle.mls_label.specs.declared.label.Proto.TheVariants as Of
 use Rattle.mls_label.specs.declared.label.Tag.{Tag}
+use Rattle.mls_label.specs.Label.{IsLabel}
 use Rattle.mls_range.specs.Range.{LabelRange}
-use Rattle.packet_label.specs.Written.{IsLabel}
 use Rattle.doi_table.specs.declared.plan.DoiPlan.{DoiPlan}
 use Rattle.doi_table.specs.declared.fault.DoiFault.{DoiFault}
 use Rattle.doi_table.specs.declared.fault.DoiFault.TheVariants.{Exists, TooManyPairs, NotOneToOne, Full}

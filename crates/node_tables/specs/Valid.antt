@@ -1,8 +1,8 @@
 -- What tables keep to which commands are given whose numbers are within their bounds.
 use Rattle.std.specs.Prelude.{ℕ, ◌<◌, ◌^◌, All}
 use Rattle.mls_label.specs.declared.label.Proto.{Proto}
+use Rattle.mls_label.specs.Label.{IsLabel}
 use Rattle.mls_range.specs.Range.{LabelRange}
-use Rattle.packet_label.specs.Written.{IsLabel}
 use Rattle.doi_table.specs.declared.plan.DoiPlan.{DoiPlan}
 use Rattle.doi_table.specs.Definition.{IsDefinition}
 use Rattle.doi_table.specs.Table.{Entries}

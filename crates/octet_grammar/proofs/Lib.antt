@@ -4,3 +4,4 @@ pub mod Fronts
 pub mod Faults
 pub mod Places
 pub mod Layouts
+pub mod Digits

@@ -14,7 +14,7 @@ use Rattle.ip_headers.proofs.Law.{faults_stand_within as heads_within, packets_a
 use Rattle.packet_label.specs.declared.fault.CarryFault.{CarryFault}
 use Rattle.packet_label.specs.declared.fault.CarryFault.TheVariants as carry
 use Rattle.packet_label.specs.declared.packet.Wire.{Wire}
-use Rattle.packet_label.specs.Wire.{IsWireFault, Says, HasTenOctets}
+use Rattle.packet_label.specs.Wire.{IsWireFault, OptionSays, HasTenOctets}
 use Rattle.packet_label.specs.Choice.{chosen, read_in, headers_in, front_in}
 use Rattle.packet_label.specs.Packet.{IsPacket, labelled}
 use Rattle.packet_label.specs.Fault.{told, BreaksLabel, IsPacketFault}
@@ -50,7 +50,7 @@ without_at : (o : Option Version) (octets : List ℕ) (h : Headers) → read_in 
 without_at None octets h e none = e
 without_at (Some v) octets h e none = headers_without v octets h e none
 
-says_none : (version : Version) (label : Option Placed) → label ≡ None → Says version label None
+says_none : (version : Version) (label : Option Placed) → label ≡ None → OptionSays version label None
 says_none version label none = rw none tt
 
 pub without_a_label : (octets : List ℕ) (h : Headers) → front_in octets ≡ Ok h → h.label ≡ None → IsPacket octets (labelled h None)
@@ -82,7 +82,7 @@ same_headers r h k a b = cc
 pub one_packet : (octets : List ℕ) (p q : ParsedPacket Wire) → IsPacket octets p → IsPacket octets q → p ≡ q
 one_packet octets p q a b =
     let h = same_headers (headers_in octets) a.headers b.headers a.reads b.reads in
-    let says : Says a.headers.version a.headers.label q.label = subst (λ (x : Headers). Says x.version x.label q.label) (sym h) b.option in
+    let says : OptionSays a.headers.version a.headers.label q.label = subst (λ (x : Headers). OptionSays x.version x.label q.label) (sym h) b.option in
     let w = says_once a.headers.version a.headers.label p.label q.label a.option says in
     a.is ∙ (λ i. labelled (h i) (w i)) ∙ sym b.is
 

@@ -17,7 +17,7 @@ use Rattle.packet_label.specs.declared.packet.Wire.{Wire}
 use Rattle.packet_label.specs.declared.packet.Wire.TheVariants.{Cipso, Calipso}
 use Rattle.packet_label.specs.declared.fault.CarryFault.{CarryFault}
 use Rattle.packet_label.specs.declared.fault.CarryFault.TheVariants as carry
-use Rattle.packet_label.specs.Wire.{IsWire, Says, IsWireFault}
+use Rattle.packet_label.specs.Wire.{IsWire, OptionSays, IsWireFault}
 use Rattle.packet_label.specs.Choice.{headers_in}
 use Rattle.packet_label.specs.Packet.{labelled}
 use Rattle.packet_label.specs.Fault.{told, BreaksLabel}
@@ -86,9 +86,9 @@ Answer octets = (answer : Result (ParsedPacket Wire) CarryFault) × IsReadAs oct
 
 label_answer : (octets : List ℕ) (h : Headers) (label : Option Placed) → headers_in octets ≡ Ok h → h.label ≡ label → Answer octets
 label_answer octets h None reads none =
-    (Ok (labelled h None), record { headers = h; reads = reads; option = subst (λ (l : Option Placed). Says h.version l None) (sym none) tt; is = refl })
+    (Ok (labelled h None), record { headers = h; reads = reads; option = subst (λ (l : Option Placed). OptionSays h.version l None) (sym none) tt; is = refl })
 label_answer octets h (Some o) reads has = elim (option_answer h.version o (option_inside octets h o reads has).whole) [
-  | inl w ↦ (Ok (labelled h (Some w.0)), record { headers = h; reads = reads; option = subst (λ (l : Option Placed). Says h.version l (Some w.0)) (sym has) w.1; is = refl })
+  | inl w ↦ (Ok (labelled h (Some w.0)), record { headers = h; reads = reads; option = subst (λ (l : Option Placed). OptionSays h.version l (Some w.0)) (sym has) w.1; is = refl })
   | inr f ↦
       let fault = carry.Option (o.place + f.0) in
       let breaks : BreaksLabel h fault = record { option = o; has = has; within = f.0; breaks = f.1; is = refl } in

@@ -18,14 +18,14 @@ use Rattle.ip_headers.specs.declared.version.Version.TheVariants.{V4, V6}
 use Rattle.ip_headers.specs.Options.{Placed}
 use Rattle.packet_label.specs.declared.packet.Wire.{Wire}
 use Rattle.packet_label.specs.declared.packet.Wire.TheVariants.{Cipso, Calipso}
-use Rattle.packet_label.specs.Wire.{IsWire, Says, FailsAt, FailsChecksum, IsWireFault, HasTenOctets}
+use Rattle.packet_label.specs.Wire.{IsWire, OptionSays, FailsAt, FailsChecksum, IsWireFault, HasTenOctets}
 
 -- ---- one content, one fault
 
 whole_once : {V : Type 0} (G : List ℕ → V → Type 0) (s : List ℕ) (v w : V) → IsPrefixFree G → G s v → G s w → v ≡ w
 whole_once G s v w free a b = (free s [] v w a (subst (λ (x : List ℕ). G x w) (sym (append-nil s)) b)).1
 
-pub says_once : (version : Version) (label : Option Placed) (v w : Option Wire) → Says version label v → Says version label w → v ≡ w
+pub says_once : (version : Version) (label : Option Placed) (v w : Option Wire) → OptionSays version label v → OptionSays version label w → v ≡ w
 says_once version None None None a b = refl
 says_once version None None (Some y) a b = absurd b
 says_once version None (Some x) w a b = absurd a
@@ -78,7 +78,7 @@ wire_right V6 o (Cipso at doi tag label) n is fails = is
 wire_right V6 o (Calipso at doi label) n is (inl fails) = no_fail IsCalipsoShape o.octets (record { doi = doi; label = label }, is.1.stored) n is.1.shape fails
 wire_right V6 o (Calipso at doi label) n is (inr fails) = no_bad_checksum o.octets (record { doi = doi; label = label }) fails.1.0 fails.1.1 is.1 fails.1.2
 
-pub says_right : (version : Version) (label : Option Placed) (w : Option Wire) (o : Placed) (n : ℕ) → label ≡ Some o → Says version label w → IsWireFault version o.octets n → ⊥
+pub says_right : (version : Version) (label : Option Placed) (w : Option Wire) (o : Placed) (n : ℕ) → label ≡ Some o → OptionSays version label w → IsWireFault version o.octets n → ⊥
 says_right version None w o n has says fails = absurd cc
 says_right version (Some p) None o n has says fails = says
 says_right version (Some p) (Some w) o n has says fails =
@@ -86,7 +86,7 @@ says_right version (Some p) (Some w) o n has says fails =
 
 -- ---- how long they are
 
-pub ten_octets : (version : Version) (label : Option Placed) (wire : Option Wire) (octets : List ℕ) → ((o : Placed) → label ≡ Some o → o.place + length o.octets ≤ length octets) → Says version label wire → HasTenOctets octets wire
+pub ten_octets : (version : Version) (label : Option Placed) (wire : Option Wire) (octets : List ℕ) → ((o : Placed) → label ≡ Some o → o.place + length o.octets ≤ length octets) → OptionSays version label wire → HasTenOctets octets wire
 ten_octets version None None octets within says = tt
 ten_octets version (Some o) None octets within says = tt
 ten_octets version None (Some wire) octets within says = absurd says

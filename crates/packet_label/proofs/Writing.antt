@@ -26,7 +26,7 @@ use Rattle.ip_headers.specs.Written.{first_option, IsLabelOption, FitsFields, Is
 use Rattle.ip_headers.proofs.Law.{packets_are_fronts, read_packets_may_be_written as headers_may_be_written, written_packet_reads_back as headers_read_back}
 use Rattle.packet_label.specs.declared.packet.Wire.{Wire}
 use Rattle.packet_label.specs.declared.packet.Wire.TheVariants.{Cipso, Calipso}
-use Rattle.packet_label.specs.Wire.{Says}
+use Rattle.packet_label.specs.Wire.{OptionSays}
 use Rattle.packet_label.specs.Choice.{chosen, read_in, front_in}
 use Rattle.packet_label.specs.Packet.{IsPacket}
 use Rattle.packet_label.specs.Written.{wire_text, written, moved_to, CanSay, IsWritable, settled_packet, IsReadAs}
@@ -98,7 +98,7 @@ text_fits version None can = tt
 text_fits version (Some wire) can = text_suits version wire can
 
 text_says : (version : Version) (wire : Option Wire) → IfSome wire (CanSay version)
-    → Says version (option_map (λ o. let p : Placed = record { place = first_place version; octets = o.octets } in p) (first_option version (option_map wire_text wire))) (option_map (moved_to (first_place version)) wire)
+    → OptionSays version (option_map (λ o. let p : Placed = record { place = first_place version; octets = o.octets } in p) (first_option version (option_map wire_text wire))) (option_map (moved_to (first_place version)) wire)
 text_says version None can = tt
 text_says V4 (Some (Cipso at doi tag label)) can = (refl, said4 at doi tag label can)
 text_says V4 (Some (Calipso at doi label)) can = absurd can

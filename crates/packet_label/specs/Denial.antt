@@ -57,6 +57,7 @@ name_of (NotCrossable cause) = codes "NotCrossable"
 name_of NotIp = codes "NotIp"
 name_of BelowRange = codes "BelowRange"
 
+-- the name of a cause why a packet can't cross to the other version
 abbrev pub cause_name : Cause → List ℕ
 cause_name Protocol = codes "Protocol"
 cause_name Fragment = codes "Fragment"

@@ -9,7 +9,7 @@ use Rattle.packet_label.specs.declared.packet.Packet.{Packet}
 use Rattle.packet_label.specs.declared.packet.Packet.TheVariants.{V4, V6}
 use Rattle.packet_label.specs.declared.packet.Wire.{Wire}
 use Rattle.packet_label.specs.Choice.{headers_in}
-use Rattle.packet_label.specs.Wire.{Says}
+use Rattle.packet_label.specs.Wire.{OptionSays}
 
 abbrev pub headers_of : Packet → Headers
 headers_of (V4 headers) = headers
@@ -35,5 +35,5 @@ labelled headers wire = relabelled headers wire headers.hops
 pub record IsPacket (octets : List ℕ) (packet : ParsedPacket Wire) : Type 0 where
   pub headers : Headers
   pub reads : headers_in octets ≡ Ok headers
-  pub option : Says headers.version headers.label packet.label
+  pub option : OptionSays headers.version headers.label packet.label
   pub is : packet ≡ labelled headers packet.label

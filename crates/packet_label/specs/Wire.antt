@@ -47,10 +47,10 @@ IsWire V6 option (Calipso at doi label) = (at ≡ option.place) × IsCalipso opt
 IsWire version option wire = ⊥
 
 -- a label option and what it says, or neither
-abbrev pub Says : Version → Option Placed → Option Wire → Type 0
-Says version None None = Unit {0}
-Says version (Some option) (Some wire) = IsWire version option wire
-Says version option wire = ⊥
+abbrev pub OptionSays : Version → Option Placed → Option Wire → Type 0
+OptionSays version None None = Unit {0}
+OptionSays version (Some option) (Some wire) = IsWire version option wire
+OptionSays version option wire = ⊥
 
 -- no option of this grammar stands at the front, and its first octet that is wrong is this one
 abbrev pub FailsAt : {V : Type 0} → (List ℕ → V → Type 0) → List ℕ → ℕ → Type 0

@@ -2,8 +2,7 @@
 -- RFC 5570).
 use Rattle.std.specs.Prelude.{◌≡◌, ℕ, ◌^◌, ◌<◌, List, None, IfSome, Result, Ok, MatchResult, MatchBool}
 use Rattle.std.specs.Option.{option_map}
-use Rattle.mls_label.specs.declared.label.Label.{Label}
-use Rattle.mls_label.specs.Cats.{IsCats}
+use Rattle.mls_label.specs.Label.{IsLabel}
 use Rattle.cipso_tags.specs.Text.{Fits}
 use Rattle.cipso_option.specs.Text.{cipso_text}
 use Rattle.calipso_option.specs.Text.{IsExpressible, calipso_text}
@@ -27,11 +26,6 @@ wire_text (Calipso at doi label) = calipso_text doi label
 abbrev pub written : ParsedPacket Wire → Headers
 written p = rewritten p (option_map wire_text p.label) p.hops
 
--- a label of mls
-pub record IsLabel (label : Label) : Type 0 where
-  pub level : label.level < 256
-  pub cats : IsCats label.cats
-
 -- an option of this version can say it
 abbrev pub CanSay : Version → Wire → Type 0
 CanSay V4 (Cipso at doi tag label) = (0 < doi) × (doi < 2 ^ 32) × IsLabel label × Fits tag label
@@ -43,6 +37,7 @@ pub record IsWritable (p : ParsedPacket Wire) : Type 0 where
   pub headers : IsParsed (rewritten p None p.hops)
   pub label : IfSome p.label (CanSay p.version)
 
+-- what an option says, with this as the octet at which it stands
 abbrev pub moved_to : ℕ → Wire → Wire
 moved_to place (Cipso at doi tag label) = Cipso place doi tag label
 moved_to place (Calipso at doi label) = Calipso place doi label

@@ -34,6 +34,7 @@ pub record Capture : Type 0 where
   pub frames : List Frame
   pub fault : Option CaptureFault
 
+-- a capture by what its header says: the records stand behind its 24 octets
 abbrev pub capture_by : List ℕ → Result CaptureHeader CaptureFault → Result Capture CaptureFault
 capture_by file (Err fault) = Err fault
 capture_by file (Ok header) =

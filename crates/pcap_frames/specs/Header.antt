@@ -13,6 +13,7 @@ nanos_in order file =
     let magic = ordered_number order 4 file in
     if magic == 0xA1B2C3D4 then Some false else (if magic == 0xA1B23C4D then Some true else None)
 
+-- the order of octets in which the magic number is one that is known, the lowest first before the highest first
 abbrev pub magic_by : Option Bool → Option Bool → Option (OctetOrder × Bool)
 magic_by (Some nanos) big = Some (Little, nanos)
 magic_by None (Some nanos) = Some (Big, nanos)

@@ -18,6 +18,7 @@ ethernet_part octets =
     else (if has_vlan_tag octets then typed_part (drop 16 octets)
     else typed_part (drop 12 octets))
 
+-- the packet of IP in a frame of this link type: behind the Ethernet header, or all of it (raw IP, IPv4, IPv6)
 unfoldable pub ip_part_of : ℕ → List ℕ → Option (List ℕ)
 ip_part_of link octets =
     if link == 1 then ethernet_part octets

@@ -4,6 +4,7 @@ use Rattle.byteorder.specs.Endian.{little_bytes}
 use Rattle.pcap_frames.specs.declared.record.FrameHead.{FrameHead}
 use Rattle.pcap_frames.specs.Record.{Frame}
 
+-- the header of a capture
 unfoldable pub capture_head_octets : Bool → List ℕ
 capture_head_octets nanos =
     little_bytes 4 (if nanos then 0xA1B23C4D else 0xA1B2C3D4) ++ (little_bytes 2 2 ++ (little_bytes 2 4
@@ -21,6 +22,7 @@ pub record IsWritableFrame (frame : Frame) : Type 0 where
   pub fraction : frame.head.fraction < 2 ^ 32
   pub octets : length frame.octets ≤ 262144
 
+-- records one after another
 abbrev pub frames_octets : List Frame → List ℕ
 frames_octets [] = []
 frames_octets (frame ∷ frames) = frame_octets frame.head frame.octets ++ frames_octets frames

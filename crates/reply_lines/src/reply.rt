@@ -7,7 +7,7 @@ ghost use Rattle.reply_lines.specs.inside.Extends.{Extends};
 
 use crate::whole::all_or_nothing;
 use address_text::Name;
-use decimal_text::write_decimal;
+use octet_grammar::write_decimal;
 use mls_label::OutOfMemory;
 use node_tables::{ListText, Reply};
 

@@ -4,7 +4,7 @@ ghost use Rattle.std.specs.Prelude.{◌≡◌, ◌+◌, ◌++◌, OnOk, OnErr};
 ghost use Rattle.report_lines.specs.Agreement.{proto_name, level_or_category, number_of_difference, found_text, hops_line, agreement_line, no_flow_line, bad_versions_line};
 ghost use Rattle.report_lines.specs.inside.Extends.{Extends};
 
-use decimal_text::write_decimal;
+use octet_grammar::write_decimal;
 use mls_label::{OutOfMemory, Proto};
 use node_agreement::Disagree;
 use reply_lines::all_or_nothing;

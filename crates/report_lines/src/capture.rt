@@ -5,7 +5,7 @@ ghost use Rattle.report_lines.specs.Capture.{kind_name, capture_line};
 ghost use Rattle.report_lines.specs.inside.Extends.{Extends};
 
 use crate::denial::append_octet;
-use decimal_text::write_decimal;
+use octet_grammar::write_decimal;
 use mls_label::OutOfMemory;
 use pcap_frames::{CaptureFault, CaptureKind};
 use reply_lines::all_or_nothing;

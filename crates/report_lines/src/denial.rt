@@ -4,7 +4,7 @@ ghost use Rattle.std.specs.Prelude.{◌≡◌, ◌++◌, OnOk, OnErr};
 ghost use Rattle.report_lines.specs.Denial.{octet_detail, detail_of, denial_text, delivered_text, verdict_line, with_label};
 ghost use Rattle.report_lines.specs.inside.Extends.{Extends};
 
-use decimal_text::write_decimal;
+use octet_grammar::write_decimal;
 use mls_label::{Label, OutOfMemory};
 use mls_range::write_label;
 use packet_label::{Denial, cause_name};

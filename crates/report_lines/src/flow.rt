@@ -8,7 +8,7 @@ ghost use Rattle.report_lines.specs.inside.Extends.{Extends};
 
 use crate::denial::{append_delivered, append_denied};
 use address_text::{Name, write_address};
-use decimal_text::write_decimal;
+use octet_grammar::write_decimal;
 use flow_lines::{FileName, Hop};
 use mls_label::OutOfMemory;
 use packet_label::Carrier;

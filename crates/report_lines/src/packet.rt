@@ -12,7 +12,7 @@ ghost use Rattle.report_lines.specs.inside.Extends.{Extends};
 
 use crate::denial::append_octet;
 use cipso_tags::type_octet;
-use decimal_text::write_decimal;
+use octet_grammar::write_decimal;
 use mls_label::{Label, OutOfMemory, Tag};
 use mls_range::write_label;
 use packet_label::{CarryFault, Mark, carried_into};

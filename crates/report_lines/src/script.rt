@@ -5,7 +5,7 @@ ghost use Rattle.report_lines.specs.Script.{script_kind_name, script_line, limit
 ghost use Rattle.report_lines.specs.inside.Extends.{Extends};
 
 use crate::denial::append_octet;
-use decimal_text::write_decimal;
+use octet_grammar::write_decimal;
 use label_commands::{LimitName, ScriptFault, ScriptKind, ScriptStop};
 use mls_label::OutOfMemory;
 use reply_lines::all_or_nothing;

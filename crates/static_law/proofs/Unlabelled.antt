@@ -5,7 +5,7 @@ use Rattle.std.proofs.lemmas.Bool.{and_parts, false≢true}
 use Rattle.std.proofs.lemmas.Map.Entries.{All-lookup}
 use Rattle.std.proofs.lemmas.List.Elements.{All-nil, All-filter}
 use Rattle.mls_label.specs.declared.label.Label.{Label}
-use Rattle.mls_label.specs.Label.{Dominates}
+use Rattle.mls_label.specs.Label.{Dominates, IsLabel}
 use Rattle.mls_range.specs.Range.{LabelRange}
 use Rattle.mls_range.specs.Computed.{dominates}
 use Rattle.mls_range.proofs.Law.{dominance_computes}
@@ -19,7 +19,7 @@ use Rattle.packet_label.specs.declared.denial.Carrier.TheVariants as carried
 use Rattle.packet_label.specs.declared.denial.Denial.{Denial}
 use Rattle.packet_label.specs.declared.denial.Denial.TheVariants.{Unlabelled, NoStatic}
 use Rattle.packet_label.specs.declared.packet.Wire.{Wire}
-use Rattle.packet_label.specs.Written.{IsLabel, moved_to, settled_packet}
+use Rattle.packet_label.specs.Written.{moved_to, settled_packet}
 use Rattle.flow_lines.specs.declared.hop.Hop.{Hop}
 use Rattle.flow_lines.specs.declared.hop.Hop.TheVariants.{Send, Forward, Receive}
 use Rattle.flow_lines.specs.Hop.{is_send}

@@ -3,6 +3,7 @@ use Rattle.std.specs.Prelude.{◌≡◌, ℕ, ◌<◌, List, Option, Some, None,
 use Rattle.mls_label.specs.declared.label.Label.{Label}
 use Rattle.mls_label.specs.declared.label.Proto.{Proto}
 use Rattle.mls_label.specs.declared.label.Proto.TheVariants as Of
+use Rattle.mls_label.specs.Label.{IsLabel}
 use Rattle.doi_table.specs.declared.plan.DoiPlan.{DoiPlan}
 use Rattle.doi_table.specs.Table.{Entries}
 use Rattle.domain_map.specs.declared.protocol.Protocol.{Protocol}
@@ -11,7 +12,6 @@ use Rattle.ip_headers.specs.declared.version.Version.TheVariants.{V4, V6}
 use Rattle.packet_label.specs.declared.packet.Wire.{Wire}
 use Rattle.packet_label.specs.declared.denial.Denial.{Denial}
 use Rattle.packet_label.specs.declared.denial.Denial.TheVariants.{Inexpressible}
-use Rattle.packet_label.specs.Written.{IsLabel}
 use Rattle.label_send.specs.Outgoing.{IsExpressed, cipso_said, calipso_said, outgoing}
 
 -- the octets of an option of the protocol with what goes out, or none under `unlbl`

@@ -4,7 +4,7 @@ ghost use Rattle.std.specs.Prelude.{◌<◌};
 
 use super::flows::{CROSSING, ONE_LABEL_REPLIES, THREE, call, folder, octets_of, with_line};
 use call_report::FlowSeen;
-use decimal_text::write_decimal;
+use octet_grammar::write_decimal;
 use label_flow::{Gate, OpenGate};
 use std::alloc::Global;
 use std::process::Abort;

@@ -1,6 +1,6 @@
 use Rattle.std.proofs.Common.{◌≡◌, ◌≤◌, ◌++◌, length, drop}
 use Rattle.std.specs.Fmt.{decimal}
-use Rattle.decimal_text.proofs.writing.fill_from_end.Given as goal
+use Rattle.octet_grammar.proofs.decimal.fill_from_end.Given as goal
 
 -- the digits that are written stand behind those of the rest, and there is room for these
 abbrev pub invariant-loop-rest : goal.invariant-loop-rest

@@ -1,6 +1,6 @@
 use Rattle.std.proofs.Common.{◌≡◌, ◌<◌, ◌^◌, take}
 use Rattle.std.specs.Str.Parse.{AllDigits, digits_value}
-use Rattle.decimal_text.proofs.reading.value_of_digits.Given as goal
+use Rattle.octet_grammar.proofs.decimal.value_of_digits.Given as goal
 
 -- the octets so far are digits, and this is their value
 abbrev pub invariant-loop-octet : goal.invariant-loop-octet

@@ -1,5 +1,5 @@
-use Rattle.decimal_text.proofs.Digits.{unspelled, read_as_spelled, refused_as_unspelled}
-use Rattle.decimal_text.proofs.reading.read_decimal.Goals as goal
+use Rattle.octet_grammar.proofs.Digits.{unspelled, read_as_spelled, refused_as_unspelled}
+use Rattle.octet_grammar.proofs.decimal.read_decimal.Goals as goal
 
 pub returns-then-has_spare_zero-clause-none : goal.returns-then-has_spare_zero-clause-none
 returns-then-has_spare_zero-clause-none c n small = unspelled c.args.text.now n small c.if-has_spare_zero.ensures

@@ -1,8 +1,8 @@
 use Rattle.std.proofs.Common.{◌∙◌, sym, arith}
 use Rattle.std.proofs.lemmas.Str.Parse.{digit_at}
 use Rattle.std.proofs.lemmas.List.{take_all}
-use Rattle.decimal_text.proofs.Digits.{read_more, value_times_ten}
-use Rattle.decimal_text.proofs.reading.value_of_digits.Goals as goal
+use Rattle.octet_grammar.proofs.Digits.{read_more, value_times_ten}
+use Rattle.octet_grammar.proofs.decimal.value_of_digits.Goals as goal
 
 pub returns-then-not-is_ascii_digit-clause-none : goal.returns-then-not-is_ascii_digit-clause-none
 returns-then-not-is_ascii_digit-clause-none c digits =

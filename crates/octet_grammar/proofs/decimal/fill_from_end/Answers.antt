@@ -2,8 +2,8 @@ use Rattle.std.proofs.Common.{◌++◌, ap, ◌∙◌, arith}
 use Rattle.std.specs.Fmt.{decimal}
 use Rattle.std.proofs.lemmas.List.{append-nil, drop_all}
 use Rattle.std.proofs.lemmas.Fmt.{decimal_nonempty}
-use Rattle.decimal_text.proofs.Digits.{room_for_decimal, step_room, step_digits, last_digits}
-use Rattle.decimal_text.proofs.writing.fill_from_end.Goals as goal
+use Rattle.octet_grammar.proofs.Digits.{room_for_decimal, step_room, step_digits, last_digits}
+use Rattle.octet_grammar.proofs.decimal.fill_from_end.Goals as goal
 
 pub loop-rest-init : goal.loop-rest-init
 loop-rest-init c = record {
