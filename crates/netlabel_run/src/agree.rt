@@ -57,7 +57,7 @@ fn answer<S: Sink>(
     out: &mut S,
 ) -> Status
     requires { (own : List ℕ) × IsSoundScript own script.now }
-    ensures { IsAnswered script.now number named.now result (S.state out.old) (S.state out.new) }
+    ensures { IsAnswered script.now number named.now (S.state out.old) (S.state out.new) result }
 {
     let Some(flow) = flow_numbered(script, number) else {
         return Report::new(alloc).end(out, no_flow(), Status::WrongScript);
@@ -159,12 +159,11 @@ fn append_found(found: &[Option<Disagree>], lines: &mut Vec<u8>) -> Result<(), O
 
 /// Appends a line for each two hops.
 fn append_hops(found: &[Option<Disagree>], lines: &mut Vec<u8>) -> Result<(), OutOfMemory>
-    requires { length found.now < 2 ^ 32 }
     ensures { OnOk result (lines.new.items ≡ lines.old.items ++ hops_text 1 found.now) }
 {
     let mut place = 0;
     while place < found.len() {
-        write_hops(place as u32 + 1, found[place], lines)?;
+        write_hops(place + 1, found[place], lines)?;
         place += 1;
     }
     Ok(())

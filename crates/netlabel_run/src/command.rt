@@ -2,8 +2,8 @@
 
 use crate::versions::NamedVersions;
 use command_values::Doi;
-use octet_grammar::read_decimal;
 use mls_label::Label;
+use octet_grammar::read_decimal;
 use std::marker::Model;
 
 /// A command with what its words name.

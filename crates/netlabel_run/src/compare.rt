@@ -48,12 +48,7 @@ pub(crate) fn compare_hops(
 }
 
 /// Carries out the steps of a script between two versions of the tables.
-fn carry_on(
-    script: &Script,
-    from: u32,
-    upto: u32,
-    network: &mut Network,
-) -> Result<(), OutOfMemory>
+fn carry_on(script: &Script, from: u32, upto: u32, network: &mut Network) -> Result<(), OutOfMemory>
     requires nodes { All
         (λ (step : StepValue). step.node < length script.now.nodes) script.now.steps }
     requires order { (from ≤ upto) × (upto ≤ length script.now.steps) }

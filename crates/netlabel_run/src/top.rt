@@ -78,11 +78,13 @@ fn carry_out<D: Depot + Send, S: Sink + Send, G: Gate + Sync, R: Threads + Wait 
         Some(Command::Show { file }) => {
             Outcome::without_flows(alloc, show(alloc, file.as_str(), depot, out))
         }
-        Some(Command::Agree {
-            file,
-            flow,
-            versions,
-        }) => Outcome::without_flows(
+        Some(
+            Command::Agree {
+                file,
+                flow,
+                versions,
+            },
+        ) => Outcome::without_flows(
             alloc,
             agree(alloc, file.as_str(), flow, &versions, depot, out),
         ),

@@ -4,8 +4,8 @@ ghost use Rattle.std.specs.Prelude.{◌≡◌, ◌<◌, ◌==◌, [], ◌∷◌,
 ghost use Rattle.std.specs.List.{slice_split};
 ghost use Rattle.netlabel_run.specs.Words.{number_named, versions_named};
 
-use octet_grammar::read_decimal;
 use mls_label::OutOfMemory;
+use octet_grammar::read_decimal;
 use std::alloc::Global;
 use std::marker::Model;
 

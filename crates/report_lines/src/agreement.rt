@@ -1,21 +1,22 @@
 //! Lines of agreement: whether two neighbouring hops of a flow agree, whether all do, and why none are compared.
 
-ghost use Rattle.std.specs.Prelude.{◌≡◌, ◌+◌, ◌++◌, OnOk, OnErr};
+ghost use Rattle.std.specs.Prelude.{◌≡◌, ◌+◌, ◌<◌, ◌^◌, ◌++◌, OnOk, OnErr};
 ghost use Rattle.report_lines.specs.Agreement.{proto_name, level_or_category, number_of_difference, found_text, hops_line, agreement_line, no_flow_line, bad_versions_line};
 ghost use Rattle.report_lines.specs.inside.Extends.{Extends};
 
-use octet_grammar::write_decimal;
 use mls_label::{OutOfMemory, Proto};
 use node_agreement::Disagree;
+use octet_grammar::write_decimal;
 use reply_lines::all_or_nothing;
 
 /// Appends the line that tells what the hop of this number, counted from 1, and the next one come to: that they agree, or their first
 /// difference. After an error `line` is as it was.
 pub fn write_hops(
-    left: u32,
+    left: usize,
     found: Option<Disagree>,
     line: &mut Vec<u8>,
 ) -> Result<(), OutOfMemory>
+    requires { left + 1 < 2 ^ 64 }
     ensures ok { OnOk result (line.new.items ≡ line.old.items ++ hops_line left found) }
     ensures err { OnErr result (line.new.items ≡ line.old.items) }
 {
@@ -26,14 +27,15 @@ pub fn write_hops(
 
 /// Appends it, or a part of it where memory runs out.
 #[tactic(auto, unfolding(crate::specs::Agreement::hops_line))]
-fn append_hops(left: u32, found: Option<Disagree>, line: &mut Vec<u8>) -> Result<(), OutOfMemory>
+fn append_hops(left: usize, found: Option<Disagree>, line: &mut Vec<u8>) -> Result<(), OutOfMemory>
+    requires { left + 1 < 2 ^ 64 }
     ensures ok { OnOk result (line.new.items ≡ line.old.items ++ hops_line left found) }
     ensures err { OnErr result (Extends line.old.items line.new.items) }
 {
     line.extend_from_slice(b"hop ")?;
-    write_decimal(u64::from(left), line)?;
+    write_decimal(left as u64, line)?;
     line.extend_from_slice(b" ")?;
-    write_decimal(u64::from(left) + 1, line)?;
+    write_decimal(left as u64 + 1, line)?;
     line.extend_from_slice(b" ")?;
     append_found(found, line)?;
     line.push(b'\n')?;

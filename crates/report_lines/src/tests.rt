@@ -194,5 +194,8 @@ fn prints_agreement(rt: HostRuntime) {
     assert_eq!(rt; agree_or_disagree(true), b"agree\n".as_slice());
     assert_eq!(rt; agree_or_disagree(false), b"disagree\n".as_slice());
     assert_eq!(rt; no_flow(), b"script line 0 octet 0 NoFlow\n".as_slice());
-    assert_eq!(rt; bad_versions(), b"script line 0 octet 0 BadVersions\n".as_slice());
+    assert_eq!(rt;
+        bad_versions(),
+        b"script line 0 octet 0 BadVersions\n".as_slice()
+    );
 }

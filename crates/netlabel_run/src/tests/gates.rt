@@ -4,8 +4,8 @@ ghost use Rattle.std.specs.Prelude.{◌<◌};
 
 use super::flows::{CROSSING, ONE_LABEL_REPLIES, THREE, call, folder, octets_of, with_line};
 use call_report::FlowSeen;
-use octet_grammar::write_decimal;
 use label_flow::{Gate, OpenGate};
+use octet_grammar::write_decimal;
 use std::alloc::Global;
 use std::process::Abort;
 use std::str::from_utf8;
@@ -95,7 +95,7 @@ impl Gate for Held {
 }
 
 /// The worked script of four nodes, with one category, its first flow alone, and those commands behind it.
-fn exchanging(rt: &impl Abort, alloc: Global) -> String {
+pub fn exchanging(rt: &impl Abort, alloc: Global) -> String {
     let (nodes, flows) = CROSSING.split_once("flow ").expect(rt, "a flow");
     let flow = flows.lines().next().expect(rt, "a flow");
     let (front, back) = flow.split_once("s2:c1,c3").expect(rt, "a label");
