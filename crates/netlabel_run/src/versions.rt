@@ -53,7 +53,11 @@ impl<'a> NamedVersions<'a> {
 pub(crate) fn read_number(word: &str) -> Option<u32>
     ensures { result ≡ number_named word.now }
 {
-    u32::try_from(read_decimal(word.as_bytes())?).ok()
+    let number = read_decimal(word.as_bytes())?;
+    if number > u64::from(u32::MAX) {
+        return None;
+    }
+    Some(number as u32)
 }
 
 /// Whether a word lists numbers below 2^32 with commas between.
