@@ -3,7 +3,7 @@
 USES are the lines that the functions of BOARDS need beside the program's own (PacketIn of label_flow), PROOFS the files of their proofs.
 """
 
-CRATES = "mls_label address_text line_forms command_forms script_lines flow_lines node_tables shared_tables packet_walk label_flow"
+CRATES = "mls_label address_text script_lines flow_lines node_tables shared_tables packet_walk label_flow"
 
 USES = """ghost use Rattle.std.specs.Prelude.{◌≡◌, ◌<◌, ◌≤◌, ◌^◌, length, true, All, IfSome};
 ghost use Rattle.std.specs.Arc.{arc_value};
@@ -11,11 +11,9 @@ ghost use Rattle.flow_lines.specs.Hop.{node_of};
 ghost use Rattle.shared_tables.specs.Plan.{network_after};
 
 use address_text::read_name;
-use command_forms::{Step, command_of};
 use flow_lines::{FlowLine, Flows, NodeNames, read_flow};
-use line_forms::read_said;
 use node_tables::Network;
-use script_lines::words_into;
+use script_lines::{Step, command_of, read_said, words_into};
 use shared_tables::{Board, Plan, Publisher, Viewer};
 use std::alloc::Global;
 use std::sync::{Arc, Wait};
@@ -156,7 +154,7 @@ fn step_to<R: Wait>(rt: &R, publisher: &mut Publisher, version: u32)
 
 PROOFS = {
     "steps_of/Invariants.antt": """use Rattle.std.proofs.Common.{◌<◌, All}
-use Rattle.command_forms.specs.declared.command.Step.{Step}
+use Rattle.script_lines.specs.declared.command.Step.{Step}
 use Rattle.bench_program.proofs.steps_of.Given as goal
 
 abbrev pub invariant-loop-line : goal.invariant-loop-line

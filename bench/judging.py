@@ -62,14 +62,12 @@ HEAD = """//! Judges the packets of a file by the tables of a node again and aga
 ghost use Rattle.std.specs.Prelude.{◌<◌};
 
 use address_text::{Name, read_name};
-use command_forms::{Step, command_of};
-use line_forms::read_said;
 USES
 use label_receive::Room;
 use mls_label::Label;
 use mls_range::read_label;
 use node_tables::{Network, Tables};
-use script_lines::words_into;
+use script_lines::{Step, command_of, read_said, words_into};
 use std::alloc::Global;
 use std::str::from_utf8;
 use std::time::Instant;
@@ -254,7 +252,7 @@ fn send_shown(rt: &HostRuntime, tables: &Tables, names: &Names, octets: &[u8]) -
 """),
 }
 
-CRATES = "mls_label mls_range address_text line_forms command_forms script_lines node_tables label_receive label_send"
+CRATES = "mls_label mls_range address_text script_lines node_tables label_receive label_send"
 
 
 def source(rules):

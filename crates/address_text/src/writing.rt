@@ -11,8 +11,8 @@ ghost use Rattle.address_text.specs.inside.Extends.{Extends};
 
 use crate::address::Address;
 use crate::prefix::Prefix;
-use octet_grammar::write_decimal;
 use mls_label::OutOfMemory;
+use octet_grammar::write_decimal;
 use std::net::Ipv6Addr;
 
 /// Appends the one written form of an address: dotted decimals, or groups as RFC 5952 section 4 writes them. After an error

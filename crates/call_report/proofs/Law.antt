@@ -1,5 +1,5 @@
 -- The statements of the laws, as terms.
-use Rattle.std.proofs.Common.{◌≡◌, ◌<◌, ℕ, ◌+◌, List, [], ◌++◌, length, take, Result, Ok, Err, refl, sym, ap, subst, ◌∙◌, arith, append_assoc, length-append, inl, inr}
+use Rattle.std.proofs.Common.{◌≡◌, ◌<◌, ℕ, ◌+◌, suc, List, [], ◌++◌, length, take, slice_get, Some, Result, Ok, Err, refl, sym, ap, subst, ◌∙◌, arith, append_assoc, length-append, inl, inr}
 use Rattle.std.specs.Prelude.{IsTrue, OnOk, OnErr}
 use Rattle.std.proofs.Math.Seq.{take-append-add}
 use Rattle.std.proofs.lemmas.List.{append-nil, take-append-le, take_all}
@@ -7,10 +7,14 @@ use Rattle.net_io.specs.declared.fault.IoFault.{IoFault}
 use Rattle.net_io.specs.declared.fault.IoFault.TheVariants.{Failed, OutOfMemory as NoMemory}
 use Rattle.net_io.specs.Faults.{Rose}
 use Rattle.net_io.specs.Sink.{SinkState, WritesPrefix, WritesLess}
+use Rattle.script_lines.specs.declared.command.Step.{Step}
+use Rattle.node_tables.specs.declared.reply.Reply.{Reply}
+use Rattle.node_tables.specs.Steps.{step_reply, tables_after}
 use Rattle.call_report.specs.declared.status.Status.{Status}
 use Rattle.call_report.specs.declared.status.Status.TheVariants.{OutOfMemory}
-use Rattle.call_report.specs.Numbers.{write_status}
+use Rattle.call_report.specs.Status.{write_status}
 use Rattle.call_report.specs.Printing.{Goes, Breaks, HandsOn, IsUnderWay, Printed, EndsInLine}
+use Rattle.call_report.specs.Lines.Reply.{reply_text, reply_line_at, replies_text}
 
 -- ---- beginnings
 
@@ -231,3 +235,17 @@ a_failing_text_ends_a_report text more still last NoMemory due a b hands = recor
 
 pub no_memory_for_a_report : (body last : List ℕ) (due : Status) (a : SinkState) → Printed body last due OutOfMemory a a
 no_memory_for_a_report body last due a = record { told = refl; how = inr (inl (refl, refl, λ told. record { count = 0; within = omega arith; written = sym (append-nil a.written) })) }
+
+-- ---- replies to steps
+
+pub no_steps_have_no_replies : (names : List (List ℕ)) (steps : List Step) (k : ℕ) → replies_text names steps k 0 ≡ []
+unfolding replies_text
+no_steps_have_no_replies names steps k = refl
+
+pub replies_come_one_by_one : (names : List (List ℕ)) (steps : List Step) (k count : ℕ) → replies_text names steps k (count + 1) ≡ reply_line_at names steps k ++ replies_text names steps (k + 1) count
+unfolding replies_text
+replies_come_one_by_one names steps k count = let more : count + 1 ≡ suc count = omega arith in ap (replies_text names steps k) more
+
+pub a_step_is_answered_at_its_node : (names : List (List ℕ)) (steps : List Step) (k : ℕ) (step : Step) (name : List ℕ) (reply : Reply) → slice_get steps k ≡ Some step → slice_get names step.node ≡ Some name
+    → step_reply (tables_after (length names) steps k) step ≡ Some reply → reply_line_at names steps k ≡ reply_text (k + 1) name reply
+a_step_is_answered_at_its_node names steps k step name reply at named answered = rw (at, named, answered) refl

@@ -1,3 +1,6 @@
 mod Flushed
 pub mod Law
+pub mod Listing
+pub mod Flows
+pub mod Shown
 pub mod Pieces

@@ -4,8 +4,8 @@ use Rattle.std.specs.Option.{option_map}
 use Rattle.pcap_frames.specs.declared.fault.CaptureFault.{CaptureFault}
 use Rattle.pcap_frames.specs.Record.{Frame}
 use Rattle.pcap_frames.specs.Capture.{Capture}
-use Rattle.report_lines.specs.Fixed.{packets_limit_line}
-use Rattle.report_lines.specs.Capture.{capture_line}
+use Rattle.call_report.specs.Lines.Fixed.{packets_limit_line}
+use Rattle.call_report.specs.Lines.Capture.{capture_line}
 
 -- the status, and the line that tells it
 pub record Event : Type 0 where
@@ -22,5 +22,6 @@ records_event number most frames fault =
     if nat_lt most (length frames) then Some (record { status = 7; line = packets_limit_line })
     else option_map (λ f. record { status = 5; line = capture_line number f }) fault
 
+-- the first event of a capture of which so many packets may be read
 abbrev pub capture_event : ℕ → ℕ → Capture → Option Event
 capture_event number most capture = records_event number most capture.frames capture.fault

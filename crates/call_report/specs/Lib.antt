@@ -1,9 +1,10 @@
+pub mod Lines
 pub mod Report
 pub mod Event
 pub mod Stages
 pub mod Output
 pub mod Outside
-pub mod Numbers
+pub mod Status
 pub mod Printing
 pub mod Says
 pub mod CallEnds

@@ -15,6 +15,7 @@ pub record Report : Type 0 where
   pub last : List ℕ
   pub pauses : List (List ℕ)
 
+-- the whole report
 abbrev pub report_text : Report → List ℕ
 report_text report = report.body ++ report.last
 

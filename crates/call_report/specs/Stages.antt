@@ -6,18 +6,22 @@ pub record Stage : Type 0 where
   pub input : Option (List ℕ)
   pub output : Option (List ℕ)
 
+-- a stage that reads this file and makes none
 abbrev pub reading_stage : List ℕ → Stage
 reading_stage file = record { input = Some file; output = None }
 
+-- the file that the command line names
 abbrev pub named_input : List Stage → Option (List ℕ)
 named_input [] = None
 named_input (stage ∷ stages) = stage.input
 
+-- the file that the last stage reads
 abbrev pub input_in_hand : List Stage → Option (List ℕ)
 input_in_hand [] = None
 input_in_hand (stage ∷ []) = stage.input
 input_in_hand (stage ∷ next ∷ stages) = input_in_hand (next ∷ stages)
 
+-- the file that the last stage makes
 abbrev pub output_in_hand : List Stage → Option (List ℕ)
 output_in_hand [] = None
 output_in_hand (stage ∷ []) = stage.output

@@ -1,1 +1,3 @@
+pub mod Extends
+pub mod Versions
 pub mod Seen

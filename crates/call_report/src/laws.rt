@@ -1,15 +1,19 @@
-//! Laws of reports that are handed on in parts. Each is a function with nothing to do, whose clause is the law; the same statement
-//! stands as a term in `proofs/Law.antt`.
+//! Laws of reports that are handed on in parts, and of the replies to steps. Each is a function with nothing to do, whose clause is the
+//! law; the same statement stands as a term in `proofs/Law.antt`.
 
-ghost use Rattle.std.specs.Prelude.{◌≡◌, ◌<◌, ℕ, List, [], ◌++◌, length, Result, Ok, Err};
+ghost use Rattle.std.specs.Prelude.{◌≡◌, ◌<◌, ℕ, ◌+◌, List, [], ◌++◌, length, slice_get, Some, Result, Ok, Err};
 ghost use Rattle.net_io.specs.declared.fault.IoFault.{IoFault};
 ghost use Rattle.net_io.specs.declared.fault.IoFault.TheVariants.{OutOfMemory as NoMemory};
 ghost use Rattle.net_io.specs.Faults.{Rose};
 ghost use Rattle.net_io.specs.Sink.{SinkState, WritesPrefix, WritesLess};
+ghost use Rattle.script_lines.specs.declared.command.Step.{Step};
+ghost use Rattle.node_tables.specs.declared.reply.Reply.{Reply};
+ghost use Rattle.node_tables.specs.Steps.{step_reply, tables_after};
 ghost use Rattle.call_report.specs.declared.status.Status.{Status as Ending};
 ghost use Rattle.call_report.specs.declared.status.Status.TheVariants.{OutOfMemory};
-ghost use Rattle.call_report.specs.Numbers.{write_status};
+ghost use Rattle.call_report.specs.Status.{write_status};
 ghost use Rattle.call_report.specs.Printing.{Breaks, HandsOn, IsUnderWay, Printed};
+ghost use Rattle.call_report.specs.Lines.Reply.{reply_text, reply_line_at, replies_text};
 
 /// Two texts that were handed on one behind the other were handed on as one.
 pub fn texts_join<T, U>()
@@ -123,4 +127,26 @@ pub fn a_part_of_a_text_is_a_front()
 pub fn less_of_a_text_is_less_of_more()
     ensures { (text more old new : List ℕ)
         → WritesLess text old new → WritesLess (text ++ more) old new }
+{}
+
+/// The replies to no steps are no text.
+pub fn no_steps_have_no_replies()
+    ensures { (names : List (List ℕ)) (steps : List Step) (k : ℕ)
+        → replies_text names steps k 0 ≡ [] }
+{}
+
+/// Replies are printed one by one, in the order of their steps.
+pub fn replies_come_one_by_one()
+    ensures { (names : List (List ℕ)) (steps : List Step) (k count : ℕ)
+        → replies_text names steps k (count + 1) ≡ reply_line_at names steps k
+        ++ replies_text names steps (k + 1) count }
+{}
+
+/// A step is answered under its number and the name of its node, by the tables that the steps before it left.
+pub fn a_step_is_answered_at_its_node()
+    ensures { (names : List (List ℕ)) (steps : List Step) (k : ℕ) (step : Step) (name : List ℕ)
+        (reply : Reply)
+        → slice_get steps k ≡ Some step → slice_get names step.node ≡ Some name
+        → step_reply (tables_after (length names) steps k) step ≡ Some reply
+        → reply_line_at names steps k ≡ reply_text (k + 1) name reply }
 {}

@@ -1,7 +1,7 @@
 //! The status that a call ends with.
 
 ghost use Rattle.std.specs.Prelude.{◌≡◌};
-ghost use Rattle.call_report.specs.Numbers.{status_number, write_status};
+ghost use Rattle.call_report.specs.Status.{status_number, write_status};
 
 use net_io::IoFault;
 

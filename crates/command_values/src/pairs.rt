@@ -7,8 +7,8 @@ ghost use Rattle.command_values.specs.inside.Extends.{Extends};
 use crate::list::{CommaList, ListEntry};
 use crate::number::read_number;
 use crate::parts::around;
-use octet_grammar::write_decimal;
 use mls_label::OutOfMemory;
+use octet_grammar::write_decimal;
 
 /// Pairs of levels, the local number first.
 pub type LevelPairs = CommaList<(u8, u8)>;

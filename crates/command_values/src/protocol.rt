@@ -7,9 +7,9 @@ ghost use Rattle.command_values.specs.inside.Extends.{Extends};
 
 use crate::doi::{Doi, read_doi};
 use crate::parts::{around, is_word};
-use octet_grammar::write_decimal;
 use domain_map::Protocol;
 use mls_label::OutOfMemory;
+use octet_grammar::write_decimal;
 use std::marker::Model;
 
 /// A protocol of a map whose DOI, where it has one, isn't 0. Contracts see the protocol.

@@ -6,8 +6,8 @@ ghost use Rattle.command_values.specs.Tags.{tag_of_text, tag_number_text, tags_o
 
 use crate::list::{CommaList, ListEntry};
 use crate::parts::is_word;
-use octet_grammar::write_decimal;
 use mls_label::{OutOfMemory, Tag};
+use octet_grammar::write_decimal;
 use std::alloc::Global;
 use std::marker::Model;
 

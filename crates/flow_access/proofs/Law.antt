@@ -10,7 +10,7 @@ use Rattle.packet_label.specs.declared.fault.CarryFault.{CarryFault}
 use Rattle.packet_label.specs.declared.packet.Wire.{Wire}
 use Rattle.packet_label.specs.Written.{IsNext}
 use Rattle.domain_map.specs.declared.protocol.Protocol.{Protocol}
-use Rattle.line_forms.specs.Form.{Edition}
+use Rattle.script_lines.specs.Form.{Edition}
 use Rattle.flow_lines.specs.declared.hop.Hop.{Hop}
 use Rattle.flow_lines.specs.declared.flow.FlowLine.{FlowLine}
 use Rattle.flow_lines.specs.Hop.{is_send, node_of}

@@ -3,7 +3,7 @@ use Rattle.std.proofs.Common.{◌≡◌, ℕ, List, [], length, get_or, Option, 
 use Rattle.std.specs.Prelude.{All, unwrap_or}
 use Rattle.std.proofs.lemmas.List.Elements.{All-nil, All-head}
 use Rattle.std.proofs.lemmas.Option.{slice_get_within, get_or_from_slice_get}
-use Rattle.line_forms.specs.Form.{Edition}
+use Rattle.script_lines.specs.Form.{Edition}
 use Rattle.flow_lines.specs.declared.hop.Hop.{Hop}
 use Rattle.flow_lines.specs.declared.flow.FlowLine.{FlowLine}
 use Rattle.flow_lines.specs.Hop.{node_of, IsRoute}

@@ -9,7 +9,7 @@ ghost use Rattle.packet_label.specs.declared.fault.CarryFault.{CarryFault};
 ghost use Rattle.packet_label.specs.declared.packet.Wire.{Wire};
 ghost use Rattle.packet_label.specs.Written.{IsNext};
 ghost use Rattle.domain_map.specs.declared.protocol.Protocol.{Protocol};
-ghost use Rattle.line_forms.specs.Form.{Edition};
+ghost use Rattle.script_lines.specs.Form.{Edition};
 ghost use Rattle.flow_lines.specs.declared.hop.Hop.{Hop};
 ghost use Rattle.flow_lines.specs.declared.flow.FlowLine.{FlowLine};
 ghost use Rattle.flow_lines.specs.Hop.{is_send, node_of};

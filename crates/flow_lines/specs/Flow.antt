@@ -13,12 +13,15 @@ use Rattle.flow_lines.specs.declared.flow.FlowLine.{FlowLine}
 use Rattle.flow_lines.specs.FileName.{is_file_name}
 use Rattle.flow_lines.specs.HopText.{read_hop}
 
+-- the text is one of these
 abbrev pub is_among : List (List ℕ) → List ℕ → Bool
 is_among texts text = list_any (bytes_eq text) texts
 
+-- the captures that flows read
 abbrev pub inputs_of : List FlowLine → List (List ℕ)
 inputs_of flows = map (λ flow. flow.input) flows
 
+-- the captures that flows make
 abbrev pub outputs_of : List FlowLine → List (List ℕ)
 outputs_of flows = filter_map (λ flow. flow.output) flows
 
@@ -43,6 +46,7 @@ read_output own flows input word =
 abbrev pub next_hop : List (List ℕ) → ℕ → Bool → LineWord → Result Hop LineStop
 next_hop nodes count last word = if nat_eq count 16 then Err (Stop.Limit Limit.Hops) else read_hop nodes (nat_eq count 0) last word
 
+-- the hops of a flow, behind so many of them
 abbrev pub read_hops : List (List ℕ) → ℕ → List LineWord → Result (List Hop) LineStop
 read_hops nodes count [] = Ok []
 read_hops nodes count (word ∷ words) =

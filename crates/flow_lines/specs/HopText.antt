@@ -20,6 +20,7 @@ behind_prefix prefix text = if bytes_eq (take (length prefix) text) prefix then 
 abbrev pub comma_parts : List ℕ → List (List ℕ)
 comma_parts text = slice_split (λ octet. octet == comma) text
 
+-- each of these is a name
 abbrev pub are_names : List (List ℕ) → Bool
 are_names texts = list_all is_name texts
 

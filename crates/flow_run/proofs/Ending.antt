@@ -23,8 +23,8 @@ use Rattle.label_flow.specs.Pair.{PairState}
 use Rattle.label_flow.specs.Feed.{AreBegun, AreWhole}
 use Rattle.label_flow.specs.Walked.{AreWalked}
 use Rattle.label_flow.specs.Schedule.{AreLawful, versions_in}
-use Rattle.report_lines.specs.Capture.{capture_line}
-use Rattle.report_lines.specs.Flow.{flow_line, flow_end_line}
+use Rattle.call_report.specs.Lines.Capture.{capture_line}
+use Rattle.call_report.specs.Lines.Flow.{flow_line, flow_end_line}
 use Rattle.call_report.specs.Event.{capture_event}
 use Rattle.call_report.specs.Outside.{Outside, NoneFailed, NoWriteFailed}
 use Rattle.call_report.specs.Output.{Output, IsBegun, IsMade}

@@ -7,7 +7,7 @@ use Rattle.net_io.specs.declared.fault.IoFault.TheVariants as io
 use Rattle.flow_lines.specs.declared.hop.Hop.{Hop}
 use Rattle.packet_walk.specs.declared.walked.Walked.{Walked}
 use Rattle.label_flow.specs.Pair.{PairState}
-use Rattle.report_lines.specs.Flow.{walked_line}
+use Rattle.call_report.specs.Lines.Flow.{walked_line}
 use Rattle.call_report.specs.Printing.{HandsOn}
 use Rattle.call_report.proofs.Law.{texts_join, a_whole_text_is_a_front}
 use Rattle.flow_run.specs.Run.{walked_lines}

@@ -16,7 +16,7 @@ use Rattle.packet_walk.specs.declared.walked.Walked.{Walked}
 use Rattle.label_flow.specs.Pair.{PairState, pair}
 use Rattle.label_flow.specs.Schedule.{versions_in}
 use Rattle.pcap_frames.specs.Reader.{Reader, ReaderStandsIn}
-use Rattle.report_lines.specs.Flow.{walked_line}
+use Rattle.call_report.specs.Lines.Flow.{walked_line}
 use Rattle.call_report.specs.Outside.{NoWriteFailed}
 use Rattle.call_report.specs.Printing.{HandsOn}
 use Rattle.call_report.proofs.Law.{nothing_is_handed_on}

@@ -7,8 +7,8 @@ use Rattle.node_tables.specs.Steps.{tables_after}
 use Rattle.shared_tables.specs.Plan.{PlanState}
 use Rattle.label_flow.specs.Round.{AreReplies}
 use Rattle.label_flow.specs.Schedule.{AreLawful}
-use Rattle.report_lines.specs.Capture.{capture_line}
-use Rattle.report_lines.specs.Fixed.{packets_limit_line}
+use Rattle.call_report.specs.Lines.Capture.{capture_line}
+use Rattle.call_report.specs.Lines.Fixed.{packets_limit_line}
 use Rattle.call_report.specs.Outside.{Outside, NoneFailed, NoWriteFailed}
 use Rattle.call_report.specs.Output.{Output, IsBegun, IsMade}
 use Rattle.call_report.specs.Printing.{HandsOn, Breaks}

@@ -7,7 +7,7 @@ use Rattle.pcap_frames.specs.Record.{Frame}
 use Rattle.pcap_frames.specs.Capture.{Capture, capture_of}
 use Rattle.pcap_frames.specs.Ip.{ip_part_of}
 use Rattle.packet_walk.specs.declared.packet.PacketIn.{PacketIn}
-use Rattle.report_lines.specs.Capture.{capture_line}
+use Rattle.call_report.specs.Lines.Capture.{capture_line}
 use Rattle.call_report.specs.Event.{Event, capture_event}
 
 -- the header of a capture that could be begun, its frames that may be judged, and the event behind them, if there is one
@@ -30,5 +30,6 @@ flow_input number most (Some file) = input_by number most (capture_of file)
 abbrev pub packet_in : ℕ → Frame → PacketIn
 packet_in link frame = option_map_or (λ packet. record { bytes = packet; is_ip = true }) (ip_part_of link frame.octets) (record { bytes = frame.octets; is_ip = false })
 
+-- the packets of an input
 abbrev pub packets_in : FlowInput → List PacketIn
 packets_in input = option_map_or (λ header. map (packet_in header.link) input.frames) input.header []

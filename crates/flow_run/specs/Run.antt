@@ -11,7 +11,7 @@ use Rattle.shared_tables.specs.Plan.{PlanState}
 use Rattle.label_flow.specs.Pair.{PairState}
 use Rattle.label_flow.specs.Walked.{AreWalked}
 use Rattle.label_flow.specs.Schedule.{versions_in}
-use Rattle.report_lines.specs.Flow.{flow_line, walked_line, flow_end_line}
+use Rattle.call_report.specs.Lines.Flow.{flow_line, walked_line, flow_end_line}
 use Rattle.call_report.specs.Output.{Output}
 use Rattle.flow_run.specs.Input.{FlowInput, packets_in}
 
@@ -35,6 +35,7 @@ is_judged run = length run.pairs == length run.input.frames
 abbrev pub goes_on : FlowRun → Bool
 goes_on run = is_judged run && is_some run.input.header && not (is_some run.input.event)
 
+-- a packet was denied on its way
 abbrev pub is_denied : End → Bool
 is_denied (the_end.Denied hop why) = true
 is_denied end = false

@@ -6,9 +6,9 @@ ghost use Rattle.flow_run.specs.inside.Board.{IsOpenFor};
 
 use crate::end::FlowPlace;
 use crate::runner::Runner;
-use command_forms::Step;
 use mls_label::OutOfMemory;
 use node_tables::Network;
+use script_lines::Step;
 use shared_tables::{Board, Plan, Publisher, Viewer};
 use std::alloc::Global;
 use std::sync::Wait;

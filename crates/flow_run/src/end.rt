@@ -1,10 +1,10 @@
 //! Where a flow stands in its script, and how it ends.
 
 use address_text::Name;
-use command_forms::Step;
 use flow_lines::FlowLine;
 use node_tables::{Network, Reply};
 use pcap_frames::CaptureFault;
+use script_lines::Step;
 
 /// Where a flow stands in its script.
 #[derive(Clone, Copy)]

@@ -5,10 +5,9 @@ ghost use Rattle.flow_run.specs.inside.Judged.{judged_line};
 
 use crate::end::FlowPlace;
 use crate::judged::Judged;
-use call_report::Report;
+use call_report::{Report, write_walked};
 use mls_label::OutOfMemory;
 use net_io::{IoFault, Sink};
-use report_lines::write_walked;
 
 /// Adds the line of a packet, and hands on what waits where that is a piece.
 pub(crate) fn print_judged<S: Sink>(

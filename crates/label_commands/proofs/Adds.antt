@@ -15,11 +15,11 @@ use Rattle.script_lines.specs.Word.{LineWord, words_of_line}
 use Rattle.script_lines.specs.Stop.{fault, and_next}
 use Rattle.address_text.specs.Name.{is_name, name_of_text}
 use Rattle.node_readings.specs.Reading.{NamedMeanings, IsReading}
-use Rattle.command_forms.specs.declared.command.Command.{Command}
-use Rattle.line_forms.specs.declared.said.Said.{Said}
-use Rattle.line_forms.specs.Form.{Edition}
-use Rattle.command_forms.specs.Command.{command_of}
-use Rattle.command_forms.specs.Bounded.{IsBounded}
+use Rattle.script_lines.specs.declared.command.Command.{Command}
+use Rattle.script_lines.specs.declared.said.Said.{Said}
+use Rattle.script_lines.specs.Form.{Edition}
+use Rattle.script_lines.specs.Command.{command_of}
+use Rattle.script_lines.specs.Bounded.{IsBounded}
 use Rattle.flow_lines.specs.declared.flow.FlowLine.{FlowLine}
 use Rattle.flow_lines.specs.Flow.{read_flow}
 use Rattle.label_commands.specs.Above.{Above, at_node, with_step, has_reading, with_reading, with_flow}

@@ -6,8 +6,8 @@ use Rattle.std.specs.Str.Lines.{lines}
 use Rattle.std.proofs.lemmas.List.Elements.{All-nil, All-push, All-set, All-map, All-weaker}
 use Rattle.script_lines.specs.declared.stop.LineStop.{LineStop}
 use Rattle.node_readings.specs.Reading.{NamedMeanings, is_increasing, IsReading}
-use Rattle.command_forms.specs.declared.command.Step.{Step}
-use Rattle.line_forms.specs.Form.{Edition}
+use Rattle.script_lines.specs.declared.command.Step.{Step}
+use Rattle.script_lines.specs.Form.{Edition}
 use Rattle.label_commands.specs.declared.script.Script.{Script}
 use Rattle.label_commands.specs.Above.{Above, nothing_above, at_number}
 use Rattle.label_commands.specs.Editions.{has_command}

@@ -9,18 +9,18 @@ use Rattle.script_lines.specs.declared.stop.LineStop.{LineStop}
 use Rattle.script_lines.specs.Word.{LineWord}
 use Rattle.script_lines.specs.Stop.{fault, and_next}
 use Rattle.address_text.specs.Prefix.{AddressBlock}
-use Rattle.line_forms.specs.declared.row.Row.{Row}
-use Rattle.line_forms.specs.declared.row.Row.TheVariants as In
-use Rattle.line_forms.specs.declared.parameter.Parameter.TheVariants.{Domain}
-use Rattle.line_forms.specs.declared.form.Slot.{Slot}
-use Rattle.line_forms.specs.declared.fields.Fields.{Fields}
-use Rattle.line_forms.specs.declared.said.Said.{Said}
-use Rattle.line_forms.specs.Form.{Edition, with_labels, with_ranges, with_translations, must, form_of, line_rows, is_key}
-use Rattle.line_forms.specs.Fields.{no_fields, is_given, fields_with, with_value}
-use Rattle.line_forms.specs.Said.{fits_row, key_of, slot_of, with_parameter, with_word, with_words, is_complete, read_row, read_fields, read_said}
-use Rattle.command_forms.specs.declared.command.Command.{Command}
-use Rattle.command_forms.specs.declared.command.Command.TheVariants.{MapDel}
-use Rattle.command_forms.specs.Command.{command_of}
+use Rattle.script_lines.specs.declared.row.Row.{Row}
+use Rattle.script_lines.specs.declared.row.Row.TheVariants as In
+use Rattle.script_lines.specs.declared.parameter.Parameter.TheVariants.{Domain}
+use Rattle.script_lines.specs.declared.form.Slot.{Slot}
+use Rattle.script_lines.specs.declared.fields.Fields.{Fields}
+use Rattle.script_lines.specs.declared.said.Said.{Said}
+use Rattle.script_lines.specs.Form.{Edition, with_labels, with_ranges, with_translations, must, form_of, line_rows, is_key}
+use Rattle.script_lines.specs.Fields.{no_fields, is_given, fields_with, with_value}
+use Rattle.script_lines.specs.Said.{fits_row, key_of, slot_of, with_parameter, with_word, with_words, is_complete, read_row, read_fields, read_said}
+use Rattle.script_lines.specs.declared.command.Command.{Command}
+use Rattle.script_lines.specs.declared.command.Command.TheVariants.{MapDel}
+use Rattle.script_lines.specs.Command.{command_of}
 use Rattle.label_commands.specs.Editions.{is_early, has_command}
 use Rattle.label_commands.specs.Line.{behind_tool, read_led}
 use Rattle.label_commands.proofs.Results.{same_ok, not_ok, went, ok_or_went}

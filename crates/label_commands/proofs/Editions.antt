@@ -9,9 +9,9 @@ use Rattle.script_lines.specs.declared.stop.LineStop.TheVariants as Of
 use Rattle.script_lines.specs.Octet.{is_plain}
 use Rattle.script_lines.specs.Word.{LineWord, words_of_line}
 use Rattle.script_lines.specs.Stop.{fault, and_next}
-use Rattle.line_forms.specs.declared.said.Said.{Said}
-use Rattle.line_forms.specs.Form.{Edition, line_rows}
-use Rattle.line_forms.specs.Said.{read_said}
+use Rattle.script_lines.specs.declared.said.Said.{Said}
+use Rattle.script_lines.specs.Form.{Edition, line_rows}
+use Rattle.script_lines.specs.Said.{read_said}
 use Rattle.label_commands.specs.declared.script.Script.{Script}
 use Rattle.label_commands.specs.Above.{Above, nothing_above}
 use Rattle.label_commands.specs.Line.{is_word, read_node, with_said, behind_tool, read_led, starts_table, read_table, read_flow_line, read_words, limit_passed, read_line}

@@ -19,16 +19,16 @@ use Rattle.address_text.specs.Name.{name_of_text}
 use Rattle.node_readings.specs.declared.fault.ReadingFault.{ReadingFault}
 use Rattle.node_readings.specs.declared.fault.ReadingFault.TheVariants as Unread
 use Rattle.node_readings.specs.Reading.{NamedMeanings, reading_fault}
-use Rattle.line_forms.specs.declared.row.Row.{Row}
-use Rattle.line_forms.specs.declared.row.Row.TheVariants.{Reading}
-use Rattle.line_forms.specs.declared.parameter.Parameter.{Parameter}
-use Rattle.line_forms.specs.declared.form.Slot.{Slot}
-use Rattle.line_forms.specs.declared.fields.Fields.{Fields}
-use Rattle.line_forms.specs.declared.said.Said.{Said}
-use Rattle.line_forms.specs.Form.{Edition, form_of, line_rows}
-use Rattle.line_forms.specs.Fields.{no_fields, is_given, with_value}
-use Rattle.line_forms.specs.Said.{shared_words, fits_row, unfit_or_missing, read_row, key_of, slot_of, with_parameter, with_word, with_words, is_complete, read_fields, read_said}
-use Rattle.command_forms.specs.Command.{command_of}
+use Rattle.script_lines.specs.declared.row.Row.{Row}
+use Rattle.script_lines.specs.declared.row.Row.TheVariants.{Reading}
+use Rattle.script_lines.specs.declared.parameter.Parameter.{Parameter}
+use Rattle.script_lines.specs.declared.form.Slot.{Slot}
+use Rattle.script_lines.specs.declared.fields.Fields.{Fields}
+use Rattle.script_lines.specs.declared.said.Said.{Said}
+use Rattle.script_lines.specs.Form.{Edition, form_of, line_rows}
+use Rattle.script_lines.specs.Fields.{no_fields, is_given, with_value}
+use Rattle.script_lines.specs.Said.{shared_words, fits_row, unfit_or_missing, read_row, key_of, slot_of, with_parameter, with_word, with_words, is_complete, read_fields, read_said}
+use Rattle.script_lines.specs.Command.{command_of}
 use Rattle.flow_lines.specs.Flow.{read_flow}
 use Rattle.flow_lines.proofs.Law.{faults_stand_in_the_line}
 use Rattle.label_commands.specs.declared.stop.ScriptFault.{ScriptFault}

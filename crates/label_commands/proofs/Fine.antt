@@ -15,9 +15,9 @@ use Rattle.script_lines.specs.declared.stop.LineStop.{LineStop}
 use Rattle.script_lines.specs.Word.{LineWord}
 use Rattle.script_lines.specs.Stop.{and_next}
 use Rattle.node_readings.specs.Reading.{NamedMeanings}
-use Rattle.command_forms.specs.declared.command.Command.{Command}
-use Rattle.command_forms.specs.declared.command.Step.{Step}
-use Rattle.line_forms.specs.Form.{Edition}
+use Rattle.script_lines.specs.declared.command.Command.{Command}
+use Rattle.script_lines.specs.declared.command.Step.{Step}
+use Rattle.script_lines.specs.Form.{Edition}
 use Rattle.flow_lines.specs.declared.hop.Hop.{Hop}
 use Rattle.flow_lines.specs.declared.flow.FlowLine.{FlowLine}
 use Rattle.flow_lines.specs.Hop.{IsRoute, node_of}

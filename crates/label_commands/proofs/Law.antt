@@ -5,11 +5,11 @@ use Rattle.std.specs.List.{flat_map}
 use Rattle.std.specs.Str.Lines.{lines}
 use Rattle.script_lines.specs.declared.stop.LimitName.TheVariants.{Lines}
 use Rattle.script_lines.specs.Octet.{is_blank}
-use Rattle.line_forms.specs.Form.{Edition, with_labels, with_ranges, with_translations}
-use Rattle.command_forms.specs.declared.command.Command.{Command}
-use Rattle.command_forms.specs.declared.command.Step.{Step}
-use Rattle.command_forms.specs.Command.{command_text, IsCommand}
-use Rattle.line_forms.proofs.Law.{lines_with_labels_are_kept, lines_with_ranges_are_kept}
+use Rattle.script_lines.specs.Form.{Edition, with_labels, with_ranges, with_translations}
+use Rattle.script_lines.specs.declared.command.Command.{Command}
+use Rattle.script_lines.specs.declared.command.Step.{Step}
+use Rattle.script_lines.specs.Command.{command_text, IsCommand}
+use Rattle.script_lines.proofs.Law.{lines_with_labels_are_kept, lines_with_ranges_are_kept}
 use Rattle.node_readings.specs.Reading.{IsReading}
 use Rattle.label_commands.specs.declared.script.Script.{Script}
 use Rattle.label_commands.specs.declared.stop.ScriptFault.{ScriptFault}

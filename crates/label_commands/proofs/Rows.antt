@@ -11,8 +11,8 @@ use Rattle.script_lines.specs.declared.stop.LimitName.TheVariants.{Lines, Nodes,
 use Rattle.address_text.specs.Address.{address_of_text}
 use Rattle.mls_range.specs.Computed.{terms_of_text, label_of_text, range_of_text}
 use Rattle.node_readings.specs.Reading.{NamedMeanings, is_increasing}
-use Rattle.line_forms.specs.Form.{Edition, with_labels, with_ranges, with_translations}
-use Rattle.command_forms.specs.Command.{command_text}
+use Rattle.script_lines.specs.Form.{Edition, with_labels, with_ranges, with_translations}
+use Rattle.script_lines.specs.Command.{command_text}
 use Rattle.flow_lines.specs.HopText.{read_hop}
 use Rattle.flow_lines.specs.Flow.{read_flow}
 use Rattle.label_commands.specs.declared.script.Script.{Script}

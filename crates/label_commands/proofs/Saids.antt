@@ -14,20 +14,20 @@ use Rattle.node_readings.specs.declared.fault.ReadingFault.TheVariants.{NotIncre
 use Rattle.node_readings.specs.Reading.{NamedMeanings, is_increasing, names_once, is_distinct, reading_fault, IsReading}
 use Rattle.command_values.specs.Doi.{is_doi}
 use Rattle.command_values.specs.Pairs.{pair_of_text, IsPairWithin}
-use Rattle.line_forms.specs.declared.row.Row.{Row}
-use Rattle.line_forms.specs.declared.row.Row.TheVariants as In
-use Rattle.line_forms.specs.declared.parameter.Parameter.{Parameter}
-use Rattle.line_forms.specs.declared.parameter.Parameter.TheVariants.{Doi, Tags, Levels, Categories, Domain, Interface, Prefix, Protocol, Label, Address, Home, Level, Range, Four, Six, ReadingLevels, ReadingCategories}
-use Rattle.line_forms.specs.declared.form.Slot.{Slot}
-use Rattle.line_forms.specs.declared.fields.Fields.{Fields}
-use Rattle.line_forms.specs.declared.said.Said.{Said}
-use Rattle.line_forms.specs.Form.{Edition, form_of, line_rows}
-use Rattle.line_forms.specs.Fields.{no_fields, is_given, fields_with, with_value}
-use Rattle.line_forms.specs.Said.{key_of, slot_of, with_parameter, with_word, with_words, is_complete, read_row, read_fields, read_said}
-use Rattle.command_forms.specs.declared.command.Command.{Command}
-use Rattle.command_forms.specs.declared.command.Command.TheVariants.{CipsoAddPass, CipsoAddTrans, CalipsoAddPass, CalipsoAddTrans, UnlblAdd, ReceiverAdd, RangeAdd}
-use Rattle.command_forms.specs.Command.{command_of}
-use Rattle.command_forms.specs.Bounded.{IsBounded}
+use Rattle.script_lines.specs.declared.row.Row.{Row}
+use Rattle.script_lines.specs.declared.row.Row.TheVariants as In
+use Rattle.script_lines.specs.declared.parameter.Parameter.{Parameter}
+use Rattle.script_lines.specs.declared.parameter.Parameter.TheVariants.{Doi, Tags, Levels, Categories, Domain, Interface, Prefix, Protocol, Label, Address, Home, Level, Range, Four, Six, ReadingLevels, ReadingCategories}
+use Rattle.script_lines.specs.declared.form.Slot.{Slot}
+use Rattle.script_lines.specs.declared.fields.Fields.{Fields}
+use Rattle.script_lines.specs.declared.said.Said.{Said}
+use Rattle.script_lines.specs.Form.{Edition, form_of, line_rows}
+use Rattle.script_lines.specs.Fields.{no_fields, is_given, fields_with, with_value}
+use Rattle.script_lines.specs.Said.{key_of, slot_of, with_parameter, with_word, with_words, is_complete, read_row, read_fields, read_said}
+use Rattle.script_lines.specs.declared.command.Command.{Command}
+use Rattle.script_lines.specs.declared.command.Command.TheVariants.{CipsoAddPass, CipsoAddTrans, CalipsoAddPass, CalipsoAddTrans, UnlblAdd, ReceiverAdd, RangeAdd}
+use Rattle.script_lines.specs.Command.{command_of}
+use Rattle.script_lines.specs.Bounded.{IsBounded}
 use Rattle.label_commands.specs.Line.{named_by, reading_stop, read_meanings, behind_tool, read_led}
 use Rattle.label_commands.proofs.Results.{same_ok, not_ok, went, ok_or_went}
 use Rattle.label_commands.proofs.Values.{doi_within, pair_within, list_within, IsBoundedHigh, range_within, static_within, receiver_within, if_said, said_is}

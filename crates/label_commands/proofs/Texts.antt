@@ -3,7 +3,7 @@ use Rattle.std.proofs.Common.{◌≡◌, ℕ, ◌≤◌, Bool, true, false, cond
 use Rattle.std.specs.Str.Lines.{lines}
 use Rattle.std.proofs.lemmas.Bool.Decides.{nat_tests}
 use Rattle.script_lines.specs.declared.stop.LimitName.TheVariants.{Octets}
-use Rattle.line_forms.specs.Form.{Edition}
+use Rattle.script_lines.specs.Form.{Edition}
 use Rattle.label_commands.specs.declared.script.Script.{Script}
 use Rattle.label_commands.specs.declared.stop.ScriptFault.{ScriptFault}
 use Rattle.label_commands.specs.declared.stop.ScriptStop.{ScriptStop}

@@ -23,8 +23,8 @@ use Rattle.command_values.specs.Doi.{is_doi, doi_of_text}
 use Rattle.command_values.specs.List.{all_of, list_of_text}
 use Rattle.command_values.specs.Pairs.{pair_of_text, IsPairWithin}
 use Rattle.command_values.specs.Ranges.{behind_context, in_context, range_below}
-use Rattle.line_forms.specs.Form.{Edition, with_labels, with_ranges, with_translations}
-use Rattle.line_forms.specs.Fields.{static_by, receiver_by}
+use Rattle.script_lines.specs.Form.{Edition, with_labels, with_ranges, with_translations}
+use Rattle.script_lines.specs.Fields.{static_by, receiver_by}
 
 -- ---- numbers
 

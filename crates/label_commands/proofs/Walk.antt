@@ -7,8 +7,8 @@ use Rattle.std.proofs.lemmas.List.{length_push}
 use Rattle.script_lines.specs.declared.stop.LineStop.{LineStop}
 use Rattle.script_lines.specs.declared.stop.LineStop.TheVariants as Of
 use Rattle.script_lines.specs.Stop.{IsStopOf}
-use Rattle.command_forms.specs.declared.command.Step.{Step}
-use Rattle.line_forms.specs.Form.{Edition}
+use Rattle.script_lines.specs.declared.command.Step.{Step}
+use Rattle.script_lines.specs.Form.{Edition}
 use Rattle.label_commands.specs.declared.stop.ScriptStop.{ScriptStop}
 use Rattle.label_commands.specs.Above.{Above, at_number, at_node, with_reading, with_flow}
 use Rattle.label_commands.specs.Line.{read_line}

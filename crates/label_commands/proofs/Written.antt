@@ -15,17 +15,16 @@ use Rattle.script_lines.specs.declared.stop.LineStop.TheVariants as Of
 use Rattle.script_lines.specs.Octet.{is_blank, is_plain}
 use Rattle.script_lines.specs.Word.{LineWord, placed, words_of_line}
 use Rattle.script_lines.specs.Stop.{fault, and_next}
-use Rattle.script_lines.proofs.Law.{plain_octets_are_a_line}
-use Rattle.line_forms.specs.declared.row.Row.{Row}
-use Rattle.line_forms.specs.declared.row.Row.TheVariants.{CipsoAddPass, CipsoAddTrans, CalipsoAddPass, CipsoDel, CalipsoDel, CipsoList, CalipsoList, MapAdd, MapDel, MapList, AcceptOn, AcceptOff, UnlblAdd, UnlblDel, UnlblList, ReceiverAdd, ReceiverDel, RangeAdd, RangeDel, PairAdd, PairDel, MgmtVersion, MgmtProtocols, CalipsoAddTrans, Reading}
-use Rattle.line_forms.specs.declared.said.Said.{Said}
-use Rattle.command_forms.specs.declared.command.Command.{Command}
-use Rattle.command_forms.specs.declared.command.Command.TheVariants as Do
-use Rattle.line_forms.specs.Form.{with_translations, form_of, line_rows}
-use Rattle.command_forms.specs.Value.{word_of}
-use Rattle.line_forms.specs.Said.{read_said}
-use Rattle.command_forms.specs.Command.{command_of, said_of, texts_of_said, command_text, IsCommand}
-use Rattle.command_forms.proofs.Law.{commands_are_what_they_say, written_command_has_its_words, written_command_is_plain, written_command_reads_back}
+use Rattle.script_lines.proofs.Law.{plain_octets_are_a_line, commands_are_what_they_say, written_command_has_its_words, written_command_is_plain, written_command_reads_back}
+use Rattle.script_lines.specs.declared.row.Row.{Row}
+use Rattle.script_lines.specs.declared.row.Row.TheVariants.{CipsoAddPass, CipsoAddTrans, CalipsoAddPass, CipsoDel, CalipsoDel, CipsoList, CalipsoList, MapAdd, MapDel, MapList, AcceptOn, AcceptOff, UnlblAdd, UnlblDel, UnlblList, ReceiverAdd, ReceiverDel, RangeAdd, RangeDel, PairAdd, PairDel, MgmtVersion, MgmtProtocols, CalipsoAddTrans, Reading}
+use Rattle.script_lines.specs.declared.said.Said.{Said}
+use Rattle.script_lines.specs.declared.command.Command.{Command}
+use Rattle.script_lines.specs.declared.command.Command.TheVariants as Do
+use Rattle.script_lines.specs.Form.{with_translations, form_of, line_rows}
+use Rattle.script_lines.specs.Value.{word_of}
+use Rattle.script_lines.specs.Said.{read_said}
+use Rattle.script_lines.specs.Command.{command_of, said_of, texts_of_said, command_text, IsCommand}
 use Rattle.label_commands.specs.Above.{Above, with_step}
 use Rattle.label_commands.specs.Line.{is_word, read_node, read_reading, is_reading, with_said, behind_tool, read_led, starts_table, read_table, read_flow_line, read_words, names_new_node, is_flow_line, limit_passed, read_line}
 use Rattle.label_commands.specs.Script.{read_lines}

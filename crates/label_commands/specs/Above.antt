@@ -3,8 +3,8 @@ use Rattle.std.specs.Prelude.{ℕ, Bool, List, [], ◌∷◌, ◌++◌, length, 
 use Rattle.std.specs.List.{slice_get}
 use Rattle.std.specs.Str.{bytes_eq}
 use Rattle.node_readings.specs.Reading.{NamedMeanings}
-use Rattle.command_forms.specs.declared.command.Command.{Command}
-use Rattle.command_forms.specs.declared.command.Step.{Step}
+use Rattle.script_lines.specs.declared.command.Command.{Command}
+use Rattle.script_lines.specs.declared.command.Step.{Step}
 use Rattle.flow_lines.specs.declared.flow.FlowLine.{FlowLine}
 
 -- the nodes in the order in which they come first, the number of the current one, the steps, each node's reading where a line gives one,
@@ -16,6 +16,7 @@ pub record Above : Type 0 where
   pub readings : List (Option NamedMeanings)
   pub flows : List FlowLine
 
+-- what stands above the first line
 abbrev pub nothing_above : Above
 nothing_above = record { nodes = []; current = None; steps = []; readings = []; flows = [] }
 
@@ -28,6 +29,7 @@ at_number above name None = record above { nodes = above.nodes ++ name ∷ []; c
 abbrev pub at_node : Above → List ℕ → Above
 at_node above name = at_number above name (position (bytes_eq name) above.nodes)
 
+-- a command stands above
 abbrev pub with_step : Above → ℕ → Command → Above
 with_step above node command = record above { steps = above.steps ++ (record { node = node; command = command }) ∷ [] }
 
@@ -35,8 +37,10 @@ with_step above node command = record above { steps = above.steps ++ (record { n
 abbrev pub has_reading : Above → ℕ → Bool
 has_reading above node = is_some (unwrap_or (slice_get above.readings node) None)
 
+-- a reading stands above
 abbrev pub with_reading : Above → ℕ → NamedMeanings → Above
 with_reading above node named = record above { readings = slice_set above.readings node (Some named) }
 
+-- a flow stands above
 abbrev pub with_flow : Above → FlowLine → Above
 with_flow above flow = record above { flows = above.flows ++ flow ∷ [] }

@@ -2,8 +2,8 @@
 use Rattle.std.specs.Prelude.{All}
 use Rattle.mls_label.specs.Label.{IsLabel}
 use Rattle.node_readings.specs.Reading.{IsReading}
-use Rattle.command_forms.specs.declared.command.Step.{Step}
-use Rattle.command_forms.specs.Bounded.{IsBounded}
+use Rattle.script_lines.specs.declared.command.Step.{Step}
+use Rattle.script_lines.specs.Bounded.{IsBounded}
 use Rattle.flow_lines.specs.declared.hop.Hop.{Hop}
 use Rattle.flow_lines.specs.declared.hop.Hop.TheVariants.{Send}
 use Rattle.flow_lines.specs.declared.flow.FlowLine.{FlowLine}

@@ -1,8 +1,8 @@
 -- The commands that an edition of the grammar has.
 use Rattle.std.specs.Prelude.{Bool, true, false, Some}
-use Rattle.line_forms.specs.Form.{Edition, with_translations}
-use Rattle.command_forms.specs.declared.command.Command.{Command}
-use Rattle.command_forms.specs.declared.command.Command.TheVariants.{CalipsoAddTrans, MapDel}
+use Rattle.script_lines.specs.Form.{Edition, with_translations}
+use Rattle.script_lines.specs.declared.command.Command.{Command}
+use Rattle.script_lines.specs.declared.command.Command.TheVariants.{CalipsoAddTrans, MapDel}
 
 -- the editions before the last have no translated CALIPSO definition, and take a domain away with all its addresses
 abbrev pub is_early : Command → Bool

@@ -13,21 +13,23 @@ use Rattle.address_text.specs.Name.{is_name, name_of_text}
 use Rattle.node_readings.specs.declared.fault.ReadingFault.{ReadingFault}
 use Rattle.node_readings.specs.declared.fault.ReadingFault.TheVariants as Unread
 use Rattle.node_readings.specs.Reading.{NamedMeanings, reading_fault}
-use Rattle.line_forms.specs.declared.row.Row.{Row}
-use Rattle.line_forms.specs.declared.row.Row.TheVariants.{Reading}
-use Rattle.line_forms.specs.declared.fields.Fields.{Fields}
-use Rattle.line_forms.specs.declared.said.Said.{Said}
-use Rattle.line_forms.specs.Form.{Edition, line_rows}
-use Rattle.line_forms.specs.Said.{begins_line, read_said}
-use Rattle.command_forms.specs.Command.{command_of}
+use Rattle.script_lines.specs.declared.row.Row.{Row}
+use Rattle.script_lines.specs.declared.row.Row.TheVariants.{Reading}
+use Rattle.script_lines.specs.declared.fields.Fields.{Fields}
+use Rattle.script_lines.specs.declared.said.Said.{Said}
+use Rattle.script_lines.specs.Form.{Edition, line_rows}
+use Rattle.script_lines.specs.Said.{begins_line, read_said}
+use Rattle.script_lines.specs.Command.{command_of}
 use Rattle.flow_lines.specs.Flow.{read_flow}
 use Rattle.label_commands.specs.Above.{Above, at_node, with_step, has_reading, with_reading, with_flow}
 
+-- the word has this text
 abbrev pub is_word : List ℕ → LineWord → Bool
 is_word text word = bytes_eq word.text text
 
 -- a line of a node
 
+-- nothing stands behind the name
 abbrev pub alone : List ℕ → List LineWord → Result (List ℕ) LineStop
 alone name [] = Ok name
 alone name (next ∷ words) = Err (fault next.at Kind.Extra)
@@ -53,6 +55,7 @@ reading_stop place Unread.NotIncreasing = fault place Kind.NotIncreasing
 reading_stop place Unread.NotDistinct = fault place Kind.NotDistinct
 reading_stop place Unread.OutOfMemory = Stop.OutOfMemory
 
+-- meanings that are strictly increasing and distinct
 abbrev pub read_meanings : ℕ → NamedMeanings → Result NamedMeanings LineStop
 read_meanings place named = elim (reading_fault named.levels named.cats) [
   | Some unread ↦ Err (reading_stop place unread)
@@ -67,6 +70,7 @@ read_reading above node place fields =
 
 -- a line of the table of forms
 
+-- the row of the line of readings
 abbrev pub is_reading : Row → Bool
 is_reading Reading = true
 is_reading row = false
@@ -106,6 +110,7 @@ read_table edition above end first words = elim above.current [
 abbrev pub read_flow_line : List ℕ → Above → ℕ → List LineWord → Result Above LineStop
 read_flow_line own above end words = and_next (read_flow own above.nodes above.flows (length above.steps) end words) (λ flow. Ok (with_flow above flow))
 
+-- what is above with one line more, by its words
 unfoldable pub read_words : Edition → List ℕ → Above → ℕ → List LineWord → Result Above LineStop
 read_words edition own above end [] = Ok above
 read_words edition own above end (first ∷ words) =
@@ -118,6 +123,7 @@ abbrev pub names_new_node : Above → List LineWord → Bool
 names_new_node above (first ∷ word ∷ words) = is_word (codes "node") first && (is_name word.text && is_none (position (bytes_eq word.text) above.nodes))
 names_new_node above words = false
 
+-- the words begin a flow
 abbrev pub is_flow_line : List LineWord → Bool
 is_flow_line [] = false
 is_flow_line (first ∷ words) = is_word (codes "flow") first

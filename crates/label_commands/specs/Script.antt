@@ -7,13 +7,14 @@ use Rattle.script_lines.specs.declared.stop.LimitName.TheVariants.{Octets}
 use Rattle.script_lines.specs.declared.stop.LineStop.{LineStop}
 use Rattle.script_lines.specs.declared.stop.LineStop.TheVariants as Of
 use Rattle.node_readings.specs.Reading.{NamedMeanings}
-use Rattle.line_forms.specs.Form.{Edition}
+use Rattle.script_lines.specs.Form.{Edition}
 use Rattle.label_commands.specs.declared.script.Script.{Script}
 use Rattle.label_commands.specs.declared.stop.ScriptStop.{ScriptStop}
 use Rattle.label_commands.specs.declared.stop.ScriptStop.TheVariants as Stop
 use Rattle.label_commands.specs.Above.{Above, nothing_above}
 use Rattle.label_commands.specs.Line.{limit_of, read_line}
 
+-- a limit was passed
 abbrev pub passed : LimitName → ScriptStop
 passed what = Stop.Limit what (limit_of what)
 
@@ -35,6 +36,7 @@ read_lines edition own above number (line ∷ rest) = elim (read_line edition ow
 abbrev pub no_meanings : NamedMeanings
 no_meanings = record { levels = []; cats = [] }
 
+-- the script that lines make; a node without a reading line has no named meanings
 abbrev pub script_of : Above → Script
 script_of above = record { nodes = above.nodes; steps = above.steps; flows = above.flows; readings = map (λ named. unwrap_or named no_meanings) above.readings }
 

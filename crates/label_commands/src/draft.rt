@@ -2,7 +2,7 @@
 
 ghost use Rattle.std.specs.Prelude.{◌≡◌, ◌<◌, ◌^◌, length, map, unwrap_or, IfOk, IfErr, OnOk, Ok};
 ghost use Rattle.script_lines.specs.Stop.{IsStopOf};
-ghost use Rattle.line_forms.specs.Form.{with_translations};
+ghost use Rattle.script_lines.specs.Form.{with_translations};
 ghost use Rattle.label_commands.specs.Above.{nothing_above, at_node, with_step, has_reading, with_reading};
 ghost use Rattle.label_commands.specs.Line.{read_node, read_reading, with_said, read_table, read_flow_line, read_words, names_new_node, limit_passed, read_line};
 ghost use Rattle.label_commands.specs.Script.{no_meanings, script_of};
@@ -13,14 +13,14 @@ use crate::line::{
 };
 use crate::script::Script;
 use address_text::{Name, read_name};
-use command_forms::{Command, Step};
 use command_values::is_word;
 use doi_table::Listed;
 use flow_lines::{Flows, NodeNames, read_flow};
-use line_forms::{Fields, Said};
 use mls_label::OutOfMemory;
 use node_readings::Reading;
-use script_lines::{LimitName, LineStop, ScriptKind, Word, first_unfit, words_into};
+use script_lines::{
+    Command, Fields, LimitName, LineStop, Said, ScriptKind, Step, Word, first_unfit, words_into,
+};
 use std::alloc::Global;
 use std::marker::Model;
 

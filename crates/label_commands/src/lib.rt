@@ -12,14 +12,13 @@ mod script;
 mod stop;
 
 pub use address_text::Name;
-pub use command_forms::{Command, Step, write_step};
 pub use doi_table::Listed;
 pub use flow_lines::{FileName, FlowLine, Flows, Hop, NodeNames, Route};
 pub use mls_label::OutOfMemory;
 pub use node_readings::Reading;
 pub use read::read_script;
 pub use script::Script;
-pub use script_lines::{LimitName, ScriptKind};
+pub use script_lines::{Command, LimitName, ScriptKind, Step, write_step};
 pub use stop::{ScriptFault, ScriptStop};
 
 #[cfg(test)]

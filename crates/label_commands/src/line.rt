@@ -3,16 +3,16 @@
 ghost use Rattle.std.specs.Prelude.{◌≡◌, ◌<◌, All, IfOk, IfErr, Ok, ok_or, option_copied};
 ghost use Rattle.script_lines.specs.declared.stop.ScriptKind.TheVariants.{Missing};
 ghost use Rattle.script_lines.specs.Stop.{fault, IsStopOf};
-ghost use Rattle.line_forms.specs.Form.{with_translations};
-ghost use Rattle.command_forms.specs.Command.{command_of};
+ghost use Rattle.script_lines.specs.Form.{with_translations};
+ghost use Rattle.script_lines.specs.Command.{command_of};
 ghost use Rattle.label_commands.specs.Line.{read_only_name, named_by, reading_stop, read_meanings, is_reading, behind_tool, read_led, starts_table, is_flow_line};
 
 use address_text::{Name, read_name};
-use command_forms::{Command, command_of};
 use command_values::is_word;
-use line_forms::{Fields, Row, Said, begins_line, read_said};
 use node_readings::{Reading, ReadingFault};
-use script_lines::{LineStop, ScriptKind, Word};
+use script_lines::{
+    Command, Fields, LineStop, Row, Said, ScriptKind, Word, begins_line, command_of, read_said,
+};
 use std::alloc::Global;
 
 /// The one name that the words are; `end` is the line's length.

@@ -2,7 +2,7 @@
 
 ghost use Rattle.std.specs.Prelude.{◌≡◌, IfOk, IfErr, Ok};
 ghost use Rattle.std.specs.Str.Lines.{lines};
-ghost use Rattle.line_forms.specs.Form.{with_translations};
+ghost use Rattle.script_lines.specs.Form.{with_translations};
 ghost use Rattle.label_commands.specs.Above.{nothing_above};
 ghost use Rattle.label_commands.specs.Script.{read_lines, IsScript, IsScriptStop};
 ghost use Rattle.label_commands.specs.inside.Stops.{IsStopOfLines};

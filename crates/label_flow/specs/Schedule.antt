@@ -28,11 +28,13 @@ steps_in (look worker ∷ events) = steps_in events
 abbrev pub IsSeen : PlanState → List Hop → PacketIn → List ℕ → Type 0
 IsSeen plan hops packet versions = (end : End) × (out : List ℕ) × IsWalkOf plan hops packet versions end out
 
+-- the versions of each packet are those of a walk
 abbrev pub AreSeen : PlanState → List Hop → List PacketIn → List (List ℕ) → Type 0
 AreSeen plan hops [] [] = Unit {0}
 AreSeen plan hops (packet ∷ packets) (versions ∷ seen) = IsSeen plan hops packet versions × AreSeen plan hops packets seen
 AreSeen plan hops packets seen = ⊥
 
+-- the versions of all packets, one after another
 abbrev pub in_a_row : List (List ℕ) → List ℕ
 in_a_row [] = []
 in_a_row (versions ∷ seen) = versions ++ in_a_row seen

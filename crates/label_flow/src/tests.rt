@@ -7,11 +7,9 @@ ghost use Rattle.shared_tables.specs.Plan.{network_after};
 
 use super::*;
 use address_text::{Address, read_name};
-use command_forms::{Step, command_of};
 use flow_lines::{FlowLine, Flows, NodeNames, read_flow};
-use line_forms::read_said;
 use node_tables::Network;
-use script_lines::words_into;
+use script_lines::{Step, command_of, read_said, words_into};
 use shared_tables::{Board, Plan, Publisher, Viewer};
 use std::alloc::Global;
 use std::process::Abort;

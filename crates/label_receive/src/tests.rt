@@ -4,12 +4,10 @@ ghost use Rattle.std.specs.Prelude.{◌<◌};
 
 use super::*;
 use address_text::{Address, Name, read_name};
-use command_forms::{Command, Step, command_of};
-use line_forms::read_said;
 use mls_range::read_label;
 use node_tables::{Network, Reply};
 use packet_label::Denial;
-use script_lines::words_into;
+use script_lines::{Command, Step, command_of, read_said, words_into};
 use std::alloc::Global;
 use std::process::Abort;
 

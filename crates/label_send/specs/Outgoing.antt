@@ -56,10 +56,12 @@ cipso_by doi label (Some plan) = cipso_said doi plan.tags (wire_label plan label
 abbrev pub is_in_words : Label → Bool
 is_in_words label = list_all (λ c. nat_le c HIGHEST_CATEGORY) label.cats
 
+-- a label on the wire as a CALIPSO option says it
 abbrev pub calipso_said : ℕ → Result Label Unmapped → Result (Option Wire) Denial
 calipso_said doi (Ok label) = if is_in_words label then Ok (Some (wire.Calipso (first_place V6) doi label)) else Err Inexpressible
 calipso_said doi (Err why) = Err Inexpressible
 
+-- the CALIPSO option by a definition of its DOI
 abbrev pub calipso_by : ℕ → Label → Option DoiPlan → Result (Option Wire) Denial
 calipso_by doi label None = Err Inexpressible
 calipso_by doi label (Some plan) = calipso_said doi (wire_label plan label)

@@ -22,6 +22,7 @@ pub record Sent : Type 0 where
   pub carrier : Carrier
   pub packet : ParsedPacket Wire
 
+-- what was sent, with what carries its label
 abbrev pub sent_by : Carrier → ParsedPacket Wire → Sent
 sent_by carrier packet = record { carrier = carrier; packet = packet }
 
@@ -62,5 +63,6 @@ abbrev pub send_read : TableState → List ℕ → List ℕ → Label → Result
 send_read t domain interface label (Err fault) = Err (BadHeader fault.octet)
 send_read t domain interface label (Ok headers) = send_of t domain interface label headers
 
+-- the same of octets, of which the headers are read
 abbrev pub send_octets : TableState → List ℕ → List ℕ → Label → List ℕ → Result Sent Denial
 send_octets t domain interface label octets = send_read t domain interface label (front_in octets)

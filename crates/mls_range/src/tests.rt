@@ -1,7 +1,7 @@
 use super::TextKind::*;
 use super::*;
-use octet_grammar::write_decimal;
 use mls_label::{Label, OutOfMemory};
+use octet_grammar::write_decimal;
 use std::alloc::Global;
 use std::test::Fail;
 

@@ -3,13 +3,13 @@ use Rattle.std.proofs.Common.{◌≡◌, ◌≢◌, ℕ, List, [], ◌∷◌, Op
 use Rattle.std.specs.Prelude.{IsTrue, Contains}
 use Rattle.net_io.specs.Faults.{SameCounts}
 use Rattle.net_io.specs.Sink.{SinkState}
-use Rattle.line_forms.specs.Form.{with_translations}
+use Rattle.script_lines.specs.Form.{with_translations}
 use Rattle.label_commands.specs.declared.script.Script.{Script}
 use Rattle.label_commands.specs.declared.stop.ScriptStop.{ScriptStop}
 use Rattle.label_commands.specs.Script.{read_text}
-use Rattle.report_lines.specs.Script.{script_stop_line}
+use Rattle.call_report.specs.Lines.Script.{script_stop_line}
 use Rattle.call_report.specs.declared.status.Status.{Status}
-use Rattle.call_report.specs.Numbers.{status_number}
+use Rattle.call_report.specs.Status.{status_number}
 use Rattle.call_report.specs.Report.{Folder, Report, late_report}
 use Rattle.call_report.specs.Stages.{reading_stage}
 use Rattle.call_report.specs.Outside.{Outside}

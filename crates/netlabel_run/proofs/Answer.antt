@@ -12,8 +12,8 @@ use Rattle.pcap_frames.specs.Record.{Frame}
 use Rattle.pcap_frames.specs.Ip.{ip_part_of}
 use Rattle.label_receive.proofs.Law.{verdicts_are_determined}
 use Rattle.netlabel_run.specs.Judge.{judge_rule, IsVerdict}
-use Rattle.report_lines.specs.Denial.{Verdict}
-use Rattle.report_lines.specs.Packet.{packet_text, shown_line, IsShown}
+use Rattle.call_report.specs.Lines.Denial.{Verdict}
+use Rattle.call_report.specs.Lines.Packet.{packet_text, shown_line, IsShown}
 use Rattle.netlabel_run.specs.Show.{AreShown}
 
 answer_once : (octets : List ℕ) (a b : Result (ParsedPacket Wire) CarryFault) → IsReadAs octets a → IsReadAs octets b → a ≡ b

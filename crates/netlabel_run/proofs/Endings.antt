@@ -15,7 +15,7 @@ use Rattle.call_report.specs.Report.{Folder, Report, report_text}
 use Rattle.call_report.specs.Stages.{Stage}
 use Rattle.call_report.specs.Outside.{Outside, ReadRose, NoneFailed, NoWriteFailed}
 use Rattle.netlabel_run.specs.inside.Ending.{Knows, Begins}
-use Rattle.call_report.specs.Numbers.{status_number}
+use Rattle.call_report.specs.Status.{status_number}
 use Rattle.call_report.specs.Printing.{Printed, EndsInLine, Breaks}
 use Rattle.call_report.proofs.Law.{a_whole_text_is_a_front, a_part_of_a_text_is_a_front, less_of_a_text_is_less_of_more}
 use Rattle.netlabel_run.proofs.Access.{has_access}

@@ -30,7 +30,7 @@ use Rattle.domain_map.specs.declared.protocol.Protocol.TheVariants.{Cipso, Calip
 use Rattle.domain_map.specs.declared.rule.Rule.TheVariants.{Plain}
 use Rattle.domain_map.specs.Domains.{added, find_of}
 use Rattle.command_values.specs.Ranges.{range_below}
-use Rattle.command_forms.specs.declared.command.Command.TheVariants.{MapAdd, ReceiverAdd}
+use Rattle.script_lines.specs.declared.command.Command.TheVariants.{MapAdd, ReceiverAdd}
 use Rattle.node_tables.specs.declared.receiver.Receiver.{Receiver}
 use Rattle.node_tables.specs.declared.reply.Refusal.TheVariants.{DoiUnknown}
 use Rattle.node_tables.specs.Tables.{TableState, fresh}

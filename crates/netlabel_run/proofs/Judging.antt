@@ -5,7 +5,7 @@ use Rattle.mls_label.specs.declared.label.Label.{Label}
 use Rattle.ip_headers.specs.Packet.{ParsedPacket}
 use Rattle.packet_label.specs.declared.denial.Denial.{Denial}
 use Rattle.packet_label.specs.declared.packet.Wire.{Wire}
-use Rattle.command_forms.specs.declared.command.Command.{Command}
+use Rattle.script_lines.specs.declared.command.Command.{Command}
 use Rattle.node_tables.specs.Tables.{TableState}
 use Rattle.node_tables.specs.Effect.{applied}
 use Rattle.node_tables.specs.Steps.{step_applied}

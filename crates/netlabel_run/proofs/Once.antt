@@ -14,7 +14,7 @@ use Rattle.pcap_frames.specs.declared.fault.CaptureFault.{CaptureFault}
 use Rattle.pcap_frames.specs.Capture.{Capture, capture_of}
 use Rattle.netlabel_run.specs.declared.command.Command.{Command}
 use Rattle.netlabel_run.specs.declared.command.Command.TheVariants.{Judge, Check, Show, Agree, Run}
-use Rattle.report_lines.specs.Denial.{verdict_line}
+use Rattle.call_report.specs.Lines.Denial.{verdict_line}
 use Rattle.netlabel_run.specs.Words.{AsksToJudge, AsksToRun, plainly, with_workers, number_named, versions_named, AsksToAgree, without_versions, with_versions, IsAsked}
 use Rattle.netlabel_run.specs.ScriptFile.{script_read, ByAnswer, ByScript, script_stop_status}
 use Rattle.netlabel_run.specs.Judge.{JudgeReport, absent, too_long, judged, JudgeStatus}
@@ -25,7 +25,7 @@ use Rattle.netlabel_run.specs.Run.{AreItsRuns, flow_stage}
 use Rattle.netlabel_run.specs.Commands.{netlabel_says}
 use Rattle.call_report.specs.Event.{Event, packets_limit, capture_event}
 use Rattle.call_report.specs.Stages.{reading_stage}
-use Rattle.report_lines.specs.Script.{script_stop_line}
+use Rattle.call_report.specs.Lines.Script.{script_stop_line}
 use Rattle.flow_run.specs.Input.{flow_input}
 use Rattle.flow_run.specs.Run.{FlowRun}
 use Rattle.script_run.specs.Runs.{plan_of, StatusOr, FlowsStatus}

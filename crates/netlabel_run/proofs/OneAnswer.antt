@@ -4,7 +4,7 @@ use Rattle.std.specs.Prelude.{All}
 use Rattle.flow_lines.specs.declared.flow.FlowLine.{FlowLine}
 use Rattle.label_commands.specs.declared.script.Script.{Script}
 use Rattle.label_commands.specs.declared.stop.ScriptStop.{ScriptStop}
-use Rattle.report_lines.specs.Script.{script_stop_line}
+use Rattle.call_report.specs.Lines.Script.{script_stop_line}
 use Rattle.call_report.specs.Report.{Folder, Versions, Report, late_report}
 use Rattle.call_report.specs.Output.{Output}
 use Rattle.call_report.specs.Event.{packets_limit}

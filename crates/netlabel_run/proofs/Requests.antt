@@ -9,9 +9,9 @@ use Rattle.call_report.specs.declared.status.Status.TheVariants.{Done, NoForm, L
 use Rattle.netlabel_run.specs.Judge.{IsVerdict, JudgeReport, absent, too_long, judged, JudgeStatus, packet_limit}
 use Rattle.netlabel_run.specs.Commands.{netlabel_says}
 use Rattle.call_report.specs.Says.{Says}
-use Rattle.report_lines.specs.Denial.{Verdict, verdict_line}
+use Rattle.call_report.specs.Lines.Denial.{Verdict, verdict_line}
 use Rattle.call_report.specs.Report.{Report, late_report}
-use Rattle.report_lines.specs.Fixed.{packet_limit_line, usage_line}
+use Rattle.call_report.specs.Lines.Fixed.{packet_limit_line, usage_line}
 use Rattle.call_report.specs.Stages.{reading_stage}
 use Rattle.call_report.specs.Outside.{Outside}
 use Rattle.netlabel_run.specs.inside.Ending.{IsOnlyRead, Knows}

@@ -12,7 +12,7 @@ use Rattle.net_io.specs.Faults.{Rose, SameCounts}
 use Rattle.net_io.specs.Sink.{SinkState, WritesPrefix, WritesLess}
 use Rattle.call_report.specs.declared.status.Status.{Status}
 use Rattle.call_report.specs.declared.status.Status.TheVariants.{Done, NoForm, WrongScript, ReadFault, WriteFault, WrongCapture, OutOfMemory, Limit}
-use Rattle.call_report.specs.Numbers.{status_number}
+use Rattle.call_report.specs.Status.{status_number}
 use Rattle.call_report.specs.Report.{Folder, Versions, Report, report_text, late_report}
 use Rattle.call_report.specs.Event.{Event, packets_limit}
 use Rattle.call_report.specs.Output.{Output, IsBegun, IsMade}
@@ -33,7 +33,7 @@ use Rattle.call_report.specs.Says.{Says}
 use Rattle.netlabel_run.specs.ScriptFile.{script_read, script_stop_status, ByAnswer, ByScript}
 use Rattle.netlabel_run.specs.Run.{AreItsRuns, RunMay, flow_stage}
 use Rattle.netlabel_run.specs.Commands.{netlabel_says}
-use Rattle.report_lines.specs.Script.{script_stop_line}
+use Rattle.call_report.specs.Lines.Script.{script_stop_line}
 use Rattle.netlabel_run.specs.inside.Ending.{IsOnlyRead, ReadsScript}
 use Rattle.netlabel_run.proofs.Access.{has_access}
 use Rattle.netlabel_run.proofs.Endings.{front_behind, part_of_line, printed_body}

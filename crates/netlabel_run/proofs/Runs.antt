@@ -11,7 +11,7 @@ use Rattle.net_io.specs.Depot.{SameHeld}
 use Rattle.call_report.specs.Report.{Folder, Versions}
 use Rattle.call_report.specs.Output.{Output}
 use Rattle.call_report.specs.Stages.{Stage, input_in_hand, output_in_hand}
-use Rattle.report_lines.specs.Fixed.{done_line}
+use Rattle.call_report.specs.Lines.Fixed.{done_line}
 use Rattle.flow_run.specs.Input.{flow_input}
 use Rattle.flow_run.specs.Run.{FlowRun, is_judged, goes_on, run_text, run_end, run_output, output_capture}
 use Rattle.script_run.specs.Runs.{plan_of, AreRuns, AreWholeRuns, is_done, last_event}
@@ -21,7 +21,7 @@ use Rattle.call_report.specs.declared.status.Status.{Status}
 use Rattle.call_report.specs.declared.status.Status.TheVariants.{Done, NoForm, WrongScript, ReadFault, WriteFault, WrongCapture, OutOfMemory, Limit}
 use Rattle.call_report.specs.Report.{report_text}
 use Rattle.call_report.specs.Event.{Event}
-use Rattle.call_report.specs.Numbers.{status_number}
+use Rattle.call_report.specs.Status.{status_number}
 use Rattle.netlabel_run.specs.Run.{flow_stage}
 use Rattle.call_report.specs.CallEnds.{IsRefusal}
 

@@ -7,15 +7,15 @@ use Rattle.net_io.specs.Depot.{octets_of}
 use Rattle.net_io.specs.Faults.{Rose, SameCounts}
 use Rattle.net_io.specs.Sink.{SinkState}
 use Rattle.script_lines.specs.declared.stop.LimitName.TheVariants.{Octets}
-use Rattle.line_forms.specs.Form.{with_translations}
+use Rattle.script_lines.specs.Form.{with_translations}
 use Rattle.label_commands.specs.declared.script.Script.{Script}
 use Rattle.label_commands.specs.declared.stop.ScriptStop.{ScriptStop}
 use Rattle.label_commands.specs.declared.stop.ScriptStop.TheVariants as stop
 use Rattle.label_commands.specs.Script.{read_text, IsScriptStop}
-use Rattle.report_lines.specs.Script.{limit_line, script_stop_line}
+use Rattle.call_report.specs.Lines.Script.{limit_line, script_stop_line}
 use Rattle.call_report.specs.declared.status.Status.{Status}
 use Rattle.call_report.specs.declared.status.Status.TheVariants.{WrongScript, Limit}
-use Rattle.call_report.specs.Numbers.{status_number}
+use Rattle.call_report.specs.Status.{status_number}
 use Rattle.call_report.specs.Report.{late_report}
 use Rattle.call_report.specs.Stages.{reading_stage}
 use Rattle.call_report.specs.Outside.{Outside}

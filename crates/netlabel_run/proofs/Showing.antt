@@ -16,9 +16,9 @@ use Rattle.pcap_frames.specs.Record.{Frame, record_size, record_at}
 use Rattle.pcap_frames.specs.Capture.{Capture, Records, go_on, records_at, capture_by, capture_of}
 use Rattle.pcap_frames.specs.Written.{IsWritableFrame, capture_octets}
 use Rattle.pcap_frames.proofs.Law.{records_come_one_behind_another, a_written_capture_reads_back}
-use Rattle.report_lines.specs.Packet.{shown_line, shown_end_line, IsShown}
-use Rattle.report_lines.specs.Capture.{capture_line}
-use Rattle.report_lines.specs.Fixed.{packets_limit_line}
+use Rattle.call_report.specs.Lines.Packet.{shown_line, shown_end_line, IsShown}
+use Rattle.call_report.specs.Lines.Capture.{capture_line}
+use Rattle.call_report.specs.Lines.Fixed.{packets_limit_line}
 use Rattle.netlabel_run.specs.Show.{AreShown, starts_of, lines_report, CaptureReport, ShowReport, capture_status}
 use Rattle.call_report.specs.Event.{Event, packets_limit, capture_event}
 use Rattle.call_report.specs.Report.{Report, late_report}

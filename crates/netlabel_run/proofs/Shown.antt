@@ -20,9 +20,9 @@ use Rattle.netlabel_run.specs.declared.command.Command.{Command}
 use Rattle.netlabel_run.specs.declared.command.Command.TheVariants.{Show}
 use Rattle.call_report.specs.declared.status.Status.{Status}
 use Rattle.call_report.specs.declared.status.Status.TheVariants.{Done, ReadFault, WrongCapture, OutOfMemory, Limit}
-use Rattle.report_lines.specs.Packet.{shown_line, shown_end_line, IsShown}
-use Rattle.report_lines.specs.Capture.{capture_line}
-use Rattle.report_lines.specs.Fixed.{packets_limit_line}
+use Rattle.call_report.specs.Lines.Packet.{shown_line, shown_end_line, IsShown}
+use Rattle.call_report.specs.Lines.Capture.{capture_line}
+use Rattle.call_report.specs.Lines.Fixed.{packets_limit_line}
 use Rattle.call_report.specs.Event.{Event, packets_limit}
 use Rattle.call_report.specs.CallEnds.{CallEnds}
 use Rattle.netlabel_run.specs.Show.{lines_report, CaptureReport, ShowReport, ShowStatus, capture_status, show_says}
@@ -30,7 +30,7 @@ use Rattle.netlabel_run.specs.Commands.{netlabel_says}
 use Rattle.call_report.specs.Report.{Folder, Report, late_report}
 use Rattle.call_report.specs.Stages.{reading_stage}
 use Rattle.call_report.specs.Outside.{Outside}
-use Rattle.call_report.specs.Numbers.{status_number, write_status}
+use Rattle.call_report.specs.Status.{status_number, write_status}
 use Rattle.call_report.specs.Printing.{HandsOn, IsUnderWay, Printed}
 use Rattle.netlabel_run.specs.inside.Stopping.{stop_line, stop_status}
 use Rattle.call_report.proofs.Law.{a_report_begins, a_report_takes_a_text, a_report_goes_on, a_report_breaks, faults_rose_over_a_report, a_report_is_printed}

@@ -2,8 +2,8 @@
 use Rattle.std.specs.Prelude.{ℕ, ◌≡◌, List, [], ◌++◌, length, Option, Some, None, Result, Ok, Err}
 use Rattle.label_commands.specs.declared.script.Script.{Script}
 use Rattle.label_commands.specs.declared.stop.ScriptStop.{ScriptStop}
-use Rattle.reply_lines.specs.Reply.{replies_text}
-use Rattle.report_lines.specs.Script.{ok_line, script_stop_line}
+use Rattle.call_report.specs.Lines.Reply.{replies_text}
+use Rattle.call_report.specs.Lines.Script.{ok_line, script_stop_line}
 use Rattle.call_report.specs.Report.{Report, late_report}
 use Rattle.call_report.specs.Says.{Says, reading_says}
 use Rattle.netlabel_run.specs.ScriptFile.{script_read, script_stop_status}
@@ -28,9 +28,11 @@ abbrev pub script_status : Result Script ScriptStop → ℕ
 script_status (Ok script) = 0
 script_status (Err stop) = script_stop_status stop
 
+-- the status that is due by what the file holds, none where it is absent
 abbrev pub CheckStatus : List ℕ → Option (List ℕ) → ℕ → Type 0
 CheckStatus file None status = ⊥
 CheckStatus file (Some text) status = status ≡ script_status (script_read file text)
 
+-- it reads one file, and prints nothing in front of the read
 abbrev pub check_says : List ℕ → Says
 check_says file = reading_says file (CheckReport file) (CheckStatus file) (Unit {0})

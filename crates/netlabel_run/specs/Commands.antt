@@ -13,6 +13,7 @@ use Rattle.netlabel_run.specs.Show.{show_says}
 use Rattle.netlabel_run.specs.Agree.{agree_says}
 use Rattle.netlabel_run.specs.Run.{run_says}
 
+-- all that is said of each command, and of words that are no form
 abbrev pub netlabel_says : Option Command → Says
 netlabel_says None = usage_says
 netlabel_says (Some (Judge doi level file)) = judge_says doi level file

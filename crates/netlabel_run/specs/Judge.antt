@@ -14,16 +14,16 @@ use Rattle.packet_label.specs.Packet.{IsPacket}
 use Rattle.domain_map.specs.declared.protocol.Protocol.{Protocol}
 use Rattle.domain_map.specs.declared.protocol.Protocol.TheVariants.{Cipso, Calipso}
 use Rattle.command_values.specs.Ranges.{range_below}
-use Rattle.command_forms.specs.declared.command.Command.{Command}
-use Rattle.command_forms.specs.declared.command.Command.TheVariants.{CipsoAddPass, CalipsoAddPass, MapAdd, ReceiverAdd}
+use Rattle.script_lines.specs.declared.command.Command.{Command}
+use Rattle.script_lines.specs.declared.command.Command.TheVariants.{CipsoAddPass, CalipsoAddPass, MapAdd, ReceiverAdd}
 use Rattle.node_tables.specs.Tables.{TableState, fresh}
 use Rattle.node_tables.specs.Effect.{applied}
 use Rattle.label_receive.specs.declared.receiving.Delivered.{Delivered}
 use Rattle.label_receive.specs.Incoming.{address_in}
 use Rattle.label_receive.specs.Receive.{receive_of}
 use Rattle.label_receive.specs.Judged.{IsJudged}
-use Rattle.report_lines.specs.Denial.{Verdict, verdict_line}
-use Rattle.report_lines.specs.Fixed.{packet_limit_line}
+use Rattle.call_report.specs.Lines.Denial.{Verdict, verdict_line}
+use Rattle.call_report.specs.Lines.Fixed.{packet_limit_line}
 use Rattle.call_report.specs.Report.{Report, late_report}
 use Rattle.call_report.specs.Says.{Says, reading_says}
 
@@ -82,9 +82,11 @@ pub data JudgeReport (doi : ℕ) (level : Label) : Option (List ℕ) → Report 
   too_long : (octets : List ℕ) → packet_limit < length octets → JudgeReport doi level (Some octets) (late_report [] packet_limit_line)
   judged : (octets : List ℕ) (verdict : Verdict) → length octets ≤ packet_limit → IsVerdict doi level octets verdict → JudgeReport doi level (Some octets) (late_report (verdict_line verdict) [])
 
+-- 7 for a file that is too long for a packet, else 0, whatever the verdict
 abbrev pub JudgeStatus : Option (List ℕ) → ℕ → Type 0
 JudgeStatus None status = ⊥
 JudgeStatus (Some octets) status = ((packet_limit < length octets) × (status ≡ 7)) ⊎ ((length octets ≤ packet_limit) × (status ≡ 0))
 
+-- it reads one file, and prints nothing in front of the read
 abbrev pub judge_says : ℕ → Label → List ℕ → Says
 judge_says doi level file = reading_says file (JudgeReport doi level) JudgeStatus (Unit {0})

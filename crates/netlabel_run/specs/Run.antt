@@ -7,7 +7,7 @@ use Rattle.call_report.specs.Report.{Folder, Versions, Report, late_report}
 use Rattle.call_report.specs.Event.{packets_limit}
 use Rattle.call_report.specs.Output.{Output}
 use Rattle.call_report.specs.Stages.{Stage, reading_stage}
-use Rattle.report_lines.specs.Script.{script_stop_line}
+use Rattle.call_report.specs.Lines.Script.{script_stop_line}
 use Rattle.flow_access.specs.Access.{HaveAccess}
 use Rattle.flow_run.specs.Input.{packets_in}
 use Rattle.flow_run.specs.Run.{FlowRun}
@@ -43,12 +43,14 @@ RunMay (Ok script) status = (status ≡ 0) ⊎ ((0 < length script.flows) × ((s
 abbrev pub flow_stage : FlowLine → Stage
 flow_stage flow = record { input = Some flow.input; output = flow.output }
 
+-- the script is read first, and then each flow's capture that was begun
 abbrev pub RunStages : List ℕ → Folder → Versions → List Stage → Type 0
 RunStages file held seen stages = ByScript file (held file)
     (stages ≡ reading_stage file ∷ [])
     (λ stop. stages ≡ reading_stage file ∷ [])
     (λ script. stages ≡ reading_stage file ∷ map flow_stage (take (length seen) script.flows))
 
+-- the outputs are made of what the flows came to
 abbrev pub RunOutputs : List ℕ → Folder → Versions → List Output → Type 0
 RunOutputs file held seen outputs = ByScript file (held file)
     (outputs ≡ [])
@@ -62,6 +64,7 @@ RunLawful file workers held seen = ByScript file (held file)
     (λ stop. seen ≡ [])
     (λ script. (runs : List FlowRun) × AreItsRuns script held seen runs × All (IsLawfulRun script workers) runs)
 
+-- each flow came to its end, up to the one that ends the call
 abbrev pub RunWhole : List ℕ → Folder → Versions → Type 0
 RunWhole file held seen = ByScript file (held file)
     (seen ≡ [])

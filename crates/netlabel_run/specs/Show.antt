@@ -5,8 +5,8 @@ use Rattle.std.specs.Option.{option_map_or}
 use Rattle.pcap_frames.specs.declared.fault.CaptureFault.{CaptureFault}
 use Rattle.pcap_frames.specs.Record.{Frame}
 use Rattle.pcap_frames.specs.Capture.{Capture, capture_of}
-use Rattle.report_lines.specs.Packet.{IsShown, shown_line, shown_end_line}
-use Rattle.report_lines.specs.Capture.{capture_line}
+use Rattle.call_report.specs.Lines.Packet.{IsShown, shown_line, shown_end_line}
+use Rattle.call_report.specs.Lines.Capture.{capture_line}
 use Rattle.call_report.specs.Report.{Report, late_report}
 use Rattle.call_report.specs.Event.{Event, packets_limit, capture_event}
 use Rattle.call_report.specs.Says.{Says, reading_says}
@@ -41,9 +41,11 @@ abbrev pub capture_status : Result Capture CaptureFault → ℕ
 capture_status (Err fault) = 5
 capture_status (Ok capture) = option_map_or (λ event. event.status) (capture_event 1 packets_limit capture) 0
 
+-- the status that is due by what the file holds, none where it is absent
 abbrev pub ShowStatus : Option (List ℕ) → ℕ → Type 0
 ShowStatus None status = ⊥
 ShowStatus (Some octets) status = status ≡ capture_status (capture_of octets)
 
+-- it reads one file, and prints while it reads
 abbrev pub show_says : List ℕ → Says
 show_says file = reading_says file ShowReport ShowStatus ⊥

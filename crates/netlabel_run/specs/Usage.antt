@@ -1,9 +1,10 @@
 -- What is said of words that are no form.
 use Rattle.std.specs.Prelude.{◌≡◌, []}
-use Rattle.report_lines.specs.Fixed.{usage_line}
+use Rattle.call_report.specs.Lines.Fixed.{usage_line}
 use Rattle.call_report.specs.Report.{late_report}
 use Rattle.call_report.specs.Says.{Says}
 
+-- words that are no form: the usage line, no file, status 1
 abbrev pub usage_says : Says
 usage_says = record {
   report = λ held seen report. report ≡ late_report [] usage_line;

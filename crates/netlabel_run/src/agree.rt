@@ -5,10 +5,10 @@ ghost use Rattle.std.specs.List.{list_all};
 ghost use Rattle.label_commands.specs.Script.{before};
 ghost use Rattle.label_commands.specs.Sound.{IsSoundScript};
 ghost use Rattle.packet_walk.specs.Walk.{Rises};
-ghost use Rattle.report_lines.specs.Agreement.{bad_versions_line};
+ghost use Rattle.call_report.specs.Lines.Agreement.{bad_versions_line};
 ghost use Rattle.call_report.specs.Outside.{Outside};
 ghost use Rattle.call_report.specs.CallEnds.{CallEnds};
-ghost use Rattle.call_report.specs.Numbers.{status_number};
+ghost use Rattle.call_report.specs.Status.{status_number};
 ghost use Rattle.call_report.specs.Printing.{Printed};
 ghost use Rattle.netlabel_run.specs.declared.command.Command.TheVariants.{Agree};
 ghost use Rattle.netlabel_run.specs.Agree.{flow_numbered, versions_for, AreVersionsOf, AreFound, hops_text, agree_text};
@@ -18,13 +18,14 @@ ghost use Rattle.netlabel_run.specs.inside.Agreeing.{IsAnswered};
 use crate::compare::compare_hops;
 use crate::script::script_of;
 use crate::versions::NamedVersions;
-use call_report::{Report, Status};
+use call_report::{
+    Report, Status, agree_or_disagree, bad_versions, no_flow, write_hops,
+};
 use flow_lines::FlowLine;
 use label_commands::Script;
 use mls_label::OutOfMemory;
 use net_io::{Depot, Sink};
 use node_agreement::Disagree;
-use report_lines::{agree_or_disagree, bad_versions, no_flow, write_hops};
 use std::alloc::Global;
 
 /// Reads a script whole, and compares each two neighbouring hops of its flow of this number, each with the tables of its version. Nothing is

@@ -1,23 +1,22 @@
 //! `check`: what the commands of a script answer, each at its node, and how much the script has.
 
 ghost use Rattle.std.specs.Prelude.{◌++◌, ◌<◌, [], Some, All, length};
-ghost use Rattle.command_forms.specs.declared.command.Step.{Step as StepValue};
+ghost use Rattle.script_lines.specs.declared.command.Step.{Step as StepValue};
 ghost use Rattle.netlabel_run.specs.declared.command.Command.TheVariants.{Check};
-ghost use Rattle.report_lines.specs.Script.{ok_line};
+ghost use Rattle.call_report.specs.Lines.Script.{ok_line};
 ghost use Rattle.netlabel_run.specs.Check.{check_text};
 ghost use Rattle.call_report.specs.Outside.{Outside};
 ghost use Rattle.call_report.specs.CallEnds.{CallEnds};
 ghost use Rattle.netlabel_run.specs.Commands.{netlabel_says};
-ghost use Rattle.call_report.specs.Numbers.{status_number};
+ghost use Rattle.call_report.specs.Status.{status_number};
 ghost use Rattle.call_report.specs.Printing.{Printed};
 
 use crate::script::script_of;
-use call_report::{Report, Status};
+use call_report::{Report, Status, write_ok};
 use label_commands::Script;
 use mls_label::OutOfMemory;
 use net_io::{Depot, Sink};
 use node_tables::Network;
-use report_lines::write_ok;
 use script_run::answer_steps;
 use std::alloc::Global;
 

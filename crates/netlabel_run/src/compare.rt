@@ -1,7 +1,7 @@
 //! Neighbouring hops of a flow compared: whether their nodes give the numbers on the wire one meaning, each with the tables of its version.
 
 ghost use Rattle.std.specs.Prelude.{◌≡◌, ◌<◌, ◌≤◌, ℕ, List, All, length, IfOk, OnOk};
-ghost use Rattle.command_forms.specs.declared.command.Step.{Step as StepValue};
+ghost use Rattle.script_lines.specs.declared.command.Step.{Step as StepValue};
 ghost use Rattle.flow_lines.specs.declared.hop.Hop.{Hop as HopValue};
 ghost use Rattle.flow_lines.specs.Hop.{node_of};
 ghost use Rattle.label_commands.specs.Sound.{IsSoundScript};

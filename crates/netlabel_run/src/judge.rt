@@ -3,19 +3,18 @@
 ghost use Rattle.std.specs.Prelude.{◌≡◌, ◌≤◌, ◌^◌, [], Some, IfOk};
 ghost use Rattle.netlabel_run.specs.declared.command.Command.TheVariants.{Judge};
 ghost use Rattle.netlabel_run.specs.Judge.{IsVerdict};
-ghost use Rattle.report_lines.specs.Denial.{Verdict, verdict_line};
+ghost use Rattle.call_report.specs.Lines.Denial.{Verdict, verdict_line};
 ghost use Rattle.call_report.specs.Outside.{Outside};
 ghost use Rattle.call_report.specs.CallEnds.{CallEnds};
 ghost use Rattle.netlabel_run.specs.Commands.{netlabel_says};
-ghost use Rattle.call_report.specs.Numbers.{status_number};
+ghost use Rattle.call_report.specs.Status.{status_number};
 
 use crate::verdict::judge_packet;
-use call_report::{Report, Status};
+use call_report::{Report, Status, packet_limit, write_verdict};
 use command_values::Doi;
 use label_receive::Room;
 use mls_label::{Label, OutOfMemory};
 use net_io::{Depot, Sink, WholeFault, read_whole};
-use report_lines::{packet_limit, write_verdict};
 use std::alloc::Global;
 
 /// The most octets of a file that is judged: no packet is longer.

@@ -1,7 +1,7 @@
 //! What a call of the program leaves beside the report.
 
 ghost use Rattle.std.specs.Prelude.{◌≡◌, []};
-ghost use Rattle.call_report.specs.Numbers.{status_number};
+ghost use Rattle.call_report.specs.Status.{status_number};
 
 use call_report::{Seen, Status};
 use std::alloc::Global;

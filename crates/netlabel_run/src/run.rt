@@ -5,7 +5,7 @@ ghost use Rattle.call_report.specs.Outside.{Outside};
 ghost use Rattle.flow_lines.specs.declared.flow.FlowLine.{FlowLine};
 ghost use Rattle.label_commands.specs.Sound.{IsSoundScript};
 ghost use Rattle.script_run.specs.Ends.{ScriptEnds};
-ghost use Rattle.call_report.specs.Numbers.{status_number};
+ghost use Rattle.call_report.specs.Status.{status_number};
 ghost use Rattle.call_report.specs.declared.status.Status.{Status as Ending};
 ghost use Rattle.netlabel_run.specs.declared.command.Command.TheVariants.{Run};
 ghost use Rattle.call_report.specs.CallEnds.{CallEnds};

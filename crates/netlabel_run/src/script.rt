@@ -1,8 +1,8 @@
 //! The script in the file that the words name.
 
 ghost use Rattle.std.specs.Prelude.{◌≡◌, [], IfOk, IfErr, Option};
-ghost use Rattle.report_lines.specs.Script.{script_stop_line};
-ghost use Rattle.call_report.specs.Numbers.{status_number};
+ghost use Rattle.call_report.specs.Lines.Script.{script_stop_line};
+ghost use Rattle.call_report.specs.Status.{status_number};
 ghost use Rattle.call_report.specs.Outside.{Outside};
 ghost use Rattle.call_report.specs.Printing.{Printed};
 ghost use Rattle.netlabel_run.specs.declared.command.Command.{Command as Asked};
@@ -11,11 +11,10 @@ ghost use Rattle.netlabel_run.specs.Commands.{netlabel_says};
 ghost use Rattle.netlabel_run.specs.inside.Ending.{HasScript, ReadsScript};
 ghost use Rattle.netlabel_run.specs.inside.Stopping.{script_due};
 
-use call_report::{Report, Status};
+use call_report::{Report, Status, write_script_stop};
 use label_commands::{LimitName, Script, ScriptStop, read_script};
 use mls_label::OutOfMemory;
 use net_io::{Depot, Sink, WholeFault, read_whole};
-use report_lines::write_script_stop;
 use std::alloc::Global;
 
 /// The most octets of a script.

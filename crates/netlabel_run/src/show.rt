@@ -2,20 +2,19 @@
 
 ghost use Rattle.std.specs.Prelude.{◌≡◌, ◌++◌, ◌≤◌, ◌^◌, List, ℕ, [], Some, IfOk};
 ghost use Rattle.netlabel_run.specs.declared.command.Command.TheVariants.{Show};
-ghost use Rattle.report_lines.specs.Packet.{shown_line, shown_end_line, IsShown};
-ghost use Rattle.report_lines.specs.Capture.{capture_line};
+ghost use Rattle.call_report.specs.Lines.Packet.{shown_line, shown_end_line, IsShown};
+ghost use Rattle.call_report.specs.Lines.Capture.{capture_line};
 ghost use Rattle.call_report.specs.Outside.{Outside};
 ghost use Rattle.call_report.specs.CallEnds.{CallEnds};
 ghost use Rattle.netlabel_run.specs.Commands.{netlabel_says};
-ghost use Rattle.call_report.specs.Numbers.{status_number};
+ghost use Rattle.call_report.specs.Status.{status_number};
 ghost use Rattle.call_report.specs.Printing.{HandsOn, Printed};
 ghost use Rattle.netlabel_run.specs.inside.Stopping.{stop_line, stop_status};
 
-use call_report::{Report, Status};
+use call_report::{Report, Status, packets_limit, write_capture, write_packet, write_packets_end};
 use mls_label::{Label, OutOfMemory};
 use net_io::{Depot, IoFault, Sink};
 use pcap_frames::{CaptureFault, FrameStop, Frames};
-use report_lines::{packets_limit, write_capture, write_packet, write_packets_end};
 use std::alloc::Global;
 
 /// The most packets that one call reads.

@@ -11,7 +11,7 @@ use Rattle.doi_table.specs.Definition.{IsDefinition}
 use Rattle.doi_table.specs.Translation.{wire_label, local_label}
 use Rattle.doi_table.specs.Table.{definition_of}
 use Rattle.doi_table.proofs.Law.{wire_labels_are_labels, wire_labels_go_by_numbers, local_labels_go_by_numbers}
-use Rattle.line_forms.specs.Form.{with_ranges, with_translations}
+use Rattle.script_lines.specs.Form.{with_ranges, with_translations}
 use Rattle.node_readings.specs.Reading.{NamedMeanings}
 use Rattle.node_readings.specs.Meaning.{meaning_of}
 use Rattle.node_tables.specs.Tables.{TableState}

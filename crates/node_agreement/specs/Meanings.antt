@@ -6,7 +6,7 @@ use Rattle.doi_table.specs.declared.plan.DoiPlan.{DoiPlan}
 use Rattle.doi_table.specs.Pairs.{flipped}
 use Rattle.doi_table.specs.Definition.{number_in}
 use Rattle.doi_table.specs.Table.{definition_of}
-use Rattle.line_forms.specs.Form.{Edition, with_translations}
+use Rattle.script_lines.specs.Form.{Edition, with_translations}
 use Rattle.node_readings.specs.Reading.{NamedMeanings, meaning_in}
 use Rattle.node_tables.specs.Tables.{TableState}
 

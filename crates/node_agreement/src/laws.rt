@@ -9,7 +9,7 @@ ghost use Rattle.doi_table.specs.declared.plan.DoiPlan.{DoiPlan};
 ghost use Rattle.doi_table.specs.Definition.{IsDefinition};
 ghost use Rattle.doi_table.specs.Translation.{wire_label, local_label};
 ghost use Rattle.doi_table.specs.Table.{definition_of};
-ghost use Rattle.line_forms.specs.Form.{with_ranges, with_translations};
+ghost use Rattle.script_lines.specs.Form.{with_ranges, with_translations};
 ghost use Rattle.node_readings.specs.Reading.{NamedMeanings};
 ghost use Rattle.node_readings.specs.Meaning.{meaning_of};
 ghost use Rattle.node_tables.specs.Tables.{TableState};

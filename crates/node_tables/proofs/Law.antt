@@ -9,9 +9,9 @@ use Rattle.address_text.specs.declared.address.Address.{Address}
 use Rattle.domain_map.specs.declared.protocol.Protocol.{Protocol}
 use Rattle.domain_map.specs.Protocol.{has_doi}
 use Rattle.domain_map.specs.Domains.{Domains, find_of}
-use Rattle.command_forms.specs.declared.command.Command.{Command}
-use Rattle.command_forms.specs.declared.command.Step.{Step}
-use Rattle.command_forms.specs.Bounded.{IsBounded}
+use Rattle.script_lines.specs.declared.command.Command.{Command}
+use Rattle.script_lines.specs.declared.command.Step.{Step}
+use Rattle.script_lines.specs.Bounded.{IsBounded}
 use Rattle.node_tables.specs.declared.reply.Reply.TheVariants.{Done}
 use Rattle.node_tables.specs.Tables.{TableState, fresh}
 use Rattle.node_tables.specs.Coherence.{NamesDefined}

@@ -11,9 +11,9 @@ use Rattle.mls_label.specs.declared.label.Proto.TheVariants as Of
 use Rattle.doi_table.specs.declared.plan.DoiPlan.{DoiPlan}
 use Rattle.doi_table.specs.Table.{definition_of}
 use Rattle.domain_map.specs.Domains.{names_doi_of}
-use Rattle.command_forms.specs.declared.command.Command.{Command}
-use Rattle.command_forms.specs.declared.command.Command.TheVariants.{CipsoAddPass, CipsoAddTrans, CalipsoAddPass, CalipsoAddTrans, CipsoDel, CalipsoDel, CipsoList, CalipsoList, MapAdd, MapDel, MapList, AcceptOn, AcceptOff, UnlblAdd, UnlblDel, UnlblList, ReceiverAdd, ReceiverDel, RangeAdd, RangeDel, PairAdd, PairDel, MgmtVersion, MgmtProtocols}
-use Rattle.command_forms.specs.declared.command.Step.{Step}
+use Rattle.script_lines.specs.declared.command.Command.{Command}
+use Rattle.script_lines.specs.declared.command.Command.TheVariants.{CipsoAddPass, CipsoAddTrans, CalipsoAddPass, CalipsoAddTrans, CipsoDel, CalipsoDel, CipsoList, CalipsoList, MapAdd, MapDel, MapList, AcceptOn, AcceptOff, UnlblAdd, UnlblDel, UnlblList, ReceiverAdd, ReceiverDel, RangeAdd, RangeDel, PairAdd, PairDel, MgmtVersion, MgmtProtocols}
+use Rattle.script_lines.specs.declared.command.Step.{Step}
 use Rattle.node_tables.specs.declared.reply.Refusal.{Refusal}
 use Rattle.node_tables.specs.declared.reply.Refusal.TheVariants.{DoiUnknown}
 use Rattle.node_tables.specs.Tables.{TableState, fresh}

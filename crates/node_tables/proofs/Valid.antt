@@ -23,10 +23,10 @@ use Rattle.domain_map.specs.Domains.{Domain, same_domain}
 use Rattle.domain_map.specs.Statics.{Statics, static_place, static_added, static_deleted}
 use Rattle.command_values.specs.Doi.{is_doi}
 use Rattle.command_values.specs.Pairs.{IsPairWithin}
-use Rattle.command_forms.specs.declared.command.Command.{Command}
-use Rattle.command_forms.specs.declared.command.Command.TheVariants.{CipsoAddPass, CipsoAddTrans, CalipsoAddPass, CalipsoAddTrans, CipsoDel, CalipsoDel, CipsoList, CalipsoList, MapAdd, MapDel, MapList, AcceptOn, AcceptOff, UnlblAdd, UnlblDel, UnlblList, ReceiverAdd, ReceiverDel, RangeAdd, RangeDel, PairAdd, PairDel, MgmtVersion, MgmtProtocols}
-use Rattle.command_forms.specs.declared.command.Step.{Step}
-use Rattle.command_forms.specs.Bounded.{ArePairsBounded, IsBounded}
+use Rattle.script_lines.specs.declared.command.Command.{Command}
+use Rattle.script_lines.specs.declared.command.Command.TheVariants.{CipsoAddPass, CipsoAddTrans, CalipsoAddPass, CalipsoAddTrans, CipsoDel, CalipsoDel, CipsoList, CalipsoList, MapAdd, MapDel, MapList, AcceptOn, AcceptOff, UnlblAdd, UnlblDel, UnlblList, ReceiverAdd, ReceiverDel, RangeAdd, RangeDel, PairAdd, PairDel, MgmtVersion, MgmtProtocols}
+use Rattle.script_lines.specs.declared.command.Step.{Step}
+use Rattle.script_lines.specs.Bounded.{ArePairsBounded, IsBounded}
 use Rattle.node_tables.specs.declared.reply.Refusal.{Refusal}
 use Rattle.node_tables.specs.declared.reply.Refusal.TheVariants.{DoiUnknown, StaticUnknown, ReceiverExists, ReceiverUnknown, RangeExists, RangeUnknown, TableFull}
 use Rattle.node_tables.specs.Refusal.{doi_refusal}

@@ -47,6 +47,7 @@ is_defined definitions Unlbl = true
 is_defined definitions (Cipso doi) = is_some (definition_of definitions Of.Cipso doi)
 is_defined definitions (Calipso doi) = is_some (definition_of definitions Of.Calipso doi)
 
+-- the refusals of a map are those of the command
 abbrev pub refused_map : Result Domains MapFault → Result Domains Refusal
 refused_map (Ok domains) = Ok domains
 refused_map (Err fault) = Err (map_refusal fault)
@@ -56,15 +57,18 @@ abbrev pub entry_added : Entries → Domains → Domain → Option AddressBlock 
 entry_added definitions domains domain block protocol =
     if is_defined definitions protocol then refused_map (added domains domain block protocol) else Err DoiUnknown
 
+-- what is there, or this refusal
 abbrev pub or_refused : {X : Type 0} → Option X → Refusal → Result X Refusal
 or_refused (Some x) why = Ok x
 or_refused None why = Err why
 
+-- an entry is deleted from the map
 abbrev pub entry_deleted : Domains → Domain → Option AddressBlock → Result Domains Refusal
 entry_deleted domains domain block = or_refused (deleted domains domain block) MapUnknown
 
 -- ---- labels of unlabelled packets
 
+-- the refusals of static labels are those of the command
 abbrev pub refused_static : Result Statics StaticFault → Result Statics Refusal
 refused_static (Ok statics) = Ok statics
 refused_static (Err fault) = Err (static_refusal fault)
@@ -73,6 +77,7 @@ refused_static (Err fault) = Err (static_refusal fault)
 abbrev pub label_added : Statics → Domain → AddressBlock → LabelRange → Result Statics Refusal
 label_added statics interface block range = refused_static (static_added statics interface block range.low range.high)
 
+-- a static label is deleted
 abbrev pub label_deleted : Statics → Domain → AddressBlock → Result Statics Refusal
 label_deleted statics interface block = or_refused (static_deleted statics interface block) StaticUnknown
 
@@ -94,6 +99,7 @@ module _ {K V : Type 0} (same : K → K → Bool) where
 abbrev pub receiver_added : Receivers → Address → Receiver → Result Receivers Refusal
 receiver_added = with_entry same_address 256 ReceiverExists
 
+-- a receiver is deleted
 abbrev pub receiver_deleted : Receivers → Address → Result Receivers Refusal
 receiver_deleted = without_entry same_address ReceiverUnknown
 
@@ -101,6 +107,7 @@ receiver_deleted = without_entry same_address ReceiverUnknown
 abbrev pub range_added : Ranges → Domain → LabelRange → Result Ranges Refusal
 range_added = with_entry same_domain 64 RangeExists
 
+-- a range is deleted
 abbrev pub range_deleted : Ranges → Domain → Result Ranges Refusal
 range_deleted = without_entry same_domain RangeUnknown
 
@@ -113,5 +120,6 @@ pair_added pairs four six =
     else if nat_le 256 (length pairs) then Err TableFull
     else Ok (pairs ++ (four, six) ∷ [])
 
+-- a pair of addresses is deleted
 abbrev pub pair_deleted : AddressPairs → List ℕ → Result AddressPairs Refusal
 pair_deleted = without_entry bytes_eq PairUnknown

@@ -6,8 +6,8 @@ use Rattle.mls_label.specs.declared.label.Tag.{Tag}
 use Rattle.mls_range.specs.Range.{LabelRange}
 use Rattle.doi_table.specs.declared.plan.DoiPlan.{DoiPlan}
 use Rattle.doi_table.specs.Table.{definition_of}
-use Rattle.command_forms.specs.declared.command.Command.{Command}
-use Rattle.command_forms.specs.declared.command.Command.TheVariants.{CipsoAddPass, CipsoAddTrans, CalipsoAddPass, CalipsoAddTrans, CipsoDel, CalipsoDel, CipsoList, CalipsoList, MapAdd, MapDel, MapList, AcceptOn, AcceptOff, UnlblAdd, UnlblDel, UnlblList, ReceiverAdd, ReceiverDel, RangeAdd, RangeDel, PairAdd, PairDel, MgmtVersion, MgmtProtocols}
+use Rattle.script_lines.specs.declared.command.Command.{Command}
+use Rattle.script_lines.specs.declared.command.Command.TheVariants.{CipsoAddPass, CipsoAddTrans, CalipsoAddPass, CalipsoAddTrans, CipsoDel, CalipsoDel, CipsoList, CalipsoList, MapAdd, MapDel, MapList, AcceptOn, AcceptOff, UnlblAdd, UnlblDel, UnlblList, ReceiverAdd, ReceiverDel, RangeAdd, RangeDel, PairAdd, PairDel, MgmtVersion, MgmtProtocols}
 use Rattle.node_tables.specs.declared.receiver.Receiver.{Receiver}
 use Rattle.node_tables.specs.declared.reply.Refusal.{Refusal}
 use Rattle.node_tables.specs.declared.reply.Refusal.TheVariants.{DoiUnknown}
@@ -17,6 +17,7 @@ use Rattle.node_tables.specs.Tables.{TableState}
 use Rattle.node_tables.specs.Listing.{definition_line, definition_lines, domain_lines, static_lines, version_lines, protocol_lines}
 use Rattle.node_tables.specs.Change.{definition_added, definition_deleted, entry_added, entry_deleted, label_added, label_deleted, receiver_added, receiver_deleted, range_added, range_deleted, pair_added, pair_deleted}
 
+-- what a command does: tables that it leaves, lines that it lists, or why it is refused
 pub data Effect : Type 0 where
   becomes : TableState → Effect
   lists : List (List ℕ) → Effect
@@ -31,12 +32,15 @@ change_effect (Err why) place = refuses why
 abbrev pub pass_plan : List Tag → DoiPlan
 pass_plan tags = record { trans = false; tags = tags; levels = []; cats = [] }
 
+-- a definition that translates by pairs; without category pairs there are none
 abbrev pub trans_plan : List Tag → List (ℕ × ℕ) → Option (List (ℕ × ℕ)) → DoiPlan
 trans_plan tags levels cats = record { trans = true; tags = tags; levels = levels; cats = unwrap_or cats [] }
 
+-- a definition is added
 abbrev pub definition_effect : TableState → Proto → ℕ → DoiPlan → Effect
 definition_effect t proto doi plan = change_effect (definition_added t.definitions proto doi plan) (λ definitions. record t { definitions = definitions })
 
+-- a definition is deleted
 abbrev pub deletion_effect : TableState → Proto → ℕ → Effect
 deletion_effect t proto doi = change_effect (definition_deleted t.definitions t.domains proto doi) (λ definitions. record t { definitions = definitions })
 
@@ -48,6 +52,7 @@ listing_effect t proto (Some doi) = elim (definition_of t.definitions proto doi)
   | None ↦ refuses DoiUnknown
 ]
 
+-- a receiver of a domain, with the ends of its range
 abbrev pub receiver_of : List ℕ → LabelRange → Receiver
 receiver_of domain range = record { domain = domain; low = range.low; level = range.high }
 
@@ -83,6 +88,7 @@ abbrev pub state_after : TableState → Effect → TableState
 state_after t (becomes new) = new
 state_after t effect = t
 
+-- the reply that tells what a command did
 abbrev pub reply_to : Effect → Reply
 reply_to (becomes new) = Done
 reply_to (lists lines) = Listed lines
@@ -92,5 +98,6 @@ reply_to (refuses why) = Refused why
 abbrev pub applied : TableState → Command → TableState
 applied t command = state_after t (effect_of t command)
 
+-- the reply to a command under these tables
 abbrev pub reply_of : TableState → Command → Reply
 reply_of t command = reply_to (effect_of t command)

@@ -1,7 +1,7 @@
 -- Commands to the nodes of a network, one after another. A network is the list of its nodes' tables.
 use Rattle.std.specs.Prelude.{ℕ, List, take, fold, replicate, slice_get, slice_set, Option, option_map, option_and_then}
 use Rattle.std.specs.Option.{option_map_or}
-use Rattle.command_forms.specs.declared.command.Step.{Step}
+use Rattle.script_lines.specs.declared.command.Step.{Step}
 use Rattle.node_tables.specs.declared.reply.Reply.{Reply}
 use Rattle.node_tables.specs.Tables.{TableState, fresh}
 use Rattle.node_tables.specs.Effect.{applied, reply_of}

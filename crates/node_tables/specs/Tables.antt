@@ -10,6 +10,7 @@ use Rattle.domain_map.specs.Domains.{Domain, Domains, same_domain}
 use Rattle.domain_map.specs.Statics.{Statics}
 use Rattle.node_tables.specs.declared.receiver.Receiver.{Receiver}
 
+-- receivers by address, in order of insertion
 abbrev pub Receivers : Type 0
 Receivers = List (Address × Receiver)
 

@@ -1,7 +1,7 @@
 //! Labels of unlabelled packets by commands.
 
 ghost use Rattle.std.specs.Prelude.{◌≡◌, ◌∷◌, ◌++◌, [], IfOk, OnOk, option_copied, if◌then◌else◌};
-ghost use Rattle.command_forms.specs.declared.command.Command.TheVariants.{AcceptOn, AcceptOff};
+ghost use Rattle.script_lines.specs.declared.command.Command.TheVariants.{AcceptOn, AcceptOff};
 ghost use Rattle.node_tables.specs.Listing.{static_line, static_lines};
 ghost use Rattle.node_tables.specs.Change.{label_added, label_deleted};
 ghost use Rattle.node_tables.specs.inside.Turns.{Turns};
@@ -10,10 +10,10 @@ use crate::key::key_of;
 use crate::list_text::ListText;
 use crate::reply::Refusal;
 use crate::stop::Stop;
-use command_forms::Command;
 use domain_map::{Name, Prefix, StaticFault, StaticMap};
 use mls_label::OutOfMemory;
 use mls_range::{KeptRange, Range};
+use script_lines::Command;
 use std::alloc::Global;
 
 /// Adds the labels of an interface and a prefix that have none.

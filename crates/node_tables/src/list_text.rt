@@ -1,11 +1,11 @@
 //! The lines of a listing.
 
 ghost use Rattle.std.specs.Prelude.{◌≡◌, ◌<◌, ◌≤◌, [], ◌∷◌, ◌++◌, length, take, slice_get, slice_index, Some, OnOk, OnErr};
-ghost use Rattle.command_forms.specs.Command.{command_text};
+ghost use Rattle.script_lines.specs.Command.{command_text};
 ghost use Rattle.node_tables.specs.inside.Pieces.{pieces, AreEnds};
 
-use command_forms::{Command, write_step};
 use mls_label::OutOfMemory;
+use script_lines::{Command, write_step};
 use std::alloc::Global;
 use std::marker::Model;
 

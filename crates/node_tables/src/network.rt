@@ -6,8 +6,8 @@ ghost use Rattle.node_tables.specs.Steps.{step_applied, step_reply};
 
 use crate::reply::Reply;
 use crate::tables::Tables;
-use command_forms::Step;
 use mls_label::OutOfMemory;
+use script_lines::Step;
 use std::alloc::Global;
 use std::marker::Model;
 

@@ -2,11 +2,9 @@
 
 use super::*;
 use address_text::{Address, Name, read_address, read_name};
-use command_forms::{Command, Step, command_of};
 use domain_map::Protocol;
-use line_forms::read_said;
 use mls_label::Proto;
-use script_lines::words_into;
+use script_lines::{Command, Step, command_of, read_said, words_into};
 use std::alloc::Global;
 use std::process::Abort;
 

@@ -28,10 +28,12 @@ pub data Coming : Type 0 where
   from_outside : List ℕ → Coming
   from_hop : Carrier → ParsedPacket Wire → Coming
 
+-- the octets that come to the hop
 abbrev pub octets_in : Coming → List ℕ
 octets_in (from_outside octets) = octets
 octets_in (from_hop carrier packet) = packet_octets (written packet)
 
+-- what carries the label of what comes, if the hop in front wrote it
 abbrev pub carrier_in : Coming → Carrier
 carrier_in (from_outside octets) = Unlabelled
 carrier_in (from_hop carrier packet) = carrier

@@ -7,13 +7,11 @@ ghost use Rattle.shared_tables.specs.Plan.{network_after};
 
 use super::*;
 use address_text::{read_name, write_address};
-use command_forms::{Step, command_of};
 use flow_lines::{FlowLine, Flows, NodeNames, read_flow};
-use line_forms::read_said;
 use mls_range::write_label;
 use node_tables::Network;
 use packet_label::Carrier;
-use script_lines::words_into;
+use script_lines::{Step, command_of, read_said, words_into};
 use shared_tables::{Board, Plan, Publisher, Viewer};
 use std::alloc::Global;
 use std::process::Abort;

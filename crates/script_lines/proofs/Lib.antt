@@ -1,4 +1,13 @@
 pub mod Splits
 pub mod TextLines
 pub mod LineWords
+pub mod Rows
+pub mod Apart
+pub mod Kept
+pub mod Commands
+pub mod Complete
+pub mod Joined
+pub mod Dark
+pub mod Returned
+pub mod Bounded
 pub mod Law

@@ -1,3 +1,10 @@
 pub mod Octet
 pub mod Word
 pub mod Stop
+pub mod Form
+pub mod Fields
+pub mod Said
+pub mod Value
+pub mod Command
+pub mod Bounded
+pub mod inside

@@ -13,6 +13,7 @@ abbrev pub placed : ℕ → List (List ℕ) → List LineWord
 placed place [] = []
 placed place (text ∷ texts) = (record { at = place; text = text }) ∷ placed (place + length text + 1) texts
 
+-- the text is not empty
 abbrev pub has_octets : List ℕ → Bool
 has_octets [] = false
 has_octets (octet ∷ octets) = true
@@ -27,6 +28,7 @@ abbrev pub words_from : ℕ → List ℕ → List LineWord
 words_from place text =
     take_while (λ word. not (begins_comment word.text)) (filter (λ word. has_octets word.text) (placed place (slice_split is_blank text)))
 
+-- the words of a whole line
 abbrev pub words_of_line : List ℕ → List LineWord
 words_of_line line = words_from 0 line
 

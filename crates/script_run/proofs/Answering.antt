@@ -5,7 +5,7 @@ use Rattle.std.proofs.lemmas.List.{append-nil}
 use Rattle.std.proofs.lemmas.Option.{none-some, slice_get_within, get_or_from_slice_get, slice_get-get_or, unwrap_or-slice_get}
 use Rattle.net_io.specs.declared.fault.IoFault.{IoFault}
 use Rattle.net_io.specs.Sink.{SinkState}
-use Rattle.command_forms.specs.declared.command.Step.{Step}
+use Rattle.script_lines.specs.declared.command.Step.{Step}
 use Rattle.node_tables.specs.declared.reply.Reply.{Reply}
 use Rattle.node_tables.specs.Tables.{TableState, fresh}
 use Rattle.node_tables.specs.Effect.{reply_of}
@@ -13,8 +13,9 @@ use Rattle.node_tables.specs.Steps.{step_applied, step_reply, reply_at, tables_a
 use Rattle.node_tables.proofs.Law.{steps_apply_one_by_one, nodes_keep_their_number}
 use Rattle.shared_tables.specs.Plan.{PlanState, reply_after}
 use Rattle.label_flow.specs.Round.{AreReplies}
-use Rattle.reply_lines.specs.Reply.{reply_text, name_at, reply_line_at, replies_text}
-use Rattle.reply_lines.proofs.Law.{no_steps_have_no_replies, replies_come_one_by_one, a_step_is_answered_at_its_node}
+use Rattle.call_report.specs.Lines.Parts.{name_at}
+use Rattle.call_report.specs.Lines.Reply.{reply_text, reply_line_at, replies_text}
+use Rattle.call_report.proofs.Law.{no_steps_have_no_replies, replies_come_one_by_one, a_step_is_answered_at_its_node}
 use Rattle.call_report.specs.Printing.{HandsOn}
 use Rattle.call_report.proofs.Law.{texts_join, nothing_is_handed_on, a_failing_text_fails_with_more}
 

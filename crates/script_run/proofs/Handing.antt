@@ -7,7 +7,7 @@ use Rattle.net_io.specs.Faults.{Rose}
 use Rattle.net_io.specs.Sink.{SinkState, WritesPrefix}
 use Rattle.call_report.specs.declared.status.Status.{Status}
 use Rattle.call_report.specs.declared.status.Status.TheVariants.{OutOfMemory, WriteFault}
-use Rattle.call_report.specs.Numbers.{write_status}
+use Rattle.call_report.specs.Status.{write_status}
 use Rattle.call_report.specs.Printing.{Breaks, HandsOn, IsUnderWay, Printed}
 use Rattle.call_report.proofs.Law.{a_report_goes_on, a_failing_text_ends_a_report, a_failing_part_is_a_failing_whole, a_report_is_printed, a_whole_text_is_a_front}
 

@@ -10,7 +10,7 @@ use Rattle.net_io.specs.Sink.{SinkState}
 use Rattle.label_commands.specs.declared.script.Script.{Script}
 use Rattle.label_commands.specs.Script.{before}
 use Rattle.flow_lines.specs.declared.flow.FlowLine.{FlowLine}
-use Rattle.report_lines.specs.Fixed.{done_line}
+use Rattle.call_report.specs.Lines.Fixed.{done_line}
 use Rattle.call_report.specs.declared.status.Status.{Status}
 use Rattle.call_report.specs.declared.status.Status.TheVariants.{Done, OutOfMemory}
 use Rattle.call_report.specs.Report.{Versions}

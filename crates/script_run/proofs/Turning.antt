@@ -13,9 +13,9 @@ use Rattle.net_io.specs.Sink.{SinkState}
 use Rattle.node_tables.specs.Tables.{TableState}
 use Rattle.node_tables.specs.declared.reply.Reply.{Reply}
 use Rattle.node_tables.specs.Steps.{tables_after}
-use Rattle.reply_lines.specs.Reply.{replies_text}
-use Rattle.report_lines.specs.Fixed.{done_line, packets_limit_line}
-use Rattle.report_lines.specs.Capture.{capture_line}
+use Rattle.call_report.specs.Lines.Reply.{replies_text}
+use Rattle.call_report.specs.Lines.Fixed.{done_line, packets_limit_line}
+use Rattle.call_report.specs.Lines.Capture.{capture_line}
 use Rattle.pcap_frames.specs.declared.fault.CaptureFault.{CaptureFault}
 use Rattle.flow_lines.specs.declared.flow.FlowLine.{FlowLine}
 use Rattle.label_commands.specs.declared.script.Script.{Script}
@@ -23,7 +23,7 @@ use Rattle.label_commands.specs.Script.{before}
 use Rattle.label_commands.specs.Sound.{IsSoundScript}
 use Rattle.call_report.specs.declared.status.Status.{Status}
 use Rattle.call_report.specs.declared.status.Status.TheVariants.{ReadFault, WriteFault, WrongCapture, OutOfMemory, Limit}
-use Rattle.call_report.specs.Numbers.{write_status}
+use Rattle.call_report.specs.Status.{write_status}
 use Rattle.call_report.specs.Report.{Versions}
 use Rattle.call_report.specs.Event.{Event}
 use Rattle.call_report.specs.Outside.{Outside, NoneFailed, NoWriteFailed}

@@ -4,8 +4,8 @@ use Rattle.std.specs.List.{concat, filter_map}
 use Rattle.std.specs.Option.{option_map_or}
 use Rattle.label_commands.specs.declared.script.Script.{Script}
 use Rattle.label_commands.specs.Script.{before}
-use Rattle.reply_lines.specs.Reply.{replies_text}
-use Rattle.report_lines.specs.Fixed.{done_line}
+use Rattle.call_report.specs.Lines.Reply.{replies_text}
+use Rattle.call_report.specs.Lines.Fixed.{done_line}
 use Rattle.call_report.specs.Report.{Report}
 use Rattle.call_report.specs.Output.{Output}
 use Rattle.flow_run.specs.Run.{FlowRun, goes_on, run_text, run_end, run_output}

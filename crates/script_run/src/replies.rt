@@ -1,17 +1,16 @@
 //! Replies to steps, handed on one by one.
 
 ghost use Rattle.std.specs.Prelude.{◌≡◌, ◌+◌, ◌<◌, ◌≤◌, All, Some, length, OnOk};
-ghost use Rattle.command_forms.specs.declared.command.Step.{Step as StepValue};
+ghost use Rattle.script_lines.specs.declared.command.Step.{Step as StepValue};
 ghost use Rattle.node_tables.specs.Steps.{reply_at, tables_after};
 ghost use Rattle.label_flow.specs.Round.{AreReplies};
-ghost use Rattle.reply_lines.specs.Reply.{reply_line_at, reply_text, replies_text};
+ghost use Rattle.call_report.specs.Lines.Reply.{reply_line_at, reply_text, replies_text};
 ghost use Rattle.call_report.specs.Printing.{HandsOn};
 
-use call_report::{OutOfMemory, Report};
+use call_report::{OutOfMemory, Report, write_reply};
 use label_commands::{Name, Step};
 use net_io::{IoFault, Sink};
 use node_tables::{Network, Reply};
-use reply_lines::write_reply;
 
 /// Carries out the first `upto` steps, one after the other, and hands on what each answers.
 pub fn answer_steps<S: Sink>(

@@ -1,8 +1,8 @@
 //! What comes behind a flow's packets.
 
 ghost use Rattle.std.specs.Prelude.{◌≤◌, ◌<◌, [], All, length, Err};
-ghost use Rattle.command_forms.specs.declared.command.Step.{Step as StepValue};
-ghost use Rattle.report_lines.specs.Capture.{capture_line};
+ghost use Rattle.script_lines.specs.declared.command.Step.{Step as StepValue};
+ghost use Rattle.call_report.specs.Lines.Capture.{capture_line};
 ghost use Rattle.call_report.specs.declared.status.Status.TheVariants.{WrongCapture};
 ghost use Rattle.call_report.specs.Printing.{Printed};
 ghost use Rattle.flow_run.specs.declared.end.FlowEnd.TheVariants.{Stopped};
@@ -11,12 +11,11 @@ ghost use Rattle.flow_run.specs.Ends.{HasSteps};
 ghost use Rattle.script_run.specs.inside.Turn.{IsTurnEnd, IsTurnEndAt};
 
 use crate::replies::hand_on_replies;
-use call_report::{OutOfMemory, Report, Status};
+use call_report::{OutOfMemory, Report, Status, packets_limit, write_capture};
 use flow_run::{FlowEnd, FlowPlace, FlowStop};
 use net_io::Sink;
 use node_tables::Network;
 use pcap_frames::CaptureFault;
-use report_lines::{packets_limit, write_capture};
 use std::alloc::Global;
 
 /// What the next flow begins with.

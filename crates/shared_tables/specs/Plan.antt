@@ -1,6 +1,6 @@
 -- A plan, and what its first steps make of the nodes.
 use Rattle.std.specs.Prelude.{ℕ, List, Option}
-use Rattle.command_forms.specs.declared.command.Step.{Step}
+use Rattle.script_lines.specs.declared.command.Step.{Step}
 use Rattle.node_tables.specs.declared.reply.Reply.{Reply}
 use Rattle.node_tables.specs.Tables.{TableState}
 use Rattle.node_tables.specs.Steps.{tables_after, reply_at}

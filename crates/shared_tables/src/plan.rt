@@ -3,8 +3,8 @@
 ghost use Rattle.std.specs.Prelude.{◌≡◌, ◌^◌, ◌<◌, ◌≤◌, length, slice_get, IfOk, All, Some};
 ghost use Rattle.std.specs.Arc.{arc_value};
 
-use command_forms::Step;
 use mls_label::OutOfMemory;
+use script_lines::Step;
 use std::alloc::Global;
 use std::marker::Model;
 use std::sync::Arc;

@@ -5,11 +5,9 @@ ghost use Rattle.std.specs.Arc.{arc_value};
 ghost use Rattle.shared_tables.specs.Plan.{network_after};
 
 use super::*;
-use command_forms::{Command, Step, command_of};
-use line_forms::read_said;
 use mls_label::Proto;
 use node_tables::{Network, Reply};
-use script_lines::words_into;
+use script_lines::{Command, Step, command_of, read_said, words_into};
 use std::alloc::Global;
 use std::process::Abort;
 use std::sync::{Arc, Wait};

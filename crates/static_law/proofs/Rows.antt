@@ -11,7 +11,7 @@ use Rattle.mls_range.proofs.Law.{dominance_computes}
 use Rattle.address_text.specs.declared.address.Address.TheVariants.{V4}
 use Rattle.address_text.specs.Prefix.{AddressBlock}
 use Rattle.domain_map.specs.Statics.{static_added}
-use Rattle.command_forms.specs.declared.command.Command.TheVariants.{AcceptOn, AcceptOff, UnlblAdd, RangeAdd}
+use Rattle.script_lines.specs.declared.command.Command.TheVariants.{AcceptOn, AcceptOff, UnlblAdd, RangeAdd}
 use Rattle.node_readings.specs.Meaning.{meaning_of, MeansDominates}
 use Rattle.node_readings.proofs.Law.{meaning_follows_dominance}
 use Rattle.node_tables.specs.Tables.{TableState, fresh}

@@ -1,7 +1,7 @@
 //! What the definitions are worth, whatever the code does.
 
 ghost use Rattle.std.specs.Prelude.{ℕ, List, length, All};
-ghost use Rattle.line_forms.specs.Form.{Edition};
+ghost use Rattle.script_lines.specs.Form.{Edition};
 ghost use Rattle.flow_lines.specs.declared.hop.Hop.{Hop};
 ghost use Rattle.flow_lines.specs.declared.flow.FlowLine.{FlowLine};
 ghost use Rattle.node_readings.specs.Reading.{NamedMeanings};

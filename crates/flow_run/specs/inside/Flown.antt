@@ -15,7 +15,7 @@ use Rattle.label_flow.specs.Pair.{PairState}
 use Rattle.label_flow.specs.Feed.{AreBegun, AreWhole}
 use Rattle.label_flow.specs.Walked.{AreWalked}
 use Rattle.label_flow.specs.Schedule.{AreLawful, versions_in}
-use Rattle.report_lines.specs.Flow.{flow_line, flow_end_line}
+use Rattle.call_report.specs.Lines.Flow.{flow_line, flow_end_line}
 use Rattle.call_report.specs.Outside.{Outside}
 use Rattle.flow_run.specs.declared.end.FlowPlace.{FlowPlace}
 use Rattle.flow_run.specs.declared.end.FlowEnd.{FlowEnd}

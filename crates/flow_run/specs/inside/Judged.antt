@@ -1,6 +1,6 @@
 -- What a judged packet gives to the report and to the output.
 use Rattle.std.specs.Prelude.{List, ℕ}
-use Rattle.report_lines.specs.Flow.{walked_line}
+use Rattle.call_report.specs.Lines.Flow.{walked_line}
 use Rattle.flow_run.specs.declared.end.FlowPlace.{FlowPlace}
 use Rattle.flow_run.specs.declared.judged.Judged.{Judged}
 use Rattle.flow_run.specs.inside.Output.{frame_of}

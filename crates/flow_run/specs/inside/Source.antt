@@ -7,8 +7,8 @@ use Rattle.pcap_frames.specs.Record.{Frame}
 use Rattle.pcap_frames.specs.Capture.{Capture, Records, records_at, capture_of}
 use Rattle.pcap_frames.specs.Reader.{Reader, IsReady}
 use Rattle.packet_walk.specs.declared.packet.PacketIn.{PacketIn}
-use Rattle.report_lines.specs.Capture.{capture_line}
-use Rattle.report_lines.specs.Fixed.{packets_limit_line}
+use Rattle.call_report.specs.Lines.Capture.{capture_line}
+use Rattle.call_report.specs.Lines.Fixed.{packets_limit_line}
 use Rattle.call_report.specs.Event.{Event, capture_event}
 use Rattle.flow_run.specs.Input.{packet_in}
 use Rattle.flow_run.specs.declared.end.FlowStop.{FlowStop}

@@ -1,9 +1,7 @@
 //! Gateways, by the commands that were given to them.
 
-use command_forms::{Step, command_of};
-use line_forms::read_said;
 use node_tables::Network;
-use script_lines::words_into;
+use script_lines::{Step, command_of, read_said, words_into};
 use std::alloc::Global;
 use std::process::Abort;
 

@@ -4,7 +4,7 @@ use Rattle.net_io.specs.Sink.{SinkState}
 use Rattle.label_commands.specs.declared.script.Script.{Script}
 use Rattle.call_report.specs.declared.status.Status.{Status}
 use Rattle.call_report.specs.declared.status.Status.TheVariants.{OutOfMemory}
-use Rattle.call_report.specs.Numbers.{status_number}
+use Rattle.call_report.specs.Status.{status_number}
 use Rattle.call_report.specs.Printing.{Printed}
 use Rattle.call_report.specs.Report.{late_report}
 use Rattle.netlabel_run.specs.Agree.{AgreeAnswer}

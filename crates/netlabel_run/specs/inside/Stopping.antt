@@ -6,7 +6,7 @@ use Rattle.call_report.specs.declared.status.Status.{Status}
 use Rattle.call_report.specs.declared.status.Status.TheVariants.{WrongScript, WrongCapture, ReadFault, OutOfMemory, Limit}
 use Rattle.label_commands.specs.declared.stop.ScriptStop.{ScriptStop}
 use Rattle.label_commands.specs.declared.stop.ScriptStop.TheVariants as script
-use Rattle.report_lines.specs.Capture.{capture_line}
+use Rattle.call_report.specs.Lines.Capture.{capture_line}
 
 abbrev pub stop_status : FrameStop → Status
 stop_status (stop.Capture fault) = WrongCapture

@@ -2,17 +2,17 @@
 use Rattle.std.specs.Prelude.{ℕ, ◌≡◌, ◌-◌, List, [], length, Result, Ok, Err}
 use Rattle.net_io.specs.declared.fault.IoFault.{IoFault}
 use Rattle.net_io.specs.Sink.{SinkState}
-use Rattle.command_forms.specs.declared.command.Step.{Step}
+use Rattle.script_lines.specs.declared.command.Step.{Step}
 use Rattle.label_commands.specs.declared.script.Script.{Script}
 use Rattle.label_commands.specs.Script.{before}
 use Rattle.node_tables.specs.Tables.{TableState}
 use Rattle.node_tables.specs.Steps.{tables_after}
-use Rattle.reply_lines.specs.Reply.{replies_text}
-use Rattle.report_lines.specs.Capture.{capture_line}
-use Rattle.report_lines.specs.Fixed.{packets_limit_line}
+use Rattle.call_report.specs.Lines.Reply.{replies_text}
+use Rattle.call_report.specs.Lines.Capture.{capture_line}
+use Rattle.call_report.specs.Lines.Fixed.{packets_limit_line}
 use Rattle.call_report.specs.declared.status.Status.{Status}
 use Rattle.call_report.specs.declared.status.Status.TheVariants.{ReadFault, WriteFault, WrongCapture, OutOfMemory, Limit}
-use Rattle.call_report.specs.Numbers.{write_status}
+use Rattle.call_report.specs.Status.{write_status}
 use Rattle.call_report.specs.Printing.{HandsOn, IsUnderWay, Printed}
 use Rattle.flow_run.specs.declared.end.FlowPlace.{FlowPlace}
 use Rattle.flow_run.specs.declared.end.FlowEnd.{FlowEnd}

@@ -2,9 +2,9 @@ use Rattle.std.proofs.Common.{◌≡◌, ℕ, true, false, List, Option, Some, N
 use Rattle.script_lines.specs.declared.stop.LineStop.{LineStop}
 use Rattle.script_lines.specs.Word.{LineWord}
 use Rattle.script_lines.specs.Stop.{IsStopOf}
-use Rattle.line_forms.specs.declared.said.Said.{Said}
-use Rattle.line_forms.specs.Form.{with_translations, line_rows}
-use Rattle.line_forms.specs.Said.{read_said}
+use Rattle.script_lines.specs.declared.said.Said.{Said}
+use Rattle.script_lines.specs.Form.{with_translations, line_rows}
+use Rattle.script_lines.specs.Said.{read_said}
 use Rattle.label_commands.specs.Line.{behind_tool, read_led}
 use Rattle.label_commands.proofs.line.read_led.Goals as goal
 

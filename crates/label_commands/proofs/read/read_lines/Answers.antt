@@ -1,5 +1,5 @@
 use Rattle.std.proofs.Common.{◌∙◌, arith}
-use Rattle.line_forms.specs.Form.{with_translations}
+use Rattle.script_lines.specs.Form.{with_translations}
 use Rattle.label_commands.proofs.Adds.{line_adds}
 use Rattle.label_commands.proofs.Walk.{line_goes, steps_grow}
 use Rattle.label_commands.proofs.read.read_lines.Goals as goal

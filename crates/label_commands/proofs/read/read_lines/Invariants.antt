@@ -1,6 +1,6 @@
 use Rattle.std.proofs.Common.{◌≡◌, ◌<◌, ◌≤◌, length}
 use Rattle.std.specs.Str.Lines.{lines}
-use Rattle.line_forms.specs.Form.{with_translations}
+use Rattle.script_lines.specs.Form.{with_translations}
 use Rattle.label_commands.specs.Above.{nothing_above}
 use Rattle.label_commands.specs.Script.{read_lines}
 use Rattle.label_commands.proofs.read.read_lines.Given as goal

@@ -1,6 +1,6 @@
 use Rattle.std.proofs.Common.{subst, [], Some}
 use Rattle.net_io.specs.Sink.{SinkState}
-use Rattle.line_forms.specs.Form.{with_translations}
+use Rattle.script_lines.specs.Form.{with_translations}
 use Rattle.label_commands.proofs.Law.{scripts_are_sound}
 use Rattle.call_report.specs.declared.status.Status.TheVariants.{Done}
 use Rattle.call_report.specs.Outside.{Outside}

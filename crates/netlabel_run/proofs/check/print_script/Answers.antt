@@ -1,7 +1,7 @@
 use Rattle.std.proofs.Common.{[], length, sym, ◌∙◌}
 use Rattle.node_tables.proofs.Law.{nodes_begin_fresh}
-use Rattle.reply_lines.specs.Reply.{replies_text}
-use Rattle.report_lines.specs.Script.{ok_line}
+use Rattle.call_report.specs.Lines.Reply.{replies_text}
+use Rattle.call_report.specs.Lines.Script.{ok_line}
 use Rattle.call_report.specs.declared.status.Status.TheVariants.{Done}
 use Rattle.call_report.proofs.Law.{a_text_begins_a_report, a_failing_text_ends_a_report}
 use Rattle.netlabel_run.proofs.check.print_script.Goals as goal

@@ -3,8 +3,8 @@ use Rattle.std.specs.Prelude.{Contains}
 use Rattle.std.proofs.lemmas.List.{append-nil}
 use Rattle.netlabel_run.specs.declared.command.Command.TheVariants.{Judge}
 use Rattle.call_report.specs.declared.status.Status.TheVariants.{Done, Limit}
-use Rattle.report_lines.specs.Denial.{verdict_line}
-use Rattle.report_lines.specs.Fixed.{packet_limit_line}
+use Rattle.call_report.specs.Lines.Denial.{verdict_line}
+use Rattle.call_report.specs.Lines.Fixed.{packet_limit_line}
 use Rattle.call_report.specs.Stages.{reading_stage}
 use Rattle.call_report.specs.Outside.{Outside}
 use Rattle.netlabel_run.proofs.Endings.{ends_printed, ends_unread, ends_unprinted}

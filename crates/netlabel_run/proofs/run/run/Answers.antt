@@ -1,11 +1,11 @@
 use Rattle.std.proofs.Common.{ℕ, subst, sym, ap, [], Some}
 use Rattle.net_io.specs.Depot.{DepotState}
 use Rattle.net_io.specs.Sink.{SinkState}
-use Rattle.line_forms.specs.Form.{with_translations}
+use Rattle.script_lines.specs.Form.{with_translations}
 use Rattle.label_commands.proofs.Law.{scripts_are_sound}
 use Rattle.call_report.specs.Outside.{Outside}
 use Rattle.call_report.specs.Report.{Versions}
-use Rattle.call_report.specs.Numbers.{status_number}
+use Rattle.call_report.specs.Status.{status_number}
 use Rattle.script_run.specs.Ends.{ScriptEnds}
 use Rattle.netlabel_run.specs.declared.command.Command.TheVariants.{Run}
 use Rattle.call_report.specs.CallEnds.{CallEnds}

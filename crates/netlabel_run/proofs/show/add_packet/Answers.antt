@@ -1,5 +1,5 @@
 use Rattle.netlabel_run.proofs.Answer.{frame_text, line_some}
-use Rattle.report_lines.specs.Packet.{shown_line}
+use Rattle.call_report.specs.Lines.Packet.{shown_line}
 use Rattle.call_report.proofs.Law.{no_memory_for_a_line}
 use Rattle.netlabel_run.proofs.show.add_packet.Goals as goal
 

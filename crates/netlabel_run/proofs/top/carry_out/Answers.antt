@@ -1,6 +1,6 @@
 use Rattle.std.proofs.Common.{[], None, refl}
 use Rattle.call_report.specs.declared.status.Status.TheVariants.{NoForm}
-use Rattle.report_lines.specs.Fixed.{usage_line}
+use Rattle.call_report.specs.Lines.Fixed.{usage_line}
 use Rattle.call_report.specs.Outside.{Outside}
 use Rattle.netlabel_run.proofs.Endings.{ends_printed}
 use Rattle.netlabel_run.proofs.Requests.{knows_usage, usage_due}

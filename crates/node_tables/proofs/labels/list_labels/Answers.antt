@@ -1,8 +1,8 @@
 use Rattle.std.proofs.Common.{[], ◌∷◌, ◌++◌, ap, ◌∙◌, if◌then◌else◌}
 use Rattle.std.specs.Prelude.{option_copied}
 use Rattle.domain_map.specs.declared.static_map.StaticEntry.{StaticEntry}
-use Rattle.command_forms.specs.Command.{command_text}
-use Rattle.command_forms.specs.declared.command.Command.TheVariants.{AcceptOn, AcceptOff}
+use Rattle.script_lines.specs.Command.{command_text}
+use Rattle.script_lines.specs.declared.command.Command.TheVariants.{AcceptOn, AcceptOff}
 use Rattle.node_tables.specs.Listing.{static_line}
 use Rattle.node_tables.proofs.Listings.{listed_next}
 use Rattle.node_tables.proofs.labels.list_labels.Goals as goal

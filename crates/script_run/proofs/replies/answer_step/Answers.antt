@@ -2,8 +2,8 @@ use Rattle.std.proofs.Common.{◌≡◌, ◌<◌, length, refl, arith, Some}
 use Rattle.std.specs.Prelude.{slice_get}
 use Rattle.std.proofs.lemmas.Option.{slice_get_read}
 use Rattle.call_report.proofs.Law.{no_memory_for_a_line}
-use Rattle.command_forms.specs.declared.command.Step.{Step}
-use Rattle.reply_lines.specs.Reply.{reply_line_at}
+use Rattle.script_lines.specs.declared.command.Step.{Step}
+use Rattle.call_report.specs.Lines.Reply.{reply_line_at}
 use Rattle.script_run.proofs.Answering.{at_place, one_on, as_many, given_by, line_some, on_ok_of}
 use Rattle.script_run.proofs.replies.answer_step.Goals as goal
 

@@ -1,6 +1,6 @@
 use Rattle.std.proofs.Common.{◌≡◌, ◌+◌, ap, arith}
 use Rattle.std.proofs.lemmas.Result.{err_from_is_err_and}
-use Rattle.reply_lines.specs.Reply.{reply_line_at}
+use Rattle.call_report.specs.Lines.Reply.{reply_line_at}
 use Rattle.script_run.proofs.Answering.{replying_start, replying_all, replying_next, replying_fails}
 use Rattle.script_run.proofs.replies.answer_steps.Goals as goal
 

@@ -1,5 +1,5 @@
 use Rattle.call_report.proofs.Law.{no_memory_for_a_line}
-use Rattle.reply_lines.specs.Reply.{reply_text}
+use Rattle.call_report.specs.Lines.Reply.{reply_text}
 use Rattle.script_run.proofs.Answering.{reply_some}
 use Rattle.script_run.proofs.replies.hand_on.Goals as goal
 

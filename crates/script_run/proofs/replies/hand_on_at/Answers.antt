@@ -1,8 +1,8 @@
 use Rattle.std.proofs.Common.{◌≡◌, ◌<◌, ◌+◌, [], length, refl, ap, sym, ◌∙◌, Some}
 use Rattle.std.specs.Prelude.{slice_get, unwrap_or}
 use Rattle.std.proofs.lemmas.Option.{slice_get_read}
-use Rattle.command_forms.specs.declared.command.Step.{Step}
-use Rattle.reply_lines.specs.Reply.{reply_text, reply_line_at}
+use Rattle.script_lines.specs.declared.command.Step.{Step}
+use Rattle.call_report.specs.Lines.Reply.{reply_text, reply_line_at}
 use Rattle.script_run.proofs.Answering.{at_place, answered}
 use Rattle.script_run.proofs.replies.hand_on_at.Goals as goal
 

@@ -2,7 +2,7 @@ use Rattle.std.proofs.Common.{◌≡◌, ◌+◌, length, refl, arith, Some}
 use Rattle.std.specs.Prelude.{slice_get}
 use Rattle.std.proofs.lemmas.Option.{slice_get_read}
 use Rattle.std.proofs.lemmas.Result.{err_from_is_err_and}
-use Rattle.reply_lines.specs.Reply.{reply_line_at}
+use Rattle.call_report.specs.Lines.Reply.{reply_line_at}
 use Rattle.script_run.proofs.Answering.{given_at, replying_start, replying_all, replying_next, replying_fails}
 use Rattle.script_run.proofs.replies.hand_on_replies.Goals as goal
 

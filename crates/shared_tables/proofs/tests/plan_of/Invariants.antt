@@ -1,5 +1,5 @@
 use Rattle.std.proofs.Common.{◌≡◌, ◌<◌, All, length}
-use Rattle.command_forms.specs.declared.command.Step.{Step}
+use Rattle.script_lines.specs.declared.command.Step.{Step}
 use Rattle.shared_tables.proofs.tests.plan_of.Given as goal
 
 abbrev pub invariant-loop-line : goal.invariant-loop-line

@@ -1,6 +1,6 @@
 use Rattle.std.proofs.Common.{arith, subst, List, ℕ, [], ◌∷◌, ◌++◌, ◌≡◌}
 use Rattle.std.specs.Prelude.{OnOk}
-use Rattle.command_forms.specs.Command.{command_text}
+use Rattle.script_lines.specs.Command.{command_text}
 use Rattle.node_tables.specs.inside.Pieces.{pieces}
 use Rattle.node_tables.proofs.Lines.{line_kept, line_added}
 use Rattle.node_tables.proofs.list_text.ListText.push_form.Goals as goal

@@ -1,0 +1,205 @@
+//! Worked lines.
+
+use crate::flow::append_versions;
+use crate::{
+    agree_or_disagree, bad_versions, done, no_flow, packet_limit, packets_limit, write_capture,
+    write_flow, write_flow_end, write_hops, write_ok, write_packets_end, write_script_stop,
+    write_verdict, write_walked,
+};
+use address_text::{Address, read_name};
+use flow_lines::{Hop, read_file_name};
+use ip_headers::Cause;
+use label_commands::{LimitName, ScriptFault, ScriptKind, ScriptStop};
+use mls_label::{Label, Proto};
+use mls_range::read_label_into;
+use node_agreement::Disagree;
+use packet_label::{Carrier, Denial};
+use packet_walk::{End, Versions, Walked};
+use pcap_frames::{CaptureFault, CaptureKind};
+
+/// Each denial, and what is printed of it.
+const DENIALS: [(Denial, &str); 10] = [
+    (
+        Denial::BadHeader { octet: 24 },
+        "denied 1 BadHeader octet 24\n",
+    ),
+    (
+        Denial::BadOption { octet: 0 },
+        "denied 2 BadOption octet 0\n",
+    ),
+    (Denial::Unlabelled, "denied 3 Unlabelled\n"),
+    (
+        Denial::UnknownDoi { octet: 22 },
+        "denied 5 UnknownDoi octet 22\n",
+    ),
+    (
+        Denial::TagNotAllowed { octet: 26 },
+        "denied 6 TagNotAllowed octet 26\n",
+    ),
+    (
+        Denial::CategoryUnmapped { category: 65534 },
+        "denied 8 CategoryUnmapped category 65534\n",
+    ),
+    (
+        Denial::AlreadyLabelled { octet: 20 },
+        "denied 14 AlreadyLabelled octet 20\n",
+    ),
+    (
+        Denial::NotCrossable {
+            cause: Cause::NoChecksum,
+        },
+        "denied 21 NotCrossable NoChecksum\n",
+    ),
+    (Denial::NotIp, "denied 22 NotIp\n"),
+    (Denial::BelowRange, "denied 23 BelowRange\n"),
+];
+
+#[test]
+fn prints_denials(rt: HostRuntime) {
+    let label = Label::lowest();
+    for (denial, text) in DENIALS {
+        let mut line = Vec::new(rt.alloc());
+        write_verdict(&Err(denial), &label, &mut line).expect(&rt, "there is memory");
+        assert_eq!(rt; line.as_slice(), text.as_bytes());
+    }
+}
+
+/// Captures, scripts and limits that stop a call.
+const STOPS: [(ScriptStop, &str); 3] = [
+    (
+        ScriptStop::Fault(ScriptFault {
+            line: 16384,
+            octet: 17,
+            kind: ScriptKind::NameTwice,
+        }),
+        "script line 16384 octet 17 NameTwice\n",
+    ),
+    (
+        ScriptStop::Limit {
+            what: LimitName::Nodes,
+            number: 32,
+        },
+        "limit nodes 32\n",
+    ),
+    (ScriptStop::OutOfMemory, ""),
+];
+
+#[test]
+fn prints_stops(rt: HostRuntime) {
+    let mut line = Vec::new(rt.alloc());
+    for (stop, text) in STOPS {
+        line.clear();
+        write_script_stop(stop, &mut line).expect(&rt, "there is memory");
+        assert_eq!(rt; line.as_slice(), text.as_bytes());
+    }
+    line.clear();
+    let fault = CaptureFault {
+        octet: 4294967296,
+        kind: CaptureKind::SnapCut,
+    };
+    write_capture(256, fault, &mut line).expect(&rt, "there is memory");
+    write_packets_end(1048576, &mut line).expect(&rt, "there is memory");
+    write_ok(32, 16384, 256, &mut line).expect(&rt, "there is memory");
+    assert_eq!(rt;
+        line.as_slice(),
+        b"capture 256 octet 4294967296 SnapCut\nend packets 1048576\nok 32 nodes 16384 commands 256 flows\n".as_slice()
+    );
+    assert_eq!(rt; packet_limit(), b"limit packet 65575\n".as_slice());
+    assert_eq!(rt; packets_limit(), b"limit packets 1048576\n".as_slice());
+    assert_eq!(rt; done(), b"done\n".as_slice());
+}
+
+/// What became of a packet under no version.
+fn walked(end: End) -> Walked {
+    Walked {
+        end,
+        versions: Versions::empty(),
+    }
+}
+
+#[test]
+fn prints_flows(rt: HostRuntime) {
+    let alloc = rt.alloc();
+    let input = read_file_name(alloc, b"one.pcap")
+        .expect(&rt, "there is memory")
+        .expect(&rt, "a name");
+    let names = [
+        read_name(b"s").expect(&rt, "a name"),
+        read_name(b"r").expect(&rt, "a name"),
+    ];
+    let hops = [Hop::Receive {
+        node: 1,
+        interface: read_name(b"eth0").expect(&rt, "a name"),
+    }];
+    let mut label = Label::lowest();
+    read_label_into(b"s2:c7,c8", &mut label).expect(&rt, "a label");
+    let ends = [
+        End::Delivered {
+            label,
+            receiver: Address::V4([10, 0, 0, 2]),
+        },
+        End::Sent {
+            carrier: Carrier::Calipso { doi: 9 },
+        },
+        End::Sent {
+            carrier: Carrier::Cipso { doi: 16 },
+        },
+        End::Sent {
+            carrier: Carrier::Unlabelled,
+        },
+        End::Denied {
+            hop: 0,
+            denial: Denial::NotIp,
+        },
+        End::Denied {
+            hop: 1,
+            denial: Denial::NoReceiver,
+        },
+    ];
+    let mut line = Vec::new(alloc);
+    write_flow(1, &input, &mut line).expect(&rt, "there is memory");
+    for end in ends {
+        write_walked(1, 1, &names, &hops, &walked(end), &mut line).expect(&rt, "there is memory");
+    }
+    write_flow_end(1, 6, 4, 2, &mut line).expect(&rt, "there is memory");
+    append_versions(&[15, 15, 16, 4294967295], &mut line).expect(&rt, "there is memory");
+    assert_eq!(rt;
+        line.as_slice(),
+        b"flow 1 one.pcap\npacket 1.1 delivered s2:c7,c8 to 10.0.0.2 versions -\npacket 1.1 sent calipso,9 versions -\npacket 1.1 sent cipsov4,16 versions -\npacket 1.1 sent unlbl versions -\npacket 1.1 denied 22 NotIp hop 0 node - versions -\npacket 1.1 denied 10 NoReceiver hop 1 node r versions -\nend 1 packets 6 passed 4 denied 2\n15,15,16,4294967295".as_slice()
+    );
+}
+
+#[test]
+fn prints_agreement(rt: HostRuntime) {
+    let mut line = Vec::new(rt.alloc());
+    let category = Disagree {
+        proto: Proto::Cipso,
+        doi: 10,
+        level: false,
+        wire: 4,
+        left: 1,
+        right: 3,
+    };
+    let level = Disagree {
+        proto: Proto::Calipso,
+        doi: 4294967295,
+        level: true,
+        wire: 255,
+        left: 4294967295,
+        right: 0,
+    };
+    write_hops(1, None, &mut line).expect(&rt, "there is memory");
+    write_hops(3, Some(category), &mut line).expect(&rt, "there is memory");
+    write_hops(15, Some(level), &mut line).expect(&rt, "there is memory");
+    assert_eq!(rt;
+        line.as_slice(),
+        b"hop 1 2 agree\nhop 3 4 disagree cipsov4 10 category 4 1 3\nhop 15 16 disagree calipso 4294967295 level 255 4294967295 0\n".as_slice()
+    );
+    assert_eq!(rt; agree_or_disagree(true), b"agree\n".as_slice());
+    assert_eq!(rt; agree_or_disagree(false), b"disagree\n".as_slice());
+    assert_eq!(rt; no_flow(), b"script line 0 octet 0 NoFlow\n".as_slice());
+    assert_eq!(rt;
+        bad_versions(),
+        b"script line 0 octet 0 BadVersions\n".as_slice()
+    );
+}

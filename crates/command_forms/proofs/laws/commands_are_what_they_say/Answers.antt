@@ -1,5 +1,0 @@
-use Rattle.command_forms.proofs.Law.{commands_are_what_they_say}
-use Rattle.command_forms.proofs.laws.commands_are_what_they_say.Goals as goal
-
-pub returns : goal.returns
-returns c = commands_are_what_they_say

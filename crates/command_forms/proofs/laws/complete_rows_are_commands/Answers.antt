@@ -1,5 +1,0 @@
-use Rattle.command_forms.proofs.Law.{complete_rows_are_commands}
-use Rattle.command_forms.proofs.laws.complete_rows_are_commands.Goals as goal
-
-pub returns : goal.returns
-returns c = complete_rows_are_commands

@@ -1,4 +1,0 @@
-pub mod Value
-pub mod Command
-pub mod Bounded
-pub mod inside

@@ -1,4 +1,0 @@
-pub mod Rows
-pub mod Apart
-pub mod Kept
-pub mod Law

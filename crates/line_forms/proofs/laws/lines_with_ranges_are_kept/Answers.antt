@@ -1,5 +1,0 @@
-use Rattle.line_forms.proofs.Law.{lines_with_ranges_are_kept}
-use Rattle.line_forms.proofs.laws.lines_with_ranges_are_kept.Goals as goal
-
-pub returns : goal.returns
-returns c = lines_with_ranges_are_kept

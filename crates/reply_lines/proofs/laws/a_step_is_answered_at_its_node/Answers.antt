@@ -1,5 +1,0 @@
-use Rattle.reply_lines.proofs.Law.{a_step_is_answered_at_its_node}
-use Rattle.reply_lines.proofs.laws.a_step_is_answered_at_its_node.Goals as goal
-
-pub returns : goal.returns
-returns c = a_step_is_answered_at_its_node

@@ -1,2 +1,0 @@
-pub mod Extends
-pub mod Versions
