@@ -4,10 +4,10 @@ ghost use Rattle.std.specs.Prelude.{◌≡◌, ◌+◌, ◌<◌, ◌^◌, ◌++�
 ghost use Rattle.call_report.specs.Lines.Agreement.{proto_name, level_or_category, number_of_difference, found_text, hops_line, agreement_line, no_flow_line, bad_versions_line};
 ghost use Rattle.call_report.specs.inside.Extends.{Extends};
 
+use crate::whole::all_or_nothing;
 use mls_label::{OutOfMemory, Proto};
 use node_agreement::Disagree;
 use octet_grammar::write_decimal;
-use crate::whole::all_or_nothing;
 
 /// Appends the line that tells what the hop of this number, counted from 1, and the next one come to: that they agree, or their first
 /// difference. After an error `line` is as it was.

@@ -68,8 +68,7 @@ module _ (plan : PlanState) (readings : List NamedMeanings) where
       let is_left : left ≡ x = cc in
       let is_right : right ≡ y = cc in
       let is_v : v ≡ s = cc in
-      let is_w : w ≡ t = cc in
-      (
+      let is_w : w ≡ t = cc in (
         subst (λ l. IsFoundAt s l t y found) is_left (subst (λ r. IsFoundAt s left t r found) is_right (subst (λ u. IsFoundAt u left t right found) is_v (subst (λ u. IsFoundAt v left u right found) is_w is))),
         more,
       )

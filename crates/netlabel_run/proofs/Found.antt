@@ -62,9 +62,10 @@ module _ (plan : PlanState) (readings : List NamedMeanings) where
   all_agree (left ∷ right ∷ hops) (v ∷ []) found x all = absurd x
   all_agree (left ∷ right ∷ hops) (v ∷ w ∷ versions) [] x all = absurd x
   all_agree (left ∷ right ∷ hops) (v ∷ w ∷ versions) (f ∷ found) x all =
-      let parts = and_parts (is_none f) (list_all is_none found) all in
-      (none_agrees (hop_tables plan v left) (hop_tables plan w right) (reading_at readings left) (reading_at readings right) f parts.0 x.0,
-        all_agree (right ∷ hops) (w ∷ versions) found x.1 parts.1)
+      let parts = and_parts (is_none f) (list_all is_none found) all in (
+        none_agrees (hop_tables plan v left) (hop_tables plan w right) (reading_at readings left) (reading_at readings right) f parts.0 x.0,
+        all_agree (right ∷ hops) (w ∷ versions) found x.1 parts.1,
+      )
 
   none_found : (hops : List Hop) (versions : List ℕ) (found : List (Option Disagree)) → AreFound plan readings hops versions found → NeighboursAgree plan readings hops versions
       → IsTrue (list_all is_none found)
@@ -109,6 +110,8 @@ module _ (script : Script) (number : ℕ) (named : Option (List ℕ)) where
   one_answer s t r q (bad_versions a x never) (compared b found y are finds) = absurd (never (same_versions b a (one_flow b a y x) are))
   one_answer s t r q (compared a found x are finds) (no_flow y) = absurd (some_flow a y x)
   one_answer s t r q (compared a found x are finds) (bad_versions b y never) = absurd (never (same_versions a b (one_flow a b x y) are))
-  one_answer s t r q (compared a found x are finds) (compared b found' y are' finds') =
-      (refl, ap (λ f. late_report (agree_text f) [])
-        (found_once (plan_of script) script.readings b.hops (versions_for b named) found found' (same_found a b found (one_flow a b x y) finds) finds'))
+  one_answer s t r q (compared a found x are finds) (compared b found' y are' finds') = (
+    refl,
+    ap (λ f. late_report (agree_text f) [])
+        (found_once (plan_of script) script.readings b.hops (versions_for b named) found found' (same_found a b found (one_flow a b x y) finds) finds'),
+  )

@@ -18,9 +18,7 @@ ghost use Rattle.netlabel_run.specs.inside.Agreeing.{IsAnswered};
 use crate::compare::compare_hops;
 use crate::script::script_of;
 use crate::versions::NamedVersions;
-use call_report::{
-    Report, Status, agree_or_disagree, bad_versions, no_flow, write_hops,
-};
+use call_report::{Report, Status, agree_or_disagree, bad_versions, no_flow, write_hops};
 use flow_lines::FlowLine;
 use label_commands::Script;
 use mls_label::OutOfMemory;
