@@ -9,6 +9,7 @@ pub mod Agreeing
 pub mod Numbers
 pub mod Splits
 pub mod Comparing
+pub mod Flows
 pub mod Runs
 pub mod Running
 pub mod Commands
