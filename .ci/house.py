@@ -41,14 +41,15 @@ def imports_of(statement):
 
 
 class Scope:
-    """The names that `use` lines bring in; those of an inner block come first. A name such as `◌+◌` is found by the signs between its places too."""
+    """The names that `use` lines bring in; those of an inner block come first. A name such as `◌+◌` is found by the signs between its places too,
+    and `◌>>=◌` by the arrow of a `do`, which cites it."""
 
     def __init__(self, outer=None):
         self.outer, self.paths = outer, collections.defaultdict(list)
 
     def add(self, statement):
         for name, path in imports_of(statement):
-            for word in {name, *filter(None, name.split("◌"))}:
+            for word in {name, *filter(None, name.split("◌")), *["←"] * (name == "◌>>=◌")}:
                 self.paths[word].append(path)
 
     def find(self, word):

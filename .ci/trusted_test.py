@@ -7,6 +7,7 @@ import tempfile
 
 sys.dont_write_bytecode = True
 import headline
+import house
 import trusted
 
 TOOL = pathlib.Path(__file__).resolve().parent / "trusted.py"
@@ -517,6 +518,12 @@ def test_refusals(repo):
     tell("no such crate", called(repo, "nowhere"), (1, "no such crate: nowhere\n"))
 
 
+def test_arrow():
+    scope = house.Scope()
+    scope.add("Rattle.ground.specs.Steps.{◌>>=◌}")
+    tell("the arrow of a do", scope.find("←"), [("Rattle", "ground", "specs", "Steps", "◌>>=◌")])
+
+
 def test_page(repo):
     counts = headline.counted(trusted.House(repo), "answer")
     tell("the page's tables", headline.written(PAGE, counts), WRITTEN)
@@ -548,6 +555,7 @@ def main():
         test_findings(repo)
         test_reading(repo)
         test_refusals(repo)
+        test_arrow()
         test_page(repo)
     print(f"{results.count(True)} passed, {results.count(False)} failed")
     return 0 if all(results) else 1

@@ -1,6 +1,6 @@
 -- A walk from its first hop to its end. How what a label means stands to what the origin meant, what is asked of the way and what is said
 -- of a delivery are parameters: what holds at the origin and is kept over each link holds at the end.
-use Rattle.std.proofs.Common.{◌≡◌, ℕ, ◌+◌, Bool, true, false, List, [], ◌∷◌, MatchBool, Option, Some, Result, Ok, Err, IfSome, refl, sym, ap, subst, ◌∙◌}
+use Rattle.std.proofs.Common.{◌≡◌, ℕ, ◌+◌, Bool, true, false, List, [], ◌∷◌, MatchBool, Option, Some, Result, Ok, IfSome, refl, sym, ap, subst, ◌∙◌}
 use Rattle.std.specs.List.{list_any}
 use Rattle.std.proofs.lemmas.Map.Entries.{All-lookup}
 use Rattle.std.proofs.lemmas.List.Elements.{All-head}
@@ -29,12 +29,12 @@ use Rattle.shared_tables.specs.Plan.{PlanState, network_after}
 use Rattle.packet_walk.specs.declared.packet.PacketIn.{PacketIn}
 use Rattle.packet_walk.specs.declared.walked.End.{End}
 use Rattle.packet_walk.specs.declared.walked.End.TheVariants as the_end
-use Rattle.packet_walk.specs.Walk.{Coming, from_outside, from_hop, octets_in, IsReadFrom, Passage, goes_on, arrives, hop_verdict, IsWalk, IsWalkOf, Ends}
+use Rattle.packet_walk.specs.Walk.{Coming, from_outside, from_hop, octets_in, IsReadFrom, HopVerdict, denied, goes_on, arrives, hop_verdict, Follows, IsWalk, IsWalkOf, Ends}
 use Rattle.packet_walk.proofs.Law.{hops_read_in_one_way}
 use Rattle.flow_access.specs.Labels.{hop_label, hop_tables, reading_at, first_reading}
 use Rattle.flow_access.specs.Sound.{IsOrigin, AtLast}
 use Rattle.flow_access.specs.Valid.{IsValidFlow}
-use Rattle.flow_access.proofs.Hops.{Judges, judges}
+use Rattle.flow_access.proofs.Hops.{HasLabel, judges_so}
 use Rattle.flow_access.proofs.Links.{neither}
 use Rattle.flow_access.proofs.Origins.{origin_label}
 
@@ -45,7 +45,7 @@ use Rattle.flow_access.proofs.Origins.{origin_label}
 abbrev pub GoesWell : PlanState → List NamedMeanings → (Meaning → Meaning → Type 0) → (List Hop → Coming → List ℕ → Type 0) → Type 0
 GoesWell plan readings Stands Fine =
     (hop next : Hop) (hops : List Hop) (coming : Coming) (v w : ℕ) (versions : List ℕ) (read : Result (ParsedPacket Wire) CarryFault) (carrier : Carrier) (packet : ParsedPacket Wire)
-    → is_send next ≡ false → IsReadFrom coming read → hop_verdict (network_after plan v) hop (octets_in coming) read ≡ Ok (goes_on carrier packet) → Fine (hop ∷ next ∷ hops) coming (v ∷ w ∷ versions)
+    → is_send next ≡ false → IsReadFrom coming read → hop_verdict (network_after plan v) hop (octets_in coming) read ≡ goes_on carrier packet → Fine (hop ∷ next ∷ hops) coming (v ∷ w ∷ versions)
     → Fine (next ∷ hops) (from_hop carrier packet) (w ∷ versions) × ((origin : Meaning) (x y : Label) (later : Result (ParsedPacket Wire) CarryFault)
     → hop_label (hop_tables plan v hop) hop read ≡ Ok x → IsLabel x → Stands (meaning_of (reading_at readings hop) x) origin
     → IsNext packet later → hop_label (hop_tables plan w next) next later ≡ Ok y → Stands (meaning_of (reading_at readings next) y) origin × IsLabel y)
@@ -63,15 +63,9 @@ ArrivesWell plan readings May hops octets versions (the_end.Delivered label addr
 ArrivesWell plan readings May hops octets versions (the_end.Sent carrier) = Unit {0}
 ArrivesWell plan readings May hops octets versions (the_end.Denied hop why) = Unit {0}
 
--- where the walk goes, as its definition says it
-abbrev Going : PlanState → ℕ → List Hop → Coming → List ℕ → End → List ℕ → Result Passage Denial → Type 0
-Going plan k hops coming versions end out verdict = elim verdict [
-  | Err why ↦ Ends versions end out (the_end.Denied k why) []
-  | Ok passage ↦ elim passage [
-    | goes_on carrier packet ↦ IsWalk plan (k + 1) hops (from_hop carrier packet) versions end out
-    | arrives delivered ↦ Ends versions end out (the_end.Delivered delivered.label delivered.receiver) (octets_in coming)
-  ]
-]
+-- what follows a hop's verdict
+abbrev Going : PlanState → ℕ → List Hop → Coming → List ℕ → End → List ℕ → HopVerdict → Type 0
+Going plan k hops coming versions end out verdict = Follows k (octets_in coming) (λ next. IsWalk plan (k + 1) hops next versions end out) versions end out verdict
 
 module _ (plan : PlanState) (readings : List NamedMeanings) (tables : (version : ℕ) (hop : Hop) → AreValid (hop_tables plan version hop)) (named : (hop : Hop) → IsReading (reading_at readings hop))
     (Stands : Meaning → Meaning → Type 0) (Fine : List Hop → Coming → List ℕ → Type 0) (May : Meaning → TableState → NamedMeanings → Label → Address → Type 0)
@@ -105,12 +99,12 @@ module _ (plan : PlanState) (readings : List NamedMeanings) (tables : (version :
       sent_well : (versions : List ℕ) (end : End) (out octets : List ℕ) (carrier : Carrier) → Ends versions end out (the_end.Sent carrier) octets → EndsWell (hop ∷ hops) (version ∷ versions) end
       sent_well versions end out octets carrier ends = subst (λ e. EndsWell (hop ∷ hops) (version ∷ versions) e) (sym ends.1) tt
 
-      arrived_well : (versions : List ℕ) (end : End) (out octets : List ℕ) (delivered : Delivered) → hop_verdict (network_after plan version) hop (octets_in coming) read ≡ Ok (arrives delivered)
+      arrived_well : (versions : List ℕ) (end : End) (out octets : List ℕ) (delivered : Delivered) → hop_verdict (network_after plan version) hop (octets_in coming) read ≡ arrives delivered
           → Ends versions end out (the_end.Delivered delivered.label delivered.receiver) octets → EndsWell (hop ∷ hops) (version ∷ versions) end
       arrived_well versions end out octets delivered verdict ends =
           let t = hop_tables plan version hop in
           let r = reading_at readings hop in
-          let j : Judges t hop read (arrives delivered) = judges (network_after plan version) hop (octets_in coming) read (arrives delivered) verdict in
+          let j : HasLabel t hop read (arrives delivered) = judges_so (network_after plan version) hop (octets_in coming) read (arrives delivered) verdict in
           let m = takes read j.label is j.is in
           let receiver = j.made.1.0 in
           let level = level_is version hop delivered.receiver receiver j.made.1.1 in
@@ -124,29 +118,29 @@ module _ (plan : PlanState) (readings : List NamedMeanings) (tables : (version :
         → IsWalk plan k (hop ∷ hops) coming (v ∷ versions) end out → Fine (hop ∷ hops) coming (v ∷ versions) → EndsWell (hop ∷ hops) (v ∷ versions) end
     walks_well k hop [] coming v versions end out no_send takes walk fine = by_verdict (hop_verdict (network_after plan v) hop (octets_in coming) walk.0) refl walk.2
       where
-        by_verdict : (r : Result Passage Denial) → hop_verdict (network_after plan v) hop (octets_in coming) walk.0 ≡ r → Going plan k [] coming versions end out r → EndsWell (hop ∷ []) (v ∷ versions) end
-        by_verdict (Err why) is g = denied_well hop [] coming v takes walk.0 walk.1 k versions end out why g
-        by_verdict (Ok (goes_on carrier packet)) is g = sent_well hop [] coming v takes walk.0 walk.1 versions end out (octets_in (from_hop carrier packet)) carrier g
-        by_verdict (Ok (arrives delivered)) is g = arrived_well hop [] coming v takes walk.0 walk.1 versions end out (octets_in coming) delivered is g
+        by_verdict : (r : HopVerdict) → hop_verdict (network_after plan v) hop (octets_in coming) walk.0 ≡ r → Going plan k [] coming versions end out r → EndsWell (hop ∷ []) (v ∷ versions) end
+        by_verdict (denied why) is g = denied_well hop [] coming v takes walk.0 walk.1 k versions end out why g
+        by_verdict (goes_on carrier packet) is g = sent_well hop [] coming v takes walk.0 walk.1 versions end out (octets_in (from_hop carrier packet)) carrier g
+        by_verdict (arrives delivered) is g = arrived_well hop [] coming v takes walk.0 walk.1 versions end out (octets_in coming) delivered is g
     walks_well k hop (next ∷ hops) coming v [] end out no_send takes walk fine = by_verdict (hop_verdict (network_after plan v) hop (octets_in coming) walk.0) refl walk.2
       where
-        by_verdict : (r : Result Passage Denial) → hop_verdict (network_after plan v) hop (octets_in coming) walk.0 ≡ r → Going plan k (next ∷ hops) coming [] end out r → EndsWell (hop ∷ next ∷ hops) (v ∷ []) end
-        by_verdict (Err why) is g = denied_well hop (next ∷ hops) coming v takes walk.0 walk.1 k [] end out why g
-        by_verdict (Ok (goes_on carrier packet)) is g = absurd g
-        by_verdict (Ok (arrives delivered)) is g = arrived_well hop (next ∷ hops) coming v takes walk.0 walk.1 [] end out (octets_in coming) delivered is g
+        by_verdict : (r : HopVerdict) → hop_verdict (network_after plan v) hop (octets_in coming) walk.0 ≡ r → Going plan k (next ∷ hops) coming [] end out r → EndsWell (hop ∷ next ∷ hops) (v ∷ []) end
+        by_verdict (denied why) is g = denied_well hop (next ∷ hops) coming v takes walk.0 walk.1 k [] end out why g
+        by_verdict (goes_on carrier packet) is g = absurd g
+        by_verdict (arrives delivered) is g = arrived_well hop (next ∷ hops) coming v takes walk.0 walk.1 [] end out (octets_in coming) delivered is g
     walks_well k hop (next ∷ hops) coming v (w ∷ versions) end out no_send takes walk fine =
         let sends = neither (is_send next) (list_any is_send hops) no_send in
         by_verdict sends.0 (λ carrier packet t g f. walks_well (k + 1) next hops (from_hop carrier packet) w versions end out sends.1 t g f) (hop_verdict (network_after plan v) hop (octets_in coming) walk.0) refl walk.2
       where
         by_verdict : is_send next ≡ false
             → ((carrier : Carrier) (packet : ParsedPacket Wire) → Takes w next (from_hop carrier packet) → IsWalk plan (k + 1) (next ∷ hops) (from_hop carrier packet) (w ∷ versions) end out → Fine (next ∷ hops) (from_hop carrier packet) (w ∷ versions) → EndsWell (next ∷ hops) (w ∷ versions) end)
-            → (r : Result Passage Denial) → hop_verdict (network_after plan v) hop (octets_in coming) walk.0 ≡ r → Going plan k (next ∷ hops) coming (w ∷ versions) end out r
+            → (r : HopVerdict) → hop_verdict (network_after plan v) hop (octets_in coming) walk.0 ≡ r → Going plan k (next ∷ hops) coming (w ∷ versions) end out r
             → EndsWell (hop ∷ next ∷ hops) (v ∷ w ∷ versions) end
-        by_verdict no_send more (Err why) is g = denied_well hop (next ∷ hops) coming v takes walk.0 walk.1 k (w ∷ versions) end out why g
-        by_verdict no_send more (Ok (arrives delivered)) is g = arrived_well hop (next ∷ hops) coming v takes walk.0 walk.1 (w ∷ versions) end out (octets_in coming) delivered is g
-        by_verdict no_send more (Ok (goes_on carrier packet)) is g =
+        by_verdict no_send more (denied why) is g = denied_well hop (next ∷ hops) coming v takes walk.0 walk.1 k (w ∷ versions) end out why g
+        by_verdict no_send more (arrives delivered) is g = arrived_well hop (next ∷ hops) coming v takes walk.0 walk.1 (w ∷ versions) end out (octets_in coming) delivered is g
+        by_verdict no_send more (goes_on carrier packet) is g =
             let over = goes hop next hops coming v w versions walk.0 carrier packet no_send walk.1 is fine in
-            let j : Judges (hop_tables plan v hop) hop walk.0 (goes_on carrier packet) = judges (network_after plan v) hop (octets_in coming) walk.0 (goes_on carrier packet) is in
+            let j : HasLabel (hop_tables plan v hop) hop walk.0 (goes_on carrier packet) = judges_so (network_after plan v) hop (octets_in coming) walk.0 (goes_on carrier packet) is in
             let m = takes walk.0 j.label walk.1 j.is in
             well_behind hop (next ∷ hops) v w versions end
             (more carrier packet (λ later y follows is_taken. over.1 origin j.label y later j.is m.1 m.0 follows is_taken) g over.0)
@@ -178,9 +172,14 @@ module _ (plan : PlanState) (readings : List NamedMeanings) (tables : (version :
           ))
           walk fine)
 
-      by_verdict : (r : Result Passage Denial) → hop_verdict (network_after plan v) hop octets walk.0 ≡ r → Going plan 1 hops (from_outside octets) versions end out r → ArrivesWell plan readings May (hop ∷ hops) octets (v ∷ versions) end
-      by_verdict (Err why) is g = denied_arrives (hop ∷ hops) octets (v ∷ versions) 1 why end g.1
-      by_verdict (Ok passage) is g = let j : Judges (hop_tables plan v hop) hop walk.0 passage = judges (network_after plan v) hop octets walk.0 passage is in by_origin j.label j.is
+      by_verdict : (r : HopVerdict) → hop_verdict (network_after plan v) hop octets walk.0 ≡ r → Going plan 1 hops (from_outside octets) versions end out r → ArrivesWell plan readings May (hop ∷ hops) octets (v ∷ versions) end
+      by_verdict (denied why) is g = denied_arrives (hop ∷ hops) octets (v ∷ versions) 1 why end g.1
+      by_verdict (goes_on carrier packet) is g =
+          let j : HasLabel (hop_tables plan v hop) hop walk.0 (goes_on carrier packet) = judges_so (network_after plan v) hop octets walk.0 (goes_on carrier packet) is in
+          by_origin j.label j.is
+      by_verdict (arrives delivered) is g =
+          let j : HasLabel (hop_tables plan v hop) hop walk.0 (arrives delivered) = judges_so (network_after plan v) hop octets walk.0 (arrives delivered) is in
+          by_origin j.label j.is
 
     walk_arrives : (hops : List Hop) (octets versions : List ℕ) (end : End) (out : List ℕ) → IsValidFlow plan readings hops → IsWalk plan 1 hops (from_outside octets) versions end out → Fine hops (from_outside octets) versions
         → ArrivesWell plan readings May hops octets versions end

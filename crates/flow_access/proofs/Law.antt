@@ -42,7 +42,7 @@ pub use Rattle.flow_access.proofs.Origins.{high_found}
 pub use Rattle.flow_access.proofs.Along.{GoesWell, DeliversWell, ArrivesWell, arrives_well}
 
 pub hops_say_their_label : (network : List TableState) (hop : Hop) (octets : List ℕ) (read : Result (ParsedPacket Wire) CarryFault) (carrier : Carrier) (packet : ParsedPacket Wire) (x : Label)
-    → hop_verdict network hop octets read ≡ Ok (goes_on carrier packet) → hop_label (tables_of network (node_of hop)) hop read ≡ Ok x
+    → hop_verdict network hop octets read ≡ goes_on carrier packet → hop_label (tables_of network (node_of hop)) hop read ≡ Ok x
     → (protocol : Protocol) × (outgoing (tables_of network (node_of hop)).definitions protocol x ≡ Ok packet.label)
 hops_say_their_label = says_label
 

@@ -1,9 +1,8 @@
 -- A walk along which the label is kept: what a label means is what the origin meant, and each link is labelled.
-use Rattle.std.proofs.Common.{◌≡◌, ℕ, List, ◌∷◌, Result, Ok, Err, refl, subst, ◌∙◌}
+use Rattle.std.proofs.Common.{◌≡◌, ℕ, List, ◌∷◌, refl, subst, ◌∙◌}
 use Rattle.std.specs.Prelude.{IsSome}
 use Rattle.mls_label.specs.declared.label.Label.{Label}
 use Rattle.address_text.specs.declared.address.Address.{Address}
-use Rattle.packet_label.specs.declared.denial.Denial.{Denial}
 use Rattle.flow_lines.specs.declared.hop.Hop.{Hop}
 use Rattle.node_readings.specs.Reading.{NamedMeanings}
 use Rattle.node_readings.specs.Meaning.{Meaning, meaning_of, MeansDominates}
@@ -13,7 +12,7 @@ use Rattle.shared_tables.specs.Plan.{PlanState, network_after}
 use Rattle.packet_walk.specs.declared.packet.PacketIn.{PacketIn}
 use Rattle.packet_walk.specs.declared.walked.End.{End}
 use Rattle.packet_walk.specs.declared.walked.End.TheVariants as the_end
-use Rattle.packet_walk.specs.Walk.{Coming, from_hop, octets_in, Passage, goes_on, arrives, hop_verdict, IsWalkOf}
+use Rattle.packet_walk.specs.Walk.{Coming, from_hop, octets_in, HopVerdict, denied, goes_on, arrives, hop_verdict, IsWalkOf}
 use Rattle.packet_walk.proofs.Law.{hops_read_in_one_way}
 use Rattle.flow_access.specs.Labels.{hop_tables, reading_at}
 use Rattle.flow_access.specs.Kept.{PutLabels, NeighboursAgree, LabelIsKept}
@@ -25,13 +24,11 @@ use Rattle.flow_access.proofs.Along.{GoesWell, DeliversWell, ArrivesWell, arrive
 
 -- ---- each link
 
-abbrev Putting : PlanState → Hop → List Hop → List ℕ → Result Passage Denial → Type 0
+abbrev Putting : PlanState → Hop → List Hop → List ℕ → HopVerdict → Type 0
 Putting plan next hops versions verdict = elim verdict [
-  | Err why ↦ Unit {0}
-  | Ok passage ↦ elim passage [
-    | goes_on carrier packet ↦ IsSome packet.label × PutLabels plan (next ∷ hops) (from_hop carrier packet) versions
-    | arrives delivered ↦ Unit {0}
-  ]
+  | denied why ↦ Unit {0}
+  | goes_on carrier packet ↦ IsSome packet.label × PutLabels plan (next ∷ hops) (from_hop carrier packet) versions
+  | arrives delivered ↦ Unit {0}
 ]
 
 abbrev Means : Meaning → Meaning → Type 0
@@ -50,7 +47,7 @@ module _ (plan : PlanState) (readings : List NamedMeanings) where
       let put = keeps.0 in
       let same : put.0 ≡ read = hops_read_in_one_way coming put.0 read put.1 reads in
       let as_read : Putting plan next hops (w ∷ versions) (hop_verdict (network_after plan v) hop (octets_in coming) read) = subst (λ r. Putting plan next hops (w ∷ versions) (hop_verdict (network_after plan v) hop (octets_in coming) r)) same put.2 in
-      let putting : Putting plan next hops (w ∷ versions) (Ok (goes_on carrier packet)) = subst (Putting plan next hops (w ∷ versions)) verdict as_read in (
+      let putting : Putting plan next hops (w ∷ versions) (goes_on carrier packet) = subst (Putting plan next hops (w ∷ versions)) verdict as_read in (
         (putting.1, keeps.1.1),
         λ origin x y later is is_label means follows takes.
             let out = says_label (network_after plan v) hop (octets_in coming) read carrier packet x verdict is in

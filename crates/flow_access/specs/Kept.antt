@@ -1,6 +1,6 @@
 -- When a packet's label is kept along its way: each hop but the last says it in an option, and the next hop gives what the option says
 -- the meaning that it had.
-use Rattle.std.specs.Prelude.{ℕ, List, [], ◌∷◌, Result, Ok, Err, IsSome}
+use Rattle.std.specs.Prelude.{ℕ, List, [], ◌∷◌, Result, IsSome}
 use Rattle.ip_headers.specs.Packet.{ParsedPacket}
 use Rattle.packet_label.specs.declared.fault.CarryFault.{CarryFault}
 use Rattle.packet_label.specs.declared.packet.Wire.{Wire}
@@ -8,7 +8,7 @@ use Rattle.flow_lines.specs.declared.hop.Hop.{Hop}
 use Rattle.node_readings.specs.Reading.{NamedMeanings}
 use Rattle.node_agreement.specs.Agreement.{Agree}
 use Rattle.shared_tables.specs.Plan.{PlanState, network_after}
-use Rattle.packet_walk.specs.Walk.{Coming, from_outside, from_hop, octets_in, IsReadFrom, goes_on, arrives, hop_verdict}
+use Rattle.packet_walk.specs.Walk.{Coming, from_outside, from_hop, octets_in, IsReadFrom, denied, goes_on, arrives, hop_verdict}
 use Rattle.flow_access.specs.Labels.{hop_tables, reading_at}
 
 -- In the walk over these hops, each under its version, every hop that has another one behind it put the label into an option, as far as
@@ -19,11 +19,9 @@ PutLabels plan (hop ∷ []) coming versions = Unit {0}
 PutLabels plan (hop ∷ next ∷ hops) coming [] = Unit {0}
 PutLabels plan (hop ∷ next ∷ hops) coming (version ∷ versions) =
     (read : Result (ParsedPacket Wire) CarryFault) × IsReadFrom coming read × elim (hop_verdict (network_after plan version) hop (octets_in coming) read) [
-      | Err why ↦ Unit {0}
-      | Ok passage ↦ elim passage [
-        | goes_on carrier packet ↦ IsSome packet.label × PutLabels plan (next ∷ hops) (from_hop carrier packet) versions
-        | arrives delivered ↦ Unit {0}
-      ]
+      | denied why ↦ Unit {0}
+      | goes_on carrier packet ↦ IsSome packet.label × PutLabels plan (next ∷ hops) (from_hop carrier packet) versions
+      | arrives delivered ↦ Unit {0}
     ]
 
 -- Each two neighbouring hops that judged agree, each with the tables of its own version and its own reading.

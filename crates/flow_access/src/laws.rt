@@ -38,7 +38,7 @@ pub fn hops_say_their_label()
     ensures { (network : List TableState) (hop : Hop) (octets : List ℕ)
         (read : Result (ParsedPacket Wire) CarryFault)
         (carrier : Carrier) (packet : ParsedPacket Wire) (x : Label)
-        → hop_verdict network hop octets read ≡ Ok (goes_on carrier packet)
+        → hop_verdict network hop octets read ≡ goes_on carrier packet
         → hop_label (tables_of network (node_of hop)) hop read ≡ Ok x
         → (protocol : Protocol)
         × (outgoing (tables_of network (node_of hop)).definitions protocol x ≡ Ok packet.label) }

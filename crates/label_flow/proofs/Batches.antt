@@ -10,8 +10,7 @@ use Rattle.packet_walk.specs.declared.walked.End.TheVariants as the_end
 use Rattle.packet_walk.specs.declared.walked.Walked.{Walked}
 use Rattle.label_flow.specs.Pair.{PairState}
 use Rattle.packet_walk.specs.declared.packet.PacketIn.{PacketIn}
-use Rattle.packet_walk.specs.Walk.{Coming, from_outside, from_hop, octets_in, Passage, goes_on, arrives, hop_verdict, Ends, IsWalk, IsWalked}
-use Rattle.packet_label.specs.declared.denial.Denial.{Denial}
+use Rattle.packet_walk.specs.Walk.{Coming, from_outside, from_hop, octets_in, HopVerdict, denied, goes_on, arrives, hop_verdict, Ends, Follows, IsWalk, IsWalked}
 use Rattle.packet_label.specs.declared.denial.Denial.TheVariants.{NotIp}
 use Rattle.flow_lines.specs.Hop.{node_of}
 use Rattle.label_flow.specs.Feed.{MayAccept, IsDeniedBy, AreFetched, IsOver, AreBegun, AreWhole}
@@ -91,28 +90,18 @@ works_length hops w n batch k (v ∷ vs) [] us h = absurd h
 works_length hops w n batch k (v ∷ vs) (d ∷ ds) [] h = absurd h
 works_length hops w n batch k (v ∷ vs) (d ∷ ds) (u ∷ us) h = ap suc (works_length hops w n batch (k + 1) vs ds us h.1)
 
--- what follows a hop with this verdict
-abbrev Follows : PlanState → ℕ → List Hop → Coming → List ℕ → End → List ℕ → Result Passage Denial → Type 0
-Follows plan k hops coming versions end out verdict = elim verdict [
-  | Err why ↦ Ends versions end out (the_end.Denied k why) []
-  | Ok passage ↦ elim passage [
-    | goes_on carrier packet ↦ IsWalk plan (k + 1) hops (from_hop carrier packet) versions end out
-    | arrives delivered ↦ Ends versions end out (the_end.Delivered delivered.label delivered.receiver) (octets_in coming)
-  ]
-]
-
-follows_denied : (plan : PlanState) (k m : ℕ) (hops : List Hop) (coming : Coming) (versions : List ℕ) (end : End) (out : List ℕ) (verdict : Result Passage Denial) → k ≤ m
-    → ((next : Coming) → IsWalk plan (k + 1) hops next versions end out → IsDeniedBy m end) → Follows plan k hops coming versions end out verdict → IsDeniedBy m end
-follows_denied plan k m hops coming versions end out (Err why) low rec h = subst (IsDeniedBy m) (sym h.1) low
-follows_denied plan k m hops coming versions end out (Ok (goes_on carrier packet)) low rec h = rec (from_hop carrier packet) h
-follows_denied plan k m hops coming versions end out (Ok (arrives delivered)) low rec h = subst (IsDeniedBy m) (sym h.1) tt
+follows_denied : (k m : ℕ) (octets versions : List ℕ) (end : End) (out : List ℕ) (walk : Coming → Type 0) → k ≤ m → ((next : Coming) → walk next → IsDeniedBy m end)
+    → (verdict : HopVerdict) → Follows k octets walk versions end out verdict → IsDeniedBy m end
+follows_denied k m octets versions end out walk low rec (denied why) h = subst (IsDeniedBy m) (sym h.1) low
+follows_denied k m octets versions end out walk low rec (goes_on carrier packet) h = rec (from_hop carrier packet) h
+follows_denied k m octets versions end out walk low rec (arrives delivered) h = subst (IsDeniedBy m) (sym h.1) tt
 
 walk_denied : (plan : PlanState) (k m : ℕ) (hops : List Hop) (coming : Coming) (versions : List ℕ) (end : End) (out : List ℕ) → m + 1 ≡ k + length hops → IsWalk plan k hops coming versions end out → IsDeniedBy m end
 walk_denied plan k m [] coming versions end out is h = subst (IsDeniedBy m) (sym h.1) tt
 walk_denied plan k m (hop ∷ hops) coming [] end out is h = absurd h
 walk_denied plan k m (hop ∷ hops) coming (v ∷ versions) end out is h =
-    follows_denied plan k m hops coming versions end out (hop_verdict (network_after plan v) hop (octets_in coming) h.0) (omega (arith, is))
-    (λ next t. walk_denied plan (k + 1) m hops next versions end out (omega (arith, is)) t) h.2
+    follows_denied k m (octets_in coming) versions end out (λ next. IsWalk plan (k + 1) hops next versions end out) (omega (arith, is))
+    (λ next t. walk_denied plan (k + 1) m hops next versions end out (omega (arith, is)) t) (hop_verdict (network_after plan v) hop (octets_in coming) h.0) h.2
 
 left_short : (octets out : List ℕ) → length octets ≤ 262144 → (length out ≤ 65575) ⊎ (out ≡ octets) → length out ≤ 262144
 left_short octets out few (inl short) = omega (arith, short)

@@ -1,5 +1,6 @@
 -- The looks of workers, and the packets that they are for.
 use Rattle.std.proofs.Common.{◌≡◌, ⊎_elim, ℕ, ◌+◌, ◌<◌, ◌%◌, Bool, true, false, List, [], ◌∷◌, ◌++◌, length, nat_eq, cond, refl, sym, ◌∙◌, ap, arith}
+use Rattle.std.specs.List.{AllZip}
 use Rattle.std.proofs.lemmas.Bool.{cases_eq}
 use Rattle.std.proofs.lemmas.Bool.Decides.{nat_tests}
 use Rattle.std.proofs.lemmas.Nat.{mod_below}
@@ -7,7 +8,11 @@ use Rattle.flow_lines.specs.declared.hop.Hop.{Hop}
 use Rattle.shared_tables.specs.Plan.{PlanState}
 use Rattle.packet_walk.specs.declared.packet.PacketIn.{PacketIn}
 use Rattle.label_flow.specs.Round.{pick}
-use Rattle.label_flow.specs.Schedule.{IsSeen, AreSeen, AreJudged, in_a_row, left_to}
+use Rattle.label_flow.specs.Schedule.{IsSeen, AreJudged, in_a_row, left_to}
+
+-- each of these packets has its versions
+abbrev pub AreSeen : PlanState → List Hop → List PacketIn → List (List ℕ) → Type 0
+AreSeen plan hops packets seen = AllZip (IsSeen plan hops) packets seen
 
 same : (n : ℕ) → nat_eq n n ≡ true
 same n = grind (arith, nat_tests)

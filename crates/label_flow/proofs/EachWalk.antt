@@ -12,8 +12,9 @@ use Rattle.packet_walk.specs.Walk.{IsWalkOf}
 use Rattle.packet_walk.proofs.Law.{walks_end_in_one_way, walks_agree_on_a_beginning}
 use Rattle.label_flow.specs.Pair.{PairState}
 use Rattle.label_flow.specs.Round.{pick, IsWork, AreRounds, IsRound}
-use Rattle.label_flow.specs.Schedule.{AreSeen, in_a_row, versions_in, AreLawful}
+use Rattle.label_flow.specs.Schedule.{in_a_row, versions_in, AreLawful}
 use Rattle.label_flow.specs.Walked.{AreWalked}
+use Rattle.label_flow.proofs.Dealt.{AreSeen}
 use Rattle.label_flow.proofs.Rising.{rises_within}
 
 -- none of the versions of a packet is above m

@@ -1,5 +1,5 @@
 -- Where no step comes beside a flow, its packets have one list of versions.
-use Rattle.std.proofs.Common.{◌≡◌, ℕ, ◌+◌, ◌<◌, ◌≤◌, ◌%◌, Bool, true, false, List, [], ◌∷◌, ◌++◌, length, All, nat_eq, cond, refl, sym, ◌∙◌, ap, subst, le_trans, arith, append_assoc}
+use Rattle.std.proofs.Common.{◌≡◌, ℕ, ◌+◌, ◌<◌, ◌≤◌, ◌%◌, Bool, true, false, List, [], ◌∷◌, ◌++◌, All, nat_eq, cond, refl, sym, ◌∙◌, ap, subst, le_trans, arith, append_assoc}
 use Rattle.std.proofs.lemmas.Bool.Decides.{nat_tests}
 use Rattle.std.proofs.lemmas.List.{append-nil}
 use Rattle.std.proofs.lemmas.List.Elements.{All-nil, All-cons, All-head, All-tail, All-append}
@@ -10,7 +10,8 @@ use Rattle.packet_walk.specs.declared.packet.PacketIn.{PacketIn}
 use Rattle.packet_walk.specs.Walk.{Rises}
 use Rattle.packet_walk.proofs.Law.{walks_are_cut_in_one_way}
 use Rattle.label_flow.specs.Round.{pick}
-use Rattle.label_flow.specs.Schedule.{IsSeen, AreSeen, in_a_row, AreLawful}
+use Rattle.label_flow.specs.Schedule.{in_a_row, AreLawful}
+use Rattle.label_flow.proofs.Dealt.{AreSeen, all_seen}
 use Rattle.label_flow.proofs.EachWalk.{cons_same}
 
 same : (n : ℕ) → nat_eq n n ≡ true
@@ -67,25 +68,7 @@ row_forced plan hops v (p ∷ ps) (c ∷ xs) (d ∷ ys) x y a b =
     (walks_are_cut_in_one_way plan hops p c d d c x.0.0 y.0.0 x.0.1 y.0.1 (swapped v c d (front_of v c (in_a_row xs) a) (front_of v d (in_a_row ys) b)) x.0.2 y.0.2)
     (row_forced plan hops v ps xs ys x.1 y.1 (behind_of v c (in_a_row xs) a) (behind_of v d (in_a_row ys) b))
 
--- ---- what each worker has, all have
-
-seen_here : (plan : PlanState) (hops : List Hop) (b : Bool) (p : PacketIn) (ps : List PacketIn) (x : List ℕ) (xs : List (List ℕ)) → b ≡ true → AreSeen plan hops (cond b (p ∷ ps) ps) (cond b (x ∷ xs) xs) → IsSeen plan hops p x
-seen_here plan hops true p ps x xs is h = h.0
-seen_here plan hops false p ps x xs is h = absurd cc
-
-seen_behind : (plan : PlanState) (hops : List Hop) (b : Bool) (p : PacketIn) (ps : List PacketIn) (x : List ℕ) (xs : List (List ℕ)) → AreSeen plan hops (cond b (p ∷ ps) ps) (cond b (x ∷ xs) xs) → AreSeen plan hops ps xs
-seen_behind plan hops true p ps x xs h = h.1
-seen_behind plan hops false p ps x xs h = h
-
-each_seen : (plan : PlanState) (hops : List Hop) (w n : ℕ) (ps : List PacketIn) (xs : List (List ℕ)) → 0 < w → length xs ≡ length ps → ((k : ℕ) → k < w → AreSeen plan hops (pick k w n ps) (pick k w n xs))
-    → AreSeen plan hops ps xs
-each_seen plan hops w n [] [] some count each = tt
-each_seen plan hops w n [] (x ∷ xs) some count each = absurd (omega (arith, count))
-each_seen plan hops w n (p ∷ ps) [] some count each = absurd (omega (arith, count))
-each_seen plan hops w n (p ∷ ps) (x ∷ xs) some count each = (
-  seen_here plan hops (nat_eq (n % w) (n % w)) p (pick (n % w) w (n + 1) ps) x (pick (n % w) w (n + 1) xs) (same (n % w)) (each (n % w) (mod_below n w some)),
-  each_seen plan hops w (n + 1) ps xs some (omega (arith, count)) (λ k less. seen_behind plan hops (nat_eq (n % w) k) p (pick k w (n + 1) ps) x (pick k w (n + 1) xs) (each k less)),
-)
+-- ---- what each worker's versions are, all are
 
 level_here : (v : ℕ) (b : Bool) (x : List ℕ) (xs : List (List ℕ)) → b ≡ true → Are v (in_a_row (cond b (x ∷ xs) xs)) → Are v x
 level_here v true x xs is all = front_of v x (in_a_row xs) all
@@ -105,8 +88,8 @@ each_level v w n (x ∷ xs) some each =
 -- ---- the law
 
 module _ (plan : PlanState) (hops : List Hop) (w v : ℕ) (packets : List PacketIn) (seen : List (List ℕ)) (some : 0 < w) (lawful : AreLawful plan hops w v v packets seen) where
-  all_seen : AreSeen plan hops packets seen
-  all_seen = each_seen plan hops w 0 packets seen some lawful.count lawful.walks
+  seen_all : AreSeen plan hops packets seen
+  seen_all = all_seen plan hops w 0 packets seen some lawful.count lawful.walks
 
   all_level : Are v (in_a_row seen)
   all_level = each_level v w 0 seen some (λ k less. (level v v (in_a_row (pick k w 0 seen)) (omega arith) (lawful.rises k less)).1)
@@ -114,4 +97,4 @@ module _ (plan : PlanState) (hops : List Hop) (w v : ℕ) (packets : List Packet
 pub forced : (plan : PlanState) (hops : List Hop) (w w' v : ℕ) (packets : List PacketIn) (seen seen' : List (List ℕ)) → 0 < w → 0 < w' → AreLawful plan hops w v v packets seen → AreLawful plan hops w' v v packets seen'
     → seen ≡ seen'
 forced plan hops w w' v packets seen seen' some some' x y =
-    row_forced plan hops v packets seen seen' (all_seen plan hops w v packets seen some x) (all_seen plan hops w' v packets seen' some' y) (all_level plan hops w v packets seen some x) (all_level plan hops w' v packets seen' some' y)
+    row_forced plan hops v packets seen seen' (seen_all plan hops w v packets seen some x) (seen_all plan hops w' v packets seen' some' y) (all_level plan hops w v packets seen some x) (all_level plan hops w' v packets seen' some' y)

@@ -9,7 +9,8 @@ use Rattle.packet_walk.specs.declared.packet.PacketIn.{PacketIn}
 use Rattle.packet_walk.specs.Walk.{Rises}
 use Rattle.label_flow.specs.Pair.{PairState}
 use Rattle.label_flow.specs.Round.{pick, IsWork, AreRounds, IsRound}
-use Rattle.label_flow.specs.Schedule.{AreSeen, in_a_row, versions_in, AreLawful}
+use Rattle.label_flow.specs.Schedule.{in_a_row, versions_in, AreLawful}
+use Rattle.label_flow.proofs.Dealt.{AreSeen}
 
 -- all viewers have this plan, and have seen this version
 abbrev Stands : PlanState → ℕ → ViewerState → Type 0

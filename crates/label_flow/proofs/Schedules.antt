@@ -9,9 +9,9 @@ use Rattle.shared_tables.specs.Plan.{PlanState}
 use Rattle.packet_walk.specs.declared.packet.PacketIn.{PacketIn}
 use Rattle.packet_walk.specs.Walk.{Rises}
 use Rattle.label_flow.specs.Round.{pick}
-use Rattle.label_flow.specs.Schedule.{FlowEvent, step, look, looks_of, steps_in, AreSeen, in_a_row, AreLawful, IsPlay, times, looks_at, by_version, rows_by}
+use Rattle.label_flow.specs.Schedule.{FlowEvent, step, look, looks_of, steps_in, in_a_row, AreLawful, IsPlay, times, looks_at, by_version, rows_by}
 use Rattle.label_flow.proofs.Rising.{rises_lower, rises_later}
-use Rattle.label_flow.proofs.Dealt.{rows_are, each_seen, judged_by, as_many, seen_of, all_seen}
+use Rattle.label_flow.proofs.Dealt.{AreSeen, rows_are, each_seen, judged_by, as_many, seen_of, all_seen}
 
 -- what a worker finds doesn't fall
 looks_rise : (k v : ℕ) (events : List FlowEvent) → Rises v (v + steps_in events) (looks_of k v events)

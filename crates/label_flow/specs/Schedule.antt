@@ -1,5 +1,6 @@
 -- Some order of the publisher's steps and the workers' looks, and the versions that it gives.
 use Rattle.std.specs.Prelude.{◌≡◌, ℕ, suc, zero, ◌+◌, ◌<◌, ◌%◌, List, [], ◌∷◌, ◌++◌, length, map, nat_eq, cond, replicate}
+use Rattle.std.specs.List.{AllZip}
 use Rattle.flow_lines.specs.declared.hop.Hop.{Hop}
 use Rattle.shared_tables.specs.Plan.{PlanState}
 use Rattle.packet_walk.specs.declared.packet.PacketIn.{PacketIn}
@@ -28,12 +29,6 @@ steps_in (look worker ∷ events) = steps_in events
 abbrev pub IsSeen : PlanState → List Hop → PacketIn → List ℕ → Type 0
 IsSeen plan hops packet versions = (end : End) × (out : List ℕ) × IsWalkOf plan hops packet versions end out
 
--- the versions of each packet are those of a walk
-abbrev pub AreSeen : PlanState → List Hop → List PacketIn → List (List ℕ) → Type 0
-AreSeen plan hops [] [] = Unit {0}
-AreSeen plan hops (packet ∷ packets) (versions ∷ seen) = IsSeen plan hops packet versions × AreSeen plan hops packets seen
-AreSeen plan hops packets seen = ⊥
-
 -- the versions of all packets, one after another
 abbrev pub in_a_row : List (List ℕ) → List ℕ
 in_a_row [] = []
@@ -43,7 +38,7 @@ in_a_row (versions ∷ seen) = versions ++ in_a_row seen
 -- versions as its walk under them judges hops, and along a worker's packets none falls.
 pub record AreLawful (plan : PlanState) (hops : List Hop) (w before after : ℕ) (packets : List PacketIn) (seen : List (List ℕ)) : Type 0 where
   pub count : length seen ≡ length packets
-  pub walks : (k : ℕ) → k < w → AreSeen plan hops (pick k w 0 packets) (pick k w 0 seen)
+  pub walks : (k : ℕ) → k < w → AllZip (IsSeen plan hops) (pick k w 0 packets) (pick k w 0 seen)
   pub rises : (k : ℕ) → k < w → Rises before after (in_a_row (pick k w 0 seen))
 
 -- one worker has these looks left, and the others what they had

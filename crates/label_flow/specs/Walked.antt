@@ -1,5 +1,6 @@
 -- What became of packets, one after the other, each by the walk under its own versions.
-use Rattle.std.specs.Prelude.{List, [], ◌∷◌}
+use Rattle.std.specs.Prelude.{List, length, take}
+use Rattle.std.specs.List.{AllZip}
 use Rattle.flow_lines.specs.declared.hop.Hop.{Hop}
 use Rattle.shared_tables.specs.Plan.{PlanState}
 use Rattle.packet_walk.specs.declared.packet.PacketIn.{PacketIn}
@@ -8,7 +9,5 @@ use Rattle.label_flow.specs.Pair.{PairState}
 
 -- each of these is what became of one of the first packets, in their order
 abbrev pub AreWalked : PlanState → List Hop → List PacketIn → List PairState → Type 0
-AreWalked plan hops packets [] = Unit {0}
-AreWalked plan hops [] (pair ∷ pairs) = ⊥
-AreWalked plan hops (packet ∷ packets) (pair ∷ pairs) =
-    IsWalkOf plan hops packet pair.walked.versions pair.walked.end pair.octets × AreWalked plan hops packets pairs
+AreWalked plan hops packets pairs =
+    AllZip (λ packet pair. IsWalkOf plan hops packet pair.walked.versions pair.walked.end pair.octets) (take (length pairs) packets) pairs

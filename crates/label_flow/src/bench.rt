@@ -1,9 +1,8 @@
 //! What a worker owns.
 
-ghost use Rattle.std.specs.Prelude.{◌≡◌, ◌+◌, ◌<◌, ◌≤◌, [], ◌∷◌, ◌++◌, length, take, slice_get, Some, OnOk};
-ghost use Rattle.label_flow.specs.Pair.{PairState};
+ghost use Rattle.std.specs.Prelude.{◌≡◌, ◌+◌, ◌<◌, ◌≤◌, [], length, take, slice_get, Some, OnOk};
 ghost use Rattle.label_flow.specs.Round.{IsLater};
-ghost use Rattle.label_flow.specs.inside.Work.{HasNodes, IsWalkedBy};
+ghost use Rattle.label_flow.specs.inside.Work.{HasNodes, IsOneMore};
 
 use crate::pair::PairSlot;
 use crossbeam_utils::CachePadded;
@@ -91,9 +90,8 @@ impl Bench {
     ) -> Result<WalkRoom, OutOfMemory>
         requires nodes { HasNodes worker.now.flow.now.hops viewer.old }
         ensures later { IsLater viewer.old viewer.new }
-        ensures ok { OnOk result ((pair : PairState)
-            × (self.new ≡ self.old ++ pair ∷ [])
-            × IsWalkedBy worker.now.flow.now.hops viewer.old viewer.new packet.now pair) }
+        ensures ok { OnOk result (IsOneMore worker.now.flow.now.hops
+            viewer.old viewer.new packet.now self.old self.new) }
     {
         let filled = self.filled;
         let places = &mut self.places;
@@ -118,9 +116,8 @@ fn walk_into_place<G: Gate>(
     ensures later { IsLater viewer.old viewer.new }
     ensures long { length places.old.items ≤ length places.new.items }
     ensures more { OnOk result (filled < length places.new.items) }
-    ensures ok { OnOk result ((pair : PairState)
-        × (take (filled + 1) places.new.items ≡ take filled places.old.items ++ pair ∷ [])
-        × IsWalkedBy worker.now.flow.now.hops viewer.old viewer.new packet.now pair) }
+    ensures ok { OnOk result (IsOneMore worker.now.flow.now.hops viewer.old viewer.new packet.now
+        (take filled places.old.items) (take (filled + 1) places.new.items)) }
 {
     make_place(places, filled)?;
     places[filled].walk(worker, viewer, number, packet, room)

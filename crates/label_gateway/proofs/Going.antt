@@ -1,6 +1,6 @@
 -- Why a packet goes on, and what goes on.
 use Rattle.std.proofs.Common.{◌≡◌, ◌⊎◌, inl, inr, ℕ, ◌+◌, ◌-◌, ◌<◌, ◌≤◌, Bool, true, false, List, Option, Some, None, Result, Ok, Err, refl, sym, ap, ◌∙◌, arith}
-use Rattle.std.specs.Prelude.{nat_le, nat_lt, if◌then◌else◌}
+use Rattle.std.specs.Prelude.{nat_le, nat_lt, ok_or, if◌then◌else◌}
 use Rattle.std.proofs.lemmas.Bool.{ltb-false, leb-false, lt-leb}
 use Rattle.mls_label.specs.declared.label.Label.{Label}
 use Rattle.domain_map.specs.declared.protocol.Protocol.{Protocol}
@@ -10,41 +10,48 @@ use Rattle.ip_headers.specs.Packet.{ParsedPacket, relabelled}
 use Rattle.ip_headers.specs.Written.{rebuilt_length, rebuilt_room, room_limit}
 use Rattle.packet_label.specs.declared.packet.Wire.{Wire}
 use Rattle.packet_label.specs.declared.denial.Denial.{Denial}
-use Rattle.packet_label.specs.declared.denial.Denial.TheVariants.{OutsideRange, Expired, NoRoom, TooLong}
+use Rattle.packet_label.specs.declared.denial.Denial.TheVariants.{OutsideRange, Expired, NoMap, NoRoom, TooLong}
 use Rattle.packet_label.specs.Written.{written}
 use Rattle.version_cross.specs.Cause.{cross_cause}
 use Rattle.version_cross.specs.Cross.{crossed}
 use Rattle.node_tables.specs.Tables.{TableState}
+use Rattle.label_receive.specs.Steps.{◌>>=◌}
 use Rattle.label_receive.specs.Incoming.{Incoming, address_in, label_of}
 use Rattle.label_receive.specs.Range.{is_outside}
 use Rattle.label_send.specs.Outgoing.{suits, carrier_of, outgoing}
-use Rattle.label_send.specs.Room.{within_length, within_room, sent_saying, sent_under}
-use Rattle.label_gateway.specs.Crossing.{partner_of, unless_caused, crossed_saying, crossed_between, crossed_under}
-use Rattle.label_gateway.specs.Forward.{Forwarded, onward, carried_on, forwarded_by, forwarded_from, forward_of}
+use Rattle.label_send.specs.Room.{within_length, within_room, sent_under}
+use Rattle.label_gateway.specs.Crossing.{partner_of, unless_caused, crossed_between, crossed_under}
+use Rattle.label_gateway.specs.Forward.{Forwarded, onward, forward_protocol, forward_of}
 use Rattle.label_gateway.specs.Laws.{GoesOn}
+use Rattle.label_gateway.specs.inside.Protocol.{forwarded_with}
 
 -- ---- the tests of forwarding
 
 -- two tests that deny alike, and one between them
-abbrev tested : Bool → Bool → Bool → Result Forwarded Denial → Result Forwarded Denial
+abbrev tested : Bool → Bool → Bool → Result Protocol Denial → Result Protocol Denial
 tested a b c r = if a then Err OutsideRange else (if b then Err Expired else (if c then Err OutsideRange else r))
 
-record Passes (a b c : Bool) (r : Result Forwarded Denial) (f : Forwarded) : Type 0 where
+record Passes (a b c : Bool) (o : Option Protocol) (protocol : Protocol) : Type 0 where
   first : a ≡ false
   second : b ≡ false
   third : c ≡ false
-  rest : r ≡ Ok f
+  found : o ≡ Some protocol
 
-passes : (a b c : Bool) (r : Result Forwarded Denial) (f : Forwarded) → tested a b c r ≡ Ok f → Passes a b c r f
-passes true b c r f e = absurd (cc)
-passes false true c r f e = absurd (cc)
-passes false false true r f e = absurd (cc)
-passes false false false r f e = record { first = refl; second = refl; third = refl; rest = e }
+passes : (a b c : Bool) (o : Option Protocol) (protocol : Protocol) → tested a b c (ok_or o NoMap) ≡ Ok protocol → Passes a b c o protocol
+passes true b c o protocol e = absurd (cc)
+passes false true c o protocol e = absurd (cc)
+passes false false true o protocol e = absurd (cc)
+passes false false false None protocol e = absurd (cc)
+passes false false false (Some given) protocol e = let same : given ≡ protocol = cc in record { first = refl; second = refl; third = refl; found = ap Some same }
+
+-- what is made of a packet that goes on
+abbrev made_of : Label → Protocol → ParsedPacket Wire → Forwarded
+made_of label protocol packet = record { carrier = carrier_of protocol; label = label; packet = packet }
 
 module _ (t : TableState) (from to domain : List ℕ) (p : ParsedPacket Wire) (f : Forwarded) where
   by_packet : (incoming : Incoming) → label_of t from p ≡ Ok incoming → is_outside t.ranges from incoming.low incoming.high ≡ false → nat_le p.hops 1 ≡ false → is_outside t.ranges to incoming.low incoming.high ≡ false
       → (protocol : Protocol) → find_of t.domains domain (address_in p.version p.destination) ≡ Some protocol
-      → (r : Result (ParsedPacket Wire) Denial) → onward t protocol incoming.high p ≡ r → carried_on incoming.high protocol r ≡ Ok f → GoesOn t from to domain p f
+      → (r : Result (ParsedPacket Wire) Denial) → onward t protocol incoming.high p ≡ r → (r >>= (λ packet. Ok (made_of incoming.high protocol packet))) ≡ Ok f → GoesOn t from to domain p f
   by_packet incoming l a b c protocol o (Err why) g e = absurd (cc)
   by_packet incoming l a b c protocol o (Ok packet) g e =
       let is : f ≡ record { carrier = carrier_of protocol; label = incoming.high; packet = packet } = cc in
@@ -60,17 +67,19 @@ module _ (t : TableState) (from to domain : List ℕ) (p : ParsedPacket Wire) (f
         is = is ∙ ap (λ (x : Forwarded). let y : Forwarded = record { carrier = carrier_of protocol; label = incoming.high; packet = x.packet } in y) (sym is);
       }
 
-  by_protocol : (incoming : Incoming) → label_of t from p ≡ Ok incoming → is_outside t.ranges from incoming.low incoming.high ≡ false → nat_le p.hops 1 ≡ false → is_outside t.ranges to incoming.low incoming.high ≡ false
-      → (o : Option Protocol) → find_of t.domains domain (address_in p.version p.destination) ≡ o → forwarded_by t incoming.high p o ≡ Ok f → GoesOn t from to domain p f
-  by_protocol incoming l a b c None o e = absurd (cc)
-  by_protocol incoming l a b c (Some protocol) o e = by_packet incoming l a b c protocol o (onward t protocol incoming.high p) refl e
+  by_protocol : (incoming : Incoming) → label_of t from p ≡ Ok incoming → (r : Result Protocol Denial) → forward_protocol t from to domain p incoming ≡ r → forwarded_with t incoming.high p r ≡ Ok f → GoesOn t from to domain p f
+  by_protocol incoming l (Err why) g e = absurd (cc)
+  by_protocol incoming l (Ok protocol) g e =
+      let s = passes (is_outside t.ranges from incoming.low incoming.high) (nat_le p.hops 1) (is_outside t.ranges to incoming.low incoming.high) (find_of t.domains domain (address_in p.version p.destination)) protocol g in
+      by_packet incoming l s.first s.second s.third protocol s.found (onward t protocol incoming.high p) refl e
 
-  by_labels : (r : Result Incoming Denial) → label_of t from p ≡ r → forwarded_from t from to domain p r ≡ Ok f → GoesOn t from to domain p f
+  -- the rule from the labels on
+  abbrev from_labels : Incoming → Result Forwarded Denial
+  from_labels incoming = forwarded_with t incoming.high p (forward_protocol t from to domain p incoming)
+
+  by_labels : (r : Result Incoming Denial) → label_of t from p ≡ r → (r >>= from_labels) ≡ Ok f → GoesOn t from to domain p f
   by_labels (Err why) l e = absurd (cc)
-  by_labels (Ok incoming) l e =
-      let found = find_of t.domains domain (address_in p.version p.destination) in
-      let s = passes (is_outside t.ranges from incoming.low incoming.high) (nat_le p.hops 1) (is_outside t.ranges to incoming.low incoming.high) (forwarded_by t incoming.high p found) f e in
-      by_protocol incoming l s.first s.second s.third found refl s.rest
+  by_labels (Ok incoming) l e = by_protocol incoming l (forward_protocol t from to domain p incoming) refl e
 
   pub goes_on : forward_of t from to domain p ≡ Ok f → GoesOn t from to domain p f
   unfolding forward_of
@@ -81,12 +90,14 @@ module _ (t : TableState) (from to domain : List ℕ) (p : ParsedPacket Wire) (f
   gone_on g =
       let i = g.incoming in
       let late : nat_le p.hops 1 ≡ false = lt-leb p.hops 1 g.hops in
-      ap (forwarded_from t from to domain p) g.labels
-      ∙ ap (λ a. tested a (nat_le p.hops 1) (is_outside t.ranges to i.low i.high) (forwarded_by t i.high p (find_of t.domains domain (address_in p.version p.destination)))) g.taken
-      ∙ ap (λ b. tested false b (is_outside t.ranges to i.low i.high) (forwarded_by t i.high p (find_of t.domains domain (address_in p.version p.destination)))) late
-      ∙ ap (λ c. tested false false c (forwarded_by t i.high p (find_of t.domains domain (address_in p.version p.destination)))) g.released
-      ∙ ap (forwarded_by t i.high p) g.found
-      ∙ ap (carried_on i.high g.protocol) g.goes
+      let found = ok_or (find_of t.domains domain (address_in p.version p.destination)) NoMap in
+      let goes : Result Protocol Denial → Result Forwarded Denial = λ r. forwarded_with t i.high p r in
+      ap (λ (r : Result Incoming Denial). r >>= from_labels) g.labels
+      ∙ ap (λ a. goes (tested a (nat_le p.hops 1) (is_outside t.ranges to i.low i.high) found)) g.taken
+      ∙ ap (λ b. goes (tested false b (is_outside t.ranges to i.low i.high) found)) late
+      ∙ ap (λ c. goes (tested false false c found)) g.released
+      ∙ ap (λ (o : Option Protocol). goes (ok_or o NoMap)) g.found
+      ∙ ap (λ (r : Result (ParsedPacket Wire) Denial). r >>= (λ packet. Ok (made_of i.high g.protocol packet))) g.goes
       ∙ ap Ok (sym g.is)
 
 -- ---- what goes on
@@ -129,18 +140,21 @@ pub record CrossesSo (t : TableState) (protocol : Protocol) (label : Label) (p n
 module _ (t : TableState) (protocol : Protocol) (label : Label) (p new : ParsedPacket Wire) where
   pub stays_so : sent_under t.definitions protocol label p (p.hops - 1) ≡ Ok new → StaysSo t protocol label p new
   stays_so e = by_said (outgoing t.definitions protocol label) refl e where
-    by_said : (r : Result (Option Wire) Denial) → outgoing t.definitions protocol label ≡ r → sent_saying p (p.hops - 1) r ≡ Ok new → StaysSo t protocol label p new
+    by_said : (r : Result (Option Wire) Denial) → outgoing t.definitions protocol label ≡ r → (r >>= (λ said. within_room (relabelled p said (p.hops - 1)))) ≡ Ok new → StaysSo t protocol label p new
     by_said (Err why) o e = absurd (cc)
     by_said (Ok said) o e = let k = kept_room (relabelled p said (p.hops - 1)) new e in record { said = said; out = o; is = k.is }
 
   module _ (source destination : List ℕ) (from : partner_of t.pairs p.version p.source ≡ Some source) (to : partner_of t.pairs p.version p.destination ≡ Some destination) where
-    by_said : (r : Result (Option Wire) Denial) → outgoing t.definitions protocol label ≡ r → cross_cause p ≡ None → crossed_saying p source destination (p.hops - 1) r ≡ Ok new → CrossesSo t protocol label p new
+    abbrev with_said : Option Wire → Result (ParsedPacket Wire) Denial
+    with_said said = within_length (crossed p source destination said (p.hops - 1))
+
+    by_said : (r : Result (Option Wire) Denial) → outgoing t.definitions protocol label ≡ r → cross_cause p ≡ None → (r >>= with_said) ≡ Ok new → CrossesSo t protocol label p new
     by_said (Err why) o can e = absurd (cc)
     by_said (Ok said) o can e =
         let k = kept_length (crossed p source destination said (p.hops - 1)) new e in
         record { source = source; destination = destination; said = said; from = from; to = to; can = can; out = o; is = k.is; long = k.long }
 
-    by_cause : (c : Option Cause) → cross_cause p ≡ c → unless_caused c (crossed_saying p source destination (p.hops - 1) (outgoing t.definitions protocol label)) ≡ Ok new → CrossesSo t protocol label p new
+    by_cause : (c : Option Cause) → cross_cause p ≡ c → unless_caused c (outgoing t.definitions protocol label >>= with_said) ≡ Ok new → CrossesSo t protocol label p new
     by_cause (Some cause) n e = absurd (cc)
     by_cause None n e = by_said (outgoing t.definitions protocol label) refl n e
 

@@ -1,6 +1,6 @@
 -- No packet is denied for its version.
 use Rattle.std.proofs.Common.{◌≡◌, ℕ, ◌-◌, Bool, true, false, List, Option, Some, None, Result, Ok, Err, ap}
-use Rattle.std.specs.Prelude.{nat_le, nat_lt, if◌then◌else◌}
+use Rattle.std.specs.Prelude.{nat_le, nat_lt, ok_or, if◌then◌else◌}
 use Rattle.std.proofs.lemmas.Bool.{false≢true}
 use Rattle.mls_label.specs.declared.label.Label.{Label}
 use Rattle.mls_label.specs.declared.label.Tag.{Tag}
@@ -21,25 +21,28 @@ use Rattle.ip_headers.specs.Written.{rebuilt_length, rebuilt_room, room_limit}
 use Rattle.packet_label.specs.declared.packet.Wire.{Wire}
 use Rattle.packet_label.specs.declared.packet.Wire.TheVariants as wire
 use Rattle.packet_label.specs.declared.denial.Denial.{Denial}
-use Rattle.packet_label.specs.declared.denial.Denial.TheVariants.{OutsideRange, Inexpressible, NoRoom, TooLong, Expired, WrongVersion}
+use Rattle.packet_label.specs.declared.denial.Denial.TheVariants.{OutsideRange, Inexpressible, NoRoom, TooLong, Expired, NoMap, WrongVersion}
 use Rattle.packet_label.specs.Written.{written}
 use Rattle.version_cross.specs.Cause.{cross_cause}
 use Rattle.version_cross.specs.Cross.{crossed}
 use Rattle.node_tables.specs.Tables.{TableState}
+use Rattle.label_receive.specs.Steps.{◌>>=◌}
 use Rattle.label_receive.specs.Incoming.{Incoming, address_in, label_of}
 use Rattle.label_receive.specs.Range.{is_outside}
 use Rattle.label_receive.proofs.Law.{missing_labels_have_six_reasons}
-use Rattle.label_send.specs.Outgoing.{suits, is_in_words, cipso_with, cipso_said, cipso_by, calipso_said, calipso_by, outgoing}
-use Rattle.label_send.specs.Room.{within_length, within_room, sent_saying, sent_under}
-use Rattle.label_gateway.specs.Crossing.{partner_of, unless_caused, crossed_saying, crossed_between, crossed_under}
-use Rattle.label_gateway.specs.Forward.{Forwarded, onward, carried_on, forwarded_by, forwarded_from, forward_of}
+use Rattle.label_send.specs.Outgoing.{suits, carrier_of, is_in_words, cipso_with, cipso_said, cipso_by, calipso_said, calipso_by, outgoing}
+use Rattle.label_send.specs.Room.{within_length, within_room, sent_under}
+use Rattle.label_gateway.specs.Crossing.{partner_of, unless_caused, crossed_between, crossed_under}
+use Rattle.label_gateway.specs.Forward.{Forwarded, onward, forward_protocol, forward_of}
+use Rattle.label_gateway.specs.inside.Protocol.{forwarded_with}
 
 abbrev IsOther : {X : Type 0} → Result X Denial → Type 0
 IsOther r = r ≡ Err WrongVersion → ⊥
 
--- what denies one denies the next
-handed_on : {X Y : Type 0} (why : Denial) → IsOther {X = X} (Err why) → IsOther {X = Y} (Err why)
-handed_on why other h = let same : why ≡ WrongVersion = cc in other (ap Err same)
+-- a step that denies ends the rule
+step_other : {X Y : Type 0} (r : Result X Denial) (rest : X → Result Y Denial) → IsOther r → ((x : X) → IsOther (rest x)) → IsOther (r >>= rest)
+step_other (Err why) rest other later h = let same : why ≡ WrongVersion = cc in other (ap Err same)
+step_other (Ok x) rest other later h = later x h
 
 -- ---- what goes out
 
@@ -87,13 +90,9 @@ room_other p = by_test (nat_lt (room_limit p.version) (rebuilt_room (written p))
   by_test false h = length_other p h
 
 module _ (p : ParsedPacket Wire) (hops : ℕ) where
-  sent_other : (r : Result (Option Wire) Denial) → IsOther r → IsOther (sent_saying p hops r)
-  sent_other (Err why) other h = handed_on why other h
-  sent_other (Ok said) other h = room_other (relabelled p said hops) h
-
-  crossed_other : (source destination : List ℕ) (r : Result (Option Wire) Denial) → IsOther r → IsOther (crossed_saying p source destination hops r)
-  crossed_other source destination (Err why) other h = handed_on why other h
-  crossed_other source destination (Ok said) other h = length_other (crossed p source destination said hops) h
+  sent_other : (definitions : Entries) (protocol : Protocol) (label : Label) → IsOther (sent_under definitions protocol label p hops)
+  sent_other definitions protocol label =
+      step_other (outgoing definitions protocol label) (λ said. within_room (relabelled p said hops)) (out_other definitions protocol label) (λ said. room_other (relabelled p said hops))
 
   caused_other : (o : Option Cause) (r : Result (ParsedPacket Wire) Denial) → IsOther r → IsOther (unless_caused o r)
   caused_other (Some cause) r other h = absurd (cc)
@@ -103,8 +102,9 @@ module _ (p : ParsedPacket Wire) (hops : ℕ) where
   between_other definitions protocol label None b h = absurd (cc)
   between_other definitions protocol label (Some source) None h = absurd (cc)
   between_other definitions protocol label (Some source) (Some destination) h =
-      caused_other (cross_cause p) (crossed_saying p source destination hops (outgoing definitions protocol label))
-      (crossed_other source destination (outgoing definitions protocol label) (out_other definitions protocol label)) h
+      let out = outgoing definitions protocol label in
+      let rest : Option Wire → Result (ParsedPacket Wire) Denial = λ said. within_length (crossed p source destination said hops) in
+      caused_other (cross_cause p) (out >>= rest) (step_other out rest (out_other definitions protocol label) (λ said. length_other (crossed p source destination said hops))) h
 
 -- ---- forwarding
 
@@ -112,29 +112,36 @@ module _ (t : TableState) (from to domain : List ℕ) (p : ParsedPacket Wire) wh
   onward_other : (protocol : Protocol) (label : Label) → IsOther (onward t protocol label p)
   onward_other protocol label = by_test (suits p.version protocol) where
     by_test : (b : Bool) → IsOther (if b then sent_under t.definitions protocol label p (p.hops - 1) else crossed_under t protocol label p (p.hops - 1))
-    by_test true h = sent_other p (p.hops - 1) (outgoing t.definitions protocol label) (out_other t.definitions protocol label) h
+    by_test true h = sent_other p (p.hops - 1) t.definitions protocol label h
     by_test false h = between_other p (p.hops - 1) t.definitions protocol label (partner_of t.pairs p.version p.source) (partner_of t.pairs p.version p.destination) h
 
-  carried_other : (label : Label) (protocol : Protocol) (r : Result (ParsedPacket Wire) Denial) → IsOther r → IsOther (carried_on label protocol r)
-  carried_other label protocol (Err why) other h = handed_on why other h
-  carried_other label protocol (Ok packet) other h = absurd (cc)
+  done_other : (f : Forwarded) → IsOther {X = Forwarded} (Ok f)
+  done_other f h = absurd (cc)
 
-  map_other : (label : Label) (o : Option Protocol) → IsOther (forwarded_by t label p o)
-  map_other label None h = absurd (cc)
-  map_other label (Some protocol) h = carried_other label protocol (onward t protocol label p) (onward_other protocol label) h
+  with_other_protocol : (label : Label) (protocol : Protocol) → IsOther (forwarded_with t label p (Ok protocol))
+  with_other_protocol label protocol =
+      let made : ParsedPacket Wire → Forwarded = λ packet. record { carrier = carrier_of protocol; label = label; packet = packet } in
+      step_other (onward t protocol label p) (λ packet. Ok (made packet)) (onward_other protocol label) (λ packet. done_other (made packet))
 
-  tests_other : (a b c : Bool) (r : Result Forwarded Denial) → IsOther r → IsOther (if a then Err OutsideRange else (if b then Err Expired else (if c then Err OutsideRange else r)))
+  map_other : (o : Option Protocol) → IsOther (ok_or o NoMap)
+  map_other None h = absurd (cc)
+  map_other (Some protocol) h = absurd (cc)
+
+  tests_other : (a b c : Bool) (r : Result Protocol Denial) → IsOther r → IsOther (if a then Err OutsideRange else (if b then Err Expired else (if c then Err OutsideRange else r)))
   tests_other true b c r other h = absurd (cc)
   tests_other false true c r other h = absurd (cc)
   tests_other false false true r other h = absurd (cc)
   tests_other false false false r other h = other h
 
-  labels_other : (r : Result Incoming Denial) → IsOther r → IsOther (forwarded_from t from to domain p r)
-  labels_other (Err why) other h = handed_on why other h
-  labels_other (Ok incoming) other h =
+  protocol_other : (incoming : Incoming) → IsOther (forward_protocol t from to domain p incoming)
+  protocol_other incoming =
       let found = find_of t.domains domain (address_in p.version p.destination) in
-      tests_other (is_outside t.ranges from incoming.low incoming.high) (nat_le p.hops 1) (is_outside t.ranges to incoming.low incoming.high)
-      (forwarded_by t incoming.high p found) (map_other incoming.high found) h
+      tests_other (is_outside t.ranges from incoming.low incoming.high) (nat_le p.hops 1) (is_outside t.ranges to incoming.low incoming.high) (ok_or found NoMap) (map_other found)
+
+  labels_other : (r : Result Incoming Denial) → IsOther r → IsOther (r >>= (λ incoming. forwarded_with t incoming.high p (forward_protocol t from to domain p incoming)))
+  labels_other r other =
+      step_other r (λ incoming. forwarded_with t incoming.high p (forward_protocol t from to domain p incoming)) other
+      (λ incoming. step_other (forward_protocol t from to domain p incoming) (λ protocol. forwarded_with t incoming.high p (Ok protocol)) (protocol_other incoming) (with_other_protocol incoming.high))
 
   pub never_wrong_version : forward_of t from to domain p ≡ Err WrongVersion → ⊥
   unfolding forward_of

@@ -1,5 +1,5 @@
 -- Forwarding at a node, from one interface to another, by the first case that holds.
-use Rattle.std.specs.Prelude.{ℕ, ◌-◌, nat_le, List, Option, Some, None, Result, Ok, Err, if◌then◌else◌}
+use Rattle.std.specs.Prelude.{ℕ, ◌-◌, nat_le, List, ok_or, Result, Ok, Err, if◌then◌else◌}
 use Rattle.mls_label.specs.declared.label.Label.{Label}
 use Rattle.domain_map.specs.declared.protocol.Protocol.{Protocol}
 use Rattle.domain_map.specs.Domains.{find_of}
@@ -9,6 +9,7 @@ use Rattle.packet_label.specs.declared.denial.Carrier.{Carrier}
 use Rattle.packet_label.specs.declared.denial.Denial.{Denial}
 use Rattle.packet_label.specs.declared.denial.Denial.TheVariants.{OutsideRange, Expired, NoMap}
 use Rattle.node_tables.specs.Tables.{TableState}
+use Rattle.label_receive.specs.Steps.{◌>>=◌}
 use Rattle.label_receive.specs.Incoming.{Incoming, address_in, label_of}
 use Rattle.label_receive.specs.Range.{is_outside}
 use Rattle.label_send.specs.Outgoing.{suits, carrier_of}
@@ -27,25 +28,19 @@ onward t protocol label p =
     if suits p.version protocol then sent_under t.definitions protocol label p (p.hops - 1)
     else crossed_under t protocol label p (p.hops - 1)
 
--- what a protocol makes of it
-abbrev pub carried_on : Label → Protocol → Result (ParsedPacket Wire) Denial → Result Forwarded Denial
-carried_on label protocol (Err why) = Err why
-carried_on label protocol (Ok packet) = Ok (record { carrier = carrier_of protocol; label = label; packet = packet })
-
--- the protocol that the domain's map gives towards the destination
-abbrev pub forwarded_by : TableState → Label → ParsedPacket Wire → Option Protocol → Result Forwarded Denial
-forwarded_by t label p None = Err NoMap
-forwarded_by t label p (Some protocol) = carried_on label protocol (onward t protocol label p)
-
--- both interfaces have to take both labels of the packet, and a hop has to be left
-abbrev pub forwarded_from : TableState → List ℕ → List ℕ → List ℕ → ParsedPacket Wire → Result Incoming Denial → Result Forwarded Denial
-forwarded_from t from to domain p (Err why) = Err why
-forwarded_from t from to domain p (Ok incoming) =
+-- The protocol under which a packet with these labels goes on: both interfaces have to take both labels, a hop has to be left, and the
+-- domain's map has to give a protocol towards the destination.
+abbrev pub forward_protocol : TableState → List ℕ → List ℕ → List ℕ → ParsedPacket Wire → Incoming → Result Protocol Denial
+forward_protocol t from to domain p incoming =
     if is_outside t.ranges from incoming.low incoming.high then Err OutsideRange else
     (if nat_le p.hops 1 then Err Expired else
     (if is_outside t.ranges to incoming.low incoming.high then Err OutsideRange else
-    forwarded_by t incoming.high p (find_of t.domains domain (address_in p.version p.destination))))
+    ok_or (find_of t.domains domain (address_in p.version p.destination)) NoMap))
 
 -- what a node does with a packet that comes in at one interface for another
 unfoldable pub forward_of : TableState → List ℕ → List ℕ → List ℕ → ParsedPacket Wire → Result Forwarded Denial
-forward_of t from to domain p = forwarded_from t from to domain p (label_of t from p)
+forward_of t from to domain p = do
+  incoming ← label_of t from p
+  protocol ← forward_protocol t from to domain p incoming
+  packet ← onward t protocol incoming.high p
+  Ok (record { carrier = carrier_of protocol; label = incoming.high; packet = packet })

@@ -1,6 +1,6 @@
 -- Why a packet is delivered, and that nothing is below the lowest label.
 use Rattle.std.proofs.Common.{◌≡◌, ℕ, Bool, true, false, List, Option, Some, None, Result, Ok, Err, refl, sym, ap, ◌∙◌}
-use Rattle.std.specs.Prelude.{not, if◌then◌else◌}
+use Rattle.std.specs.Prelude.{not, ok_or, if◌then◌else◌}
 use Rattle.std.proofs.lemmas.Bool.{false≢true, true≢false}
 use Rattle.mls_label.specs.declared.label.Label.{Label}
 use Rattle.mls_range.specs.Computed.{dominates}
@@ -14,9 +14,10 @@ use Rattle.domain_map.specs.Domains.{Domains}
 use Rattle.node_tables.specs.declared.receiver.Receiver.{Receiver}
 use Rattle.node_tables.specs.Tables.{TableState, find_receiver_of}
 use Rattle.label_receive.specs.declared.receiving.Delivered.{Delivered}
+use Rattle.label_receive.specs.Steps.{◌>>=◌}
 use Rattle.label_receive.specs.Incoming.{Incoming, address_in, label_of}
 use Rattle.label_receive.specs.Range.{is_outside}
-use Rattle.label_receive.specs.Receive.{map_refuses, refusal_of, delivered_unless, delivered_to, received, receive_of}
+use Rattle.label_receive.specs.Receive.{map_refuses, refusal_of, delivered_unless, delivered_to, receive_of}
 use Rattle.label_receive.specs.Laws.{IsDelivered}
 
 -- the three tests of a receiver, as Booleans
@@ -50,10 +51,12 @@ goes_through (Some why) address label d h = absurd (cc)
 
 -- delivered by a receiver that was looked up
 abbrev pub by_receiver : Domains → Address → Address → Incoming → Option Receiver → Result Delivered Denial
-by_receiver domains source destination incoming o = elim o as (λ _. Result Delivered Denial) [
-  | None ↦ Err NoReceiver
-  | Some receiver ↦ delivered_unless (refusal_of domains receiver source incoming) destination incoming.high
-]
+by_receiver domains source destination incoming o = ok_or o NoReceiver >>= (λ receiver. delivered_unless (refusal_of domains receiver source incoming) destination incoming.high)
+
+-- what has these labels
+abbrev pub by_labels : TableState → List ℕ → ParsedPacket Wire → Incoming → Result Delivered Denial
+by_labels t interface p incoming =
+    if is_outside t.ranges interface incoming.low incoming.high then Err OutsideRange else delivered_to t (address_in p.version p.source) (address_in p.version p.destination) incoming
 
 due_to : (t : TableState) (interface : List ℕ) (p : ParsedPacket Wire) (d : Delivered) (incoming : Incoming) → label_of t interface p ≡ Ok incoming
     → is_outside t.ranges interface incoming.low incoming.high ≡ false → (o : Option Receiver) → find_receiver_of t.receivers (address_in p.version p.destination) ≡ o
@@ -83,7 +86,7 @@ due_in t interface p d incoming labels false inside h =
     due_to t interface p d incoming labels inside (find_receiver_of t.receivers (address_in p.version p.destination)) refl h
 
 due_by : (t : TableState) (interface : List ℕ) (p : ParsedPacket Wire) (d : Delivered) (r : Result Incoming Denial) → label_of t interface p ≡ r
-    → received t interface (address_in p.version p.source) (address_in p.version p.destination) r ≡ Ok d → IsDelivered t interface p d
+    → (r >>= by_labels t interface p) ≡ Ok d → IsDelivered t interface p d
 due_by t interface p d (Err why) labels h = absurd (cc)
 due_by t interface p d (Ok incoming) labels h = due_in t interface p d incoming labels (is_outside t.ranges interface incoming.low incoming.high) refl h
 
@@ -106,7 +109,7 @@ is_delivered t interface p d due =
     let none : refusal_of t.domains due.receiver source i ≡ None =
     chain_passes (map_refuses t.domains due.receiver.domain source i.carrier) (dominates due.receiver.level i.high) (dominates i.low due.receiver.low) due.agrees
     ((dominance_computes due.receiver.level i.high).1 due.dominated) ((dominance_computes i.low due.receiver.low).1 due.above) in
-    ap (received t interface source destination) due.labels
+    ap (λ (r : Result Incoming Denial). r >>= by_labels t interface p) due.labels
     ∙ ap (λ (b : Bool). if b then Err OutsideRange else delivered_to t source destination i) due.inside
     ∙ ap (by_receiver t.domains source destination i) due.receives
     ∙ ap (λ (o : Option Denial). delivered_unless o destination i.high) none

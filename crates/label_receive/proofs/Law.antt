@@ -3,9 +3,7 @@ use Rattle.std.proofs.Common.{◌≡◌, ℕ, List, IsTrue, Result, Ok, Err, ref
 use Rattle.ip_headers.specs.Packet.{ParsedPacket}
 use Rattle.packet_label.specs.declared.denial.Denial.{Denial}
 use Rattle.packet_label.specs.declared.denial.Denial.TheVariants.{BelowRange}
-use Rattle.packet_label.specs.declared.fault.CarryFault.{CarryFault}
 use Rattle.packet_label.specs.declared.packet.Wire.{Wire}
-use Rattle.packet_label.specs.Written.{IsReadAs}
 use Rattle.packet_label.proofs.Law.{octets_are_a_packet_or_have_one_fault}
 use Rattle.node_tables.specs.Tables.{TableState}
 use Rattle.label_receive.specs.declared.receiving.Delivered.{Delivered}
@@ -16,14 +14,8 @@ use Rattle.label_receive.specs.Laws.{HaveLowestEnds, IsDelivered, is_of_labels}
 use Rattle.label_receive.proofs.Due.{is_due, is_delivered}
 use Rattle.label_receive.proofs.Lowest.{label_so, none_below}
 
-one_read : (octets : List ℕ) (a b : Result (ParsedPacket Wire) CarryFault) → IsReadAs octets a → IsReadAs octets b → a ≡ b
-one_read octets (Ok p) (Ok q) x y = ap Ok ((octets_are_a_packet_or_have_one_fault octets).one_packet p q x y)
-one_read octets (Err f) (Err g) x y = ap Err ((octets_are_a_packet_or_have_one_fault octets).one_fault f g x y)
-one_read octets (Ok p) (Err f) x y = absurd ((octets_are_a_packet_or_have_one_fault octets).not_both p f x y)
-one_read octets (Err f) (Ok p) x y = absurd ((octets_are_a_packet_or_have_one_fault octets).not_both p f y x)
-
 pub verdicts_are_determined : {X : Type 0} (octets : List ℕ) (rule : ParsedPacket Wire → Result X Denial) (a b : Result X Denial) → IsJudged octets rule a → IsJudged octets rule b → a ≡ b
-verdicts_are_determined octets rule a b x y = x.is ∙ ap (judged_by rule) (one_read octets x.read y.read x.reads y.reads) ∙ sym y.is
+verdicts_are_determined octets rule a b x y = x.is ∙ ap (judged_by rule) ((octets_are_a_packet_or_have_one_fault octets).one x.read y.read x.reads y.reads) ∙ sym y.is
 
 pub octets_have_a_verdict : {X : Type 0} (octets : List ℕ) (rule : ParsedPacket Wire → Result X Denial) → (verdict : Result X Denial) × IsJudged octets rule verdict
 octets_have_a_verdict octets rule =

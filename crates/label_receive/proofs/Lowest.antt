@@ -26,11 +26,12 @@ use Rattle.domain_map.specs.Domains.{Domains}
 use Rattle.domain_map.specs.Statics.{find_static_of}
 use Rattle.node_tables.specs.declared.receiver.Receiver.{Receiver}
 use Rattle.node_tables.specs.Tables.{TableState, find_receiver_of}
+use Rattle.label_receive.specs.Steps.{◌>>=◌}
 use Rattle.label_receive.specs.Incoming.{Incoming, address_in, static_labels, translated, lists_tag, option_labels, label_of}
 use Rattle.label_receive.specs.Range.{is_outside}
-use Rattle.label_receive.specs.Receive.{map_refuses, refusal_of, delivered_unless, delivered_to, received, receive_of}
+use Rattle.label_receive.specs.Receive.{map_refuses, refusal_of, delivered_unless, delivered_to, receive_of}
 use Rattle.label_receive.specs.Laws.{HaveLowestEnds, is_of_labels}
-use Rattle.label_receive.proofs.Due.{below, by_receiver}
+use Rattle.label_receive.proofs.Due.{below, by_receiver, by_labels}
 
 -- ---- what denies a packet its labels
 
@@ -113,12 +114,12 @@ inside_other t false source destination incoming lowest h =
     by_receiver_other t.domains source destination incoming (find_receiver_of t.receivers destination)
     (All-lookup (λ (r : Receiver). r.low ≡ record { level = 0; cats = [] }) (same_address destination) t.receivers lowest) h
 
-received_other : (t : TableState) (interface : List ℕ) (source destination : Address) (r : Result Incoming Denial) → HaveLowestEnds t.receivers → DeniesSo r
-    → received t interface source destination r ≡ Err BelowRange → ⊥
-received_other t interface source destination (Err why) lowest so h = let same : why ≡ BelowRange = cc in false≢true (so BelowRange (ap Err same))
-received_other t interface source destination (Ok incoming) lowest so h = inside_other t (is_outside t.ranges interface incoming.low incoming.high) source destination incoming lowest h
+labels_other : (t : TableState) (interface : List ℕ) (p : ParsedPacket Wire) (r : Result Incoming Denial) → HaveLowestEnds t.receivers → DeniesSo r
+    → (r >>= by_labels t interface p) ≡ Err BelowRange → ⊥
+labels_other t interface p (Err why) lowest so h = let same : why ≡ BelowRange = cc in false≢true (so BelowRange (ap Err same))
+labels_other t interface p (Ok incoming) lowest so h =
+    inside_other t (is_outside t.ranges interface incoming.low incoming.high) (address_in p.version p.source) (address_in p.version p.destination) incoming lowest h
 
 pub none_below : (t : TableState) (interface : List ℕ) (p : ParsedPacket Wire) → HaveLowestEnds t.receivers → receive_of t interface p ≡ Err BelowRange → ⊥
 unfolding receive_of
-none_below t interface p lowest h =
-    received_other t interface (address_in p.version p.source) (address_in p.version p.destination) (label_of t interface p) lowest (label_so t interface p) h
+none_below t interface p lowest h = labels_other t interface p (label_of t interface p) lowest (label_so t interface p) h

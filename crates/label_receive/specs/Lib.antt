@@ -1,3 +1,4 @@
+pub mod Steps
 pub mod Incoming
 pub mod Arrival
 pub mod Range

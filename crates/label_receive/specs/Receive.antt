@@ -1,5 +1,5 @@
 -- Who receives a packet, by the first case that holds.
-use Rattle.std.specs.Prelude.{ℕ, Bool, true, false, not, nat_eq, List, Option, Some, None, Result, Ok, Err, if◌then◌else◌}
+use Rattle.std.specs.Prelude.{ℕ, Bool, true, false, not, nat_eq, List, Option, Some, None, ok_or, Result, Ok, Err, if◌then◌else◌}
 use Rattle.mls_label.specs.declared.label.Label.{Label}
 use Rattle.mls_range.specs.Computed.{dominates}
 use Rattle.ip_headers.specs.Packet.{ParsedPacket}
@@ -15,6 +15,7 @@ use Rattle.domain_map.specs.Domains.{Domains, find_of}
 use Rattle.node_tables.specs.declared.receiver.Receiver.{Receiver}
 use Rattle.node_tables.specs.Tables.{TableState, find_receiver_of}
 use Rattle.label_receive.specs.declared.receiving.Delivered.{Delivered}
+use Rattle.label_receive.specs.Steps.{◌>>=◌}
 use Rattle.label_receive.specs.Incoming.{Incoming, address_in, label_of}
 use Rattle.label_receive.specs.Range.{is_outside}
 
@@ -47,22 +48,19 @@ delivered_unless (Some why) address label = Err why
 
 -- what comes from a source is delivered to a destination, if somebody receives there
 abbrev pub delivered_to : TableState → Address → Address → Incoming → Result Delivered Denial
-delivered_to t source destination incoming = elim (find_receiver_of t.receivers destination) [
-  | None ↦ Err NoReceiver
-  | Some receiver ↦ delivered_unless (refusal_of t.domains receiver source incoming) destination incoming.high
-]
+delivered_to t source destination incoming = do
+  receiver ← ok_or (find_receiver_of t.receivers destination) NoReceiver
+  delivered_unless (refusal_of t.domains receiver source incoming) destination incoming.high
 
--- what has these labels goes through the interface's range first; what has none is denied before that
-abbrev pub received : TableState → List ℕ → Address → Address → Result Incoming Denial → Result Delivered Denial
-received t interface source destination (Err why) = Err why
-received t interface source destination (Ok incoming) =
-    if is_outside t.ranges interface incoming.low incoming.high then Err OutsideRange else delivered_to t source destination incoming
-
--- what a node does with a packet that comes in at an interface for somebody there
+-- what a node does with a packet that comes in at an interface for somebody there: its labels go through the interface's range first
 unfoldable pub receive_of : TableState → List ℕ → ParsedPacket Wire → Result Delivered Denial
-receive_of t interface p = received t interface (address_in p.version p.source) (address_in p.version p.destination) (label_of t interface p)
+receive_of t interface p = do
+  incoming ← label_of t interface p
+  if is_outside t.ranges interface incoming.low incoming.high then Err OutsideRange
+      else delivered_to t (address_in p.version p.source) (address_in p.version p.destination) incoming
 
 -- the verdict of a call that leaves the label in a room
 abbrev pub left_in : Label → Result Address Denial → Result Delivered Denial
-left_in label (Ok address) = Ok (record { label = label; receiver = address })
-left_in label (Err why) = Err why
+left_in label answer = do
+  address ← answer
+  Ok (record { label = label; receiver = address })

@@ -14,18 +14,21 @@ use Rattle.domain_map.specs.declared.protocol.Protocol.{Protocol}
 use Rattle.domain_map.specs.declared.protocol.Protocol.TheVariants.{Unlbl, Cipso, Calipso}
 use Rattle.domain_map.specs.Domains.{find_of}
 use Rattle.ip_headers.specs.Options.{Placed}
-use Rattle.ip_headers.specs.Packet.{Headers}
+use Rattle.ip_headers.specs.Packet.{Headers, relabelled}
+use Rattle.packet_label.specs.declared.packet.Wire.{Wire}
 use Rattle.packet_label.specs.declared.packet.Wire.TheVariants as wire
 use Rattle.packet_label.specs.declared.denial.Denial.{Denial}
 use Rattle.packet_label.specs.declared.denial.Denial.TheVariants.{Inexpressible, OutsideRange, AlreadyLabelled, WrongVersion}
 use Rattle.node_tables.specs.Tables.{TableState}
+use Rattle.label_receive.specs.Steps.{◌>>=◌}
 use Rattle.label_receive.specs.Incoming.{address_in}
 use Rattle.label_receive.specs.Range.{is_outside}
-use Rattle.label_send.specs.Outgoing.{suits, cipso_with, cipso_said, cipso_by, is_in_words, calipso_said, calipso_by, outgoing}
-use Rattle.label_send.specs.Room.{sent_saying}
-use Rattle.label_send.specs.Send.{suiting, free_protocol, sent_as, sent_with, send_of}
+use Rattle.label_send.specs.Outgoing.{suits, carrier_of, cipso_with, cipso_said, cipso_by, is_in_words, calipso_said, calipso_by, outgoing}
+use Rattle.label_send.specs.Room.{within_room}
+use Rattle.label_send.specs.Send.{sent_by, suiting, free_protocol, send_of}
 use Rattle.label_send.specs.Laws.{CannotSay, HasTag, IsInexpressible}
 use Rattle.label_send.specs.NoOption.{HasNoOption, before_sending}
+use Rattle.label_send.specs.inside.Protocol.{sent_with}
 use Rattle.label_send.proofs.Options.{expressible, tag_fits}
 
 -- ---- labels
@@ -60,20 +63,20 @@ inexpressible_stays definitions (Calipso doi) label is = ap (calipso_by doi labe
 -- ---- packets that are sent
 
 module _ (t : TableState) (domain interface : List ℕ) (label : Label) (h : Headers) (protocol : Protocol) (found : find_of t.domains domain (address_in h.version h.destination) ≡ Some protocol) (out : outgoing t.definitions protocol label ≡ Err Inexpressible) where
-  by_version : (b : Bool) → sent_with t label h (if b then Ok protocol else Err WrongVersion) ≡ Err (unwrap_or (if b then None else Some WrongVersion) Inexpressible)
-  by_version true = ap (λ r. sent_as protocol (sent_saying h h.hops r)) out
+  by_version : (b : Bool) → ((if b then Ok protocol else Err WrongVersion) >>= sent_with t label h) ≡ Err (unwrap_or (if b then None else Some WrongVersion) Inexpressible)
+  by_version true = ap (λ (r : Result (Option Wire) Denial). (r >>= (λ said. within_room (relabelled h said h.hops))) >>= (λ packet. Ok (sent_by (carrier_of protocol) packet))) out
   by_version false = refl
 
-  by_range : (b : Bool) → sent_with t label h (if b then Err OutsideRange else suiting h.version (Some protocol)) ≡ Err (unwrap_or (if b then Some OutsideRange else if suits h.version protocol then None else Some WrongVersion) Inexpressible)
+  by_range : (b : Bool) → ((if b then Err OutsideRange else suiting h.version (Some protocol)) >>= sent_with t label h) ≡ Err (unwrap_or (if b then Some OutsideRange else if suits h.version protocol then None else Some WrongVersion) Inexpressible)
   by_range true = refl
   by_range false = by_version (suits h.version protocol)
 
-  by_label : (o : Option Placed) → sent_with t label h (elim o as (λ _. Result Protocol Denial) [ Some option ↦ Err (AlreadyLabelled option.place) | None ↦ free_protocol t domain interface label h ])
+  by_label : (o : Option Placed) → ((elim o as (λ _. Result Protocol Denial) [ Some option ↦ Err (AlreadyLabelled option.place) | None ↦ free_protocol t domain interface label h ]) >>= sent_with t label h)
       ≡ Err (unwrap_or (elim o as (λ _. Option Denial) [ Some option ↦ Some (AlreadyLabelled option.place) | None ↦ if is_outside t.ranges interface label label then Some OutsideRange else if suits h.version protocol then None else Some WrongVersion ]) Inexpressible)
   by_label (Some option) = refl
   by_label None =
       let outside = is_outside t.ranges interface label label in
-      ap (λ (o : Option Protocol). sent_with t label h (if outside then Err OutsideRange else suiting h.version o)) found ∙ by_range outside
+      ap (λ (o : Option Protocol). (if outside then Err OutsideRange else suiting h.version o) >>= sent_with t label h) found ∙ by_range outside
 
 pub not_sent : (t : TableState) (domain interface : List ℕ) (label : Label) (h : Headers) (lacks : HasNoOption t domain label h)
     → send_of t domain interface label h ≡ Err (unwrap_or (before_sending t interface lacks.protocol label h) Inexpressible)

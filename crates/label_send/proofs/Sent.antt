@@ -19,8 +19,9 @@ use Rattle.packet_label.specs.declared.denial.Stop.TheVariants.{Denied, OutOfMem
 use Rattle.packet_label.specs.Packet.{IsOfItsVersion, headers_of, version_of}
 use Rattle.packet_label.specs.Written.{wire_text, written}
 use Rattle.packet_label.proofs.Law.{written_options_suit_their_version}
+use Rattle.label_receive.specs.Steps.{◌>>=◌}
 use Rattle.label_send.specs.Outgoing.{suits, IsExpressed}
-use Rattle.label_send.specs.Room.{within_room, sent_saying}
+use Rattle.label_send.specs.Room.{within_room}
 use Rattle.label_send.specs.Answer.{Answers, packet_alone}
 use Rattle.label_send.specs.inside.Option.{IsOutgoing}
 use Rattle.label_send.specs.inside.Write.{room_denial, Writes}
@@ -75,11 +76,11 @@ answered p (Err OutOfMemory) out w = w
 
 pub sent_so : (packet : Packet) (protocol : Protocol) (out : Result (Option Wire) Denial) (option : Option (List ℕ)) (hops : ℕ) (result : Result (Unit {0}) Stop) (text : List ℕ)
     → IsOfItsVersion packet → IsOutgoing protocol out option → Writes (version_of packet) (rewritten (headers_of packet) option hops) result text
-    → Answers packet_alone (sent_saying (headers_of packet) hops out) result text
+    → Answers packet_alone (out >>= (λ said. within_room (relabelled (headers_of packet) said hops))) result text
 sent_so packet protocol out option hops result text own is w =
     let h = headers_of packet in
     let g = goes_out protocol out option is in
     let p : ParsedPacket Wire = relabelled h g.said hops in
     let at_version : Writes p.version (rewritten (headers_of packet) option hops) result text = subst (λ v. Writes v (rewritten (headers_of packet) option hops) result text) (sym own) w in
     let as_written : Writes p.version (written p) result text = subst (λ o. Writes p.version (rewritten h o hops) result text) g.text at_version in
-    subst (λ r. Answers packet_alone (sent_saying h hops r) result text) (sym g.is) (answered p result text as_written)
+    subst (λ r. Answers packet_alone (r >>= (λ said. within_room (relabelled h said hops))) result text) (sym g.is) (answered p result text as_written)

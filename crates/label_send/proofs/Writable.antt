@@ -28,11 +28,13 @@ use Rattle.packet_label.specs.declared.denial.Denial.TheVariants.{Inexpressible,
 use Rattle.packet_label.specs.Choice.{front_in}
 use Rattle.packet_label.proofs.Law.{read_packets_may_be_written}
 use Rattle.node_tables.specs.Tables.{TableState}
+use Rattle.label_receive.specs.Steps.{◌>>=◌}
 use Rattle.packet_label.specs.Written.{CanSay, IsWritable, written}
-use Rattle.label_send.specs.Outgoing.{CanGoOut, suits, cipso_with, cipso_said, cipso_by, is_in_words, calipso_said, calipso_by, outgoing}
-use Rattle.label_send.specs.Room.{within_room, sent_saying, sent_under}
-use Rattle.label_send.specs.Send.{send_octets, send_protocol, send_read, sent_as, sent_with}
+use Rattle.label_send.specs.Outgoing.{CanGoOut, suits, carrier_of, cipso_with, cipso_said, cipso_by, is_in_words, calipso_said, calipso_by, outgoing}
+use Rattle.label_send.specs.Room.{within_room, sent_under}
+use Rattle.label_send.specs.Send.{sent_by, send_octets, send_protocol, send_read}
 use Rattle.label_send.specs.Laws.{AreDefinitions, IsInRoom}
+use Rattle.label_send.specs.inside.Protocol.{sent_with}
 use Rattle.label_send.proofs.Options.{expressible, tag_fits}
 
 -- ---- the option can say it
@@ -101,18 +103,18 @@ fits_in p new is e = by_tests (nat_lt (room_limit p.version) (rebuilt_room (writ
 pub may_be_written : (L : Type 0) (definitions : Entries) (protocol : Protocol) (label : Label) (p : ParsedPacket L) (new : ParsedPacket Wire) (hops : ℕ)
     → IsParsed (rewritten p None hops) → CanGoOut p.version (outgoing definitions protocol label) → sent_under definitions protocol label p hops ≡ Ok new → IsInRoom new
 may_be_written L definitions protocol label p new hops parsed can e = by_said (outgoing definitions protocol label) can e where
-  by_said : (r : Result (Option Wire) Denial) → CanGoOut p.version r → sent_saying p hops r ≡ Ok new → IsInRoom new
+  by_said : (r : Result (Option Wire) Denial) → CanGoOut p.version r → (r >>= (λ said. within_room (relabelled p said hops))) ≡ Ok new → IsInRoom new
   by_said (Err why) c e = absurd (cc)
   by_said (Ok said) c e = fits_in (relabelled p said hops) new (record { headers = parsed; label = c }) e
 
 -- of a packet that was read, under a protocol that was found
 pub sent_in_room : (t : TableState) (protocol : Protocol) (label : Label) (octets : List ℕ) (h : Headers) → IsOctets octets → front_in octets ≡ Ok h → h.hops < 256
-    → CanGoOut h.version (outgoing t.definitions protocol label) → IfOk (sent_with t label h (Ok protocol)) (λ sent. IsInRoom sent.packet)
+    → CanGoOut h.version (outgoing t.definitions protocol label) → IfOk (sent_with t label h protocol) (λ sent. IsInRoom sent.packet)
 sent_in_room t protocol label octets h are reads low can = by_sent (sent_under t.definitions protocol label h h.hops) refl where
   parsed : IsParsed (rewritten h None h.hops)
   parsed = (read_packets_may_be_written.fronts octets h None h.hops are reads low tt).headers
 
-  by_sent : (r : Result (ParsedPacket Wire) Denial) → sent_under t.definitions protocol label h h.hops ≡ r → IfOk (sent_as protocol r) (λ sent. IsInRoom sent.packet)
+  by_sent : (r : Result (ParsedPacket Wire) Denial) → sent_under t.definitions protocol label h h.hops ≡ r → IfOk (r >>= (λ packet. Ok (sent_by (carrier_of protocol) packet))) (λ sent. IsInRoom sent.packet)
   by_sent (Err why) e = tt
   by_sent (Ok new) e = may_be_written Placed t.definitions protocol label h new h.hops parsed can e
 
@@ -122,6 +124,6 @@ pub read_in_room : (t : TableState) (domain interface : List ℕ) (label : Label
     → IfOk (send_octets t domain interface label octets) (λ sent. IsInRoom sent.packet)
 read_in_room t domain interface label octets h version protocol are reads own found low can =
     let can_here : CanGoOut h.version (outgoing t.definitions protocol label) = subst (λ v. CanGoOut v (outgoing t.definitions protocol label)) (sym own) can in
-    let under : IfOk (sent_with t label h (send_protocol t domain interface label h)) (λ sent. IsInRoom sent.packet) =
-    subst (λ p. IfOk (sent_with t label h p) (λ sent. IsInRoom sent.packet)) (sym found) (sent_in_room t protocol label octets h are reads low can_here) in
+    let under : IfOk (send_protocol t domain interface label h >>= sent_with t label h) (λ sent. IsInRoom sent.packet) =
+    subst (λ p. IfOk (p >>= sent_with t label h) (λ sent. IsInRoom sent.packet)) (sym found) (sent_in_room t protocol label octets h are reads low can_here) in
     subst (λ r. IfOk (send_read t domain interface label r) (λ sent. IsInRoom sent.packet)) (sym reads) under

@@ -12,6 +12,7 @@ use Rattle.packet_label.specs.declared.denial.Denial.{Denial}
 use Rattle.packet_label.specs.declared.denial.Denial.TheVariants.{BadHeader, OutsideRange, NoMap, AlreadyLabelled, WrongVersion}
 use Rattle.packet_label.specs.Choice.{front_in}
 use Rattle.node_tables.specs.Tables.{TableState}
+use Rattle.label_receive.specs.Steps.{◌>>=◌}
 use Rattle.label_receive.specs.Incoming.{address_in}
 use Rattle.label_receive.specs.Range.{is_outside}
 use Rattle.label_send.specs.Outgoing.{suits, carrier_of}
@@ -44,19 +45,12 @@ send_protocol t domain interface label h = elim h.label [
   | None ↦ free_protocol t domain interface label h
 ]
 
--- what the node then sends
-abbrev pub sent_as : Protocol → Result (ParsedPacket Wire) Denial → Result Sent Denial
-sent_as protocol (Err why) = Err why
-sent_as protocol (Ok packet) = Ok (sent_by (carrier_of protocol) packet)
-
--- the packet under a protocol that was found; its hops stay
-abbrev pub sent_with : TableState → Label → Headers → Result Protocol Denial → Result Sent Denial
-sent_with t label h (Err why) = Err why
-sent_with t label h (Ok protocol) = sent_as protocol (sent_under t.definitions protocol label h h.hops)
-
--- what a domain sends at an interface
+-- what a domain sends at an interface; its hops stay
 abbrev pub send_of : TableState → List ℕ → List ℕ → Label → Headers → Result Sent Denial
-send_of t domain interface label h = sent_with t label h (send_protocol t domain interface label h)
+send_of t domain interface label h = do
+  protocol ← send_protocol t domain interface label h
+  packet ← sent_under t.definitions protocol label h h.hops
+  Ok (sent_by (carrier_of protocol) packet)
 
 -- the same of octets: a fault of their headers comes before all else
 abbrev pub send_read : TableState → List ℕ → List ℕ → Label → Result Headers HeadFault → Result Sent Denial

@@ -1,11 +1,12 @@
 //! Packets sent by a node's programs.
 
-ghost use Rattle.std.specs.Prelude.{◌≡◌, ◌<◌, IfOk, IsTrue, Ok};
+ghost use Rattle.std.specs.Prelude.{◌≡◌, ◌<◌, IfOk, IsTrue};
 ghost use Rattle.packet_label.specs.Packet.{IsOfItsVersion, headers_of, label_place, version_of};
 ghost use Rattle.label_send.specs.Outgoing.{CanGoOut, outgoing, suits};
-ghost use Rattle.label_send.specs.Send.{send_octets, send_protocol, sent_by, sent_with};
+ghost use Rattle.label_send.specs.Send.{send_octets, send_protocol, sent_by};
 ghost use Rattle.label_send.specs.Answer.{Answers};
 ghost use Rattle.label_send.specs.Laws.{IsInRoom};
+ghost use Rattle.label_send.specs.inside.Protocol.{sent_with};
 
 use crate::protocol::{carrier_of, suits};
 use crate::under::{denied, send_under};
@@ -110,8 +111,8 @@ fn send_front(
     requires version { IsOfItsVersion packet.now }
     requires suits { IsTrue (suits (version_of packet.now) protocol) }
     ensures value { Answers sent_by
-        (sent_with tables.now label.now (headers_of packet.now)
-        (Ok protocol)) result out.new.items }
+        (sent_with tables.now label.now (headers_of packet.now) protocol) result
+        out.new.items }
     ensures said { CanGoOut (version_of packet.now)
         (outgoing tables.now.definitions protocol label.now) }
     ensures octet { (headers_of packet.now).hops < 256 }

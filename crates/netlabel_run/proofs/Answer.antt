@@ -1,5 +1,5 @@
 -- What is read of octets, and so a verdict and the lines of frames, are there and one alone.
-use Rattle.std.proofs.Common.{◌≡◌, ℕ, suc, ◌+◌, List, [], ◌∷◌, ◌++◌, length, Option, Some, None, Result, Ok, Err, refl, sym, ap, subst, ◌∙◌, append_assoc, arith, ◌<◌}
+use Rattle.std.proofs.Common.{◌≡◌, ℕ, suc, ◌+◌, List, [], ◌∷◌, ◌++◌, length, Option, Some, None, Result, refl, sym, ap, subst, ◌∙◌, append_assoc, arith, ◌<◌}
 use Rattle.std.specs.Prelude.{MatchOption, codes}
 use Rattle.std.specs.List.{concat}
 use Rattle.mls_label.specs.declared.label.Label.{Label}
@@ -15,12 +15,6 @@ use Rattle.netlabel_run.specs.Judge.{judge_rule, IsVerdict}
 use Rattle.call_report.specs.Lines.Denial.{Verdict}
 use Rattle.call_report.specs.Lines.Packet.{packet_text, shown_line, IsShown}
 use Rattle.netlabel_run.specs.Show.{AreShown}
-
-answer_once : (octets : List ℕ) (a b : Result (ParsedPacket Wire) CarryFault) → IsReadAs octets a → IsReadAs octets b → a ≡ b
-answer_once octets (Ok p) (Ok q) a b = ap Ok ((octets_are_a_packet_or_have_one_fault octets).one_packet p q a b)
-answer_once octets (Ok p) (Err g) a b = absurd ((octets_are_a_packet_or_have_one_fault octets).not_both p g a b)
-answer_once octets (Err f) (Ok q) a b = absurd ((octets_are_a_packet_or_have_one_fault octets).not_both q f b a)
-answer_once octets (Err f) (Err g) a b = ap Err ((octets_are_a_packet_or_have_one_fault octets).one_fault f g a b)
 
 -- ---- verdicts
 
@@ -38,7 +32,7 @@ some_text (Some octets) = let a = (octets_are_a_packet_or_have_one_fault octets)
 
 text_once : (packet : Option (List ℕ)) (s t : List ℕ) → IsShownOf packet s → IsShownOf packet t → s ≡ t
 text_once None s t a b = a ∙ sym b
-text_once (Some octets) s t a b = a.2 ∙ ap packet_text (answer_once octets a.0 b.0 a.1 b.1) ∙ sym b.2
+text_once (Some octets) s t a b = a.2 ∙ ap packet_text ((octets_are_a_packet_or_have_one_fault octets).one a.0 b.0 a.1 b.1) ∙ sym b.2
 
 pub frame_text : (link : ℕ) (octets : List ℕ) → (text : List ℕ) × IsShown link octets text
 frame_text link octets = some_text (ip_part_of link octets)

@@ -12,13 +12,12 @@ use Rattle.packet_label.specs.Packet.{IsPacket, labelled}
 use Rattle.packet_label.specs.Fault.{IsPacketFault}
 use Rattle.packet_label.specs.Written.{CanSay, IsWritable, wire_text}
 use Rattle.packet_label.specs.Laws.{HasOneAnswer, ReadsNext, StandsWithin}
-use Rattle.packet_label.proofs.Once.{one_packet, one_fault, not_both, fault_within, front_within, without_a_label}
+use Rattle.packet_label.proofs.Once.{one_answer, fault_within, front_within, without_a_label}
 use Rattle.packet_label.proofs.Total.{some_answer}
 use Rattle.packet_label.proofs.Writing.{text_suits, packets_may_be_written, fronts_may_be_written, reads_next}
 
 pub octets_are_a_packet_or_have_one_fault : (octets : List ℕ) → HasOneAnswer octets
-octets_are_a_packet_or_have_one_fault octets =
-    record { some = some_answer octets; one_packet = one_packet octets; one_fault = one_fault octets; not_both = not_both octets }
+octets_are_a_packet_or_have_one_fault octets = record { some = some_answer octets; one = one_answer octets }
 
 pub record FaultsStandWithin : Type 0 where
   pub packets : (octets : List ℕ) (fault : CarryFault) → IsPacketFault octets fault → StandsWithin (length octets) fault

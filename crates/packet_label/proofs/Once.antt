@@ -18,6 +18,7 @@ use Rattle.packet_label.specs.Wire.{IsWireFault, OptionSays, HasTenOctets}
 use Rattle.packet_label.specs.Choice.{chosen, read_in, headers_in, front_in}
 use Rattle.packet_label.specs.Packet.{IsPacket, labelled}
 use Rattle.packet_label.specs.Fault.{told, BreaksLabel, IsPacketFault}
+use Rattle.packet_label.specs.Written.{IsReadAs}
 use Rattle.packet_label.specs.Laws.{StandsWithin}
 use Rattle.packet_label.proofs.Wires.{says_once, says_right, wire_fault_once, ten_octets, wire_within}
 
@@ -105,6 +106,12 @@ not_both octets p f is fails =
 
 pub one_fault : (octets : List ℕ) (f g : CarryFault) → IsPacketFault octets f → IsPacketFault octets g → f ≡ g
 one_fault octets f g a b = faults_at (headers_in octets) f g a b
+
+pub one_answer : (octets : List ℕ) (a b : Result (ParsedPacket Wire) CarryFault) → IsReadAs octets a → IsReadAs octets b → a ≡ b
+one_answer octets (Ok p) (Ok q) x y = ap Ok (one_packet octets p q x y)
+one_answer octets (Err f) (Err g) x y = ap Err (one_fault octets f g x y)
+one_answer octets (Ok p) (Err f) x y = absurd (not_both octets p f x y)
+one_answer octets (Err f) (Ok p) x y = absurd (not_both octets p f y x)
 
 -- ---- where faults stand
 

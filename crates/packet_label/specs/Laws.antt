@@ -5,16 +5,12 @@ use Rattle.ip_headers.specs.Written.{room_limit, rebuilt_room, rebuilt_length, p
 use Rattle.packet_label.specs.declared.packet.Wire.{Wire}
 use Rattle.packet_label.specs.declared.fault.CarryFault.{CarryFault}
 use Rattle.packet_label.specs.declared.fault.CarryFault.TheVariants.{Header, Option}
-use Rattle.packet_label.specs.Packet.{IsPacket}
-use Rattle.packet_label.specs.Fault.{IsPacketFault}
 use Rattle.packet_label.specs.Written.{written, IsWritable, IsNext, IsReadAs}
 
 -- octets are a packet or have a first fault, one alone, and never both
 pub record HasOneAnswer (octets : List ℕ) : Type 0 where
   pub some : (answer : Result (ParsedPacket Wire) CarryFault) × IsReadAs octets answer
-  pub one_packet : (p q : ParsedPacket Wire) → IsPacket octets p → IsPacket octets q → p ≡ q
-  pub one_fault : (f g : CarryFault) → IsPacketFault octets f → IsPacketFault octets g → f ≡ g
-  pub not_both : (p : ParsedPacket Wire) (f : CarryFault) → IsPacket octets p → IsPacketFault octets f → ⊥
+  pub one : (a b : Result (ParsedPacket Wire) CarryFault) → IsReadAs octets a → IsReadAs octets b → a ≡ b
 
 -- a fault stands in so many octets or at their end
 abbrev pub StandsWithin : ℕ → CarryFault → Type 0

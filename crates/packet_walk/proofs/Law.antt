@@ -1,5 +1,5 @@
 -- The laws of src/laws.rt under their names, for the crates above.
-use Rattle.std.proofs.Common.{◌≡◌, ℕ, ◌≤◌, List, ◌++◌, [], take, All, Result, Err}
+use Rattle.std.proofs.Common.{◌≡◌, ℕ, ◌≤◌, List, ◌++◌, [], take, All, Result}
 use Rattle.ip_headers.specs.Packet.{ParsedPacket}
 use Rattle.packet_label.specs.declared.denial.Denial.{Denial}
 use Rattle.packet_label.specs.declared.fault.CarryFault.{CarryFault}
@@ -10,7 +10,7 @@ use Rattle.shared_tables.specs.Plan.{PlanState}
 use Rattle.packet_walk.specs.declared.packet.PacketIn.{PacketIn}
 use Rattle.packet_walk.specs.declared.walked.End.{End}
 use Rattle.packet_walk.specs.declared.walked.End.TheVariants as the_end
-use Rattle.packet_walk.specs.Walk.{Coming, IsReadFrom, IsWalkOf, hop_verdict}
+use Rattle.packet_walk.specs.Walk.{Coming, IsReadFrom, IsWalkOf, denied, hop_verdict}
 use Rattle.packet_walk.specs.NoOption.{HopHasNoOption, MeetsNoOption}
 use Rattle.packet_walk.proofs.NoOption.{denies, ends_denied}
 use Rattle.packet_walk.proofs.OneWay.{read_once, one_way, over_beginning, one_cut}
@@ -31,7 +31,7 @@ pub hops_read_in_one_way : (coming : Coming) (a b : Result (ParsedPacket Wire) C
 hops_read_in_one_way = read_once
 
 pub hops_without_an_option_deny : (network : List TableState) (hop : Hop) (octets : List ℕ) (read : Result (ParsedPacket Wire) CarryFault) (why : Denial) → HopHasNoOption network hop octets read why
-    → hop_verdict network hop octets read ≡ Err why
+    → hop_verdict network hop octets read ≡ denied why
 hops_without_an_option_deny = denies
 
 pub walks_without_an_option_end_denied : (plan : PlanState) (hops : List Hop) (packet : PacketIn) (versions : List ℕ) (end : End) (out : List ℕ) (at : ℕ) (why : Denial) → IsWalkOf plan hops packet versions end out

@@ -1,5 +1,5 @@
 -- A hop that has no option for a packet's label denies it, and there its walk ends.
-use Rattle.std.proofs.Common.{◌≡◌, ◌⊎◌, ℕ, ◌+◌, IsTrue, Bool, true, false, List, [], ◌∷◌, MatchBool, Result, Ok, Err, inl, inr, sym, ap, subst, ◌∙◌}
+use Rattle.std.proofs.Common.{◌≡◌, ◌⊎◌, ℕ, ◌+◌, IsTrue, Bool, true, false, List, [], ◌∷◌, MatchBool, Result, inl, inr, sym, ap, subst, ◌∙◌}
 use Rattle.std.proofs.lemmas.Bool.{false≢true}
 use Rattle.ip_headers.specs.Packet.{ParsedPacket}
 use Rattle.packet_label.specs.declared.denial.Carrier.{Carrier}
@@ -11,58 +11,61 @@ use Rattle.flow_lines.specs.declared.hop.Hop.{Hop}
 use Rattle.flow_lines.specs.declared.hop.Hop.TheVariants.{Send, Forward, Receive}
 use Rattle.node_tables.specs.Tables.{TableState}
 use Rattle.label_receive.specs.Judged.{judged_by}
-use Rattle.label_send.specs.Send.{send_read}
+use Rattle.label_send.specs.Send.{Sent, send_read}
 use Rattle.label_send.proofs.Law.{packets_without_an_option_are_not_sent}
-use Rattle.label_gateway.specs.Forward.{forward_of}
+use Rattle.label_gateway.specs.Forward.{Forwarded, forward_of}
 use Rattle.label_gateway.proofs.Law.{packets_without_an_option_are_not_forwarded}
 use Rattle.shared_tables.specs.Plan.{PlanState, network_after}
 use Rattle.packet_walk.specs.declared.packet.PacketIn.{PacketIn}
 use Rattle.packet_walk.specs.declared.walked.End.{End}
 use Rattle.packet_walk.specs.declared.walked.End.TheVariants as the_end
-use Rattle.packet_walk.specs.Walk.{Coming, from_outside, from_hop, octets_in, Passage, goes_on, passes, sending, forwarding, tables_of, hop_verdict, IsWalk, IsWalkOf, Ends}
+use Rattle.packet_walk.specs.Walk.{Coming, from_outside, from_hop, octets_in, HopVerdict, denied, goes_on, verdict_of, tables_of, hop_verdict, Follows, IsWalk, IsWalkOf, Ends}
 use Rattle.packet_walk.specs.NoOption.{HopHasNoOption, ComesToNoOption, MeetsNoOption}
-use Rattle.packet_walk.proofs.OneWay.{read_once, Behind, Judged, as_judged}
+use Rattle.packet_walk.proofs.OneWay.{read_once}
 
-abbrev as_denied : Denial → Result Passage Denial
-as_denied why = Err why
-
-pub denies : (network : List TableState) (hop : Hop) (octets : List ℕ) (read : Result (ParsedPacket Wire) CarryFault) (why : Denial) → HopHasNoOption network hop octets read why → hop_verdict network hop octets read ≡ Err why
+pub denies : (network : List TableState) (hop : Hop) (octets : List ℕ) (read : Result (ParsedPacket Wire) CarryFault) (why : Denial) → HopHasNoOption network hop octets read why → hop_verdict network hop octets read ≡ denied why
 denies network (Send node domain interface label) octets read why none =
     let t = tables_of network node in
-    ap (λ r. passes sending (send_read t domain interface label r)) none.1
-    ∙ ap (passes sending) (packets_without_an_option_are_not_sent t domain interface label none.0 none.2.0)
-    ∙ ap as_denied (sym none.2.1)
+    let made = λ (sent : Sent). goes_on sent.carrier sent.packet in
+    ap (λ r. verdict_of made (send_read t domain interface label r)) none.1
+    ∙ ap (verdict_of made) (packets_without_an_option_are_not_sent t domain interface label none.0 none.2.0)
+    ∙ ap denied (sym none.2.1)
 denies network (Forward node from to domain) octets read why none =
     let t = tables_of network node in
-    ap (λ r. passes forwarding (judged_by (forward_of t from to domain) r)) none.1
-    ∙ ap (passes forwarding) (packets_without_an_option_are_not_forwarded t from to domain none.0 none.2.0)
-    ∙ ap as_denied (sym none.2.1)
+    let made = λ (forwarded : Forwarded). goes_on forwarded.carrier forwarded.packet in
+    ap (λ r. verdict_of made (judged_by (forward_of t from to domain) r)) none.1
+    ∙ ap (verdict_of made) (packets_without_an_option_are_not_forwarded t from to domain none.0 none.2.0)
+    ∙ ap denied (sym none.2.1)
 denies network (Receive node interface) octets read why none = absurd none
 
 module _ (plan : PlanState) (at : ℕ) (why : Denial) (end : End) (out : List ℕ) where
   abbrev IsDenied : Type 0
   IsDenied = (end ≡ the_end.Denied at why) × (out ≡ [])
 
-  -- a hop that judged, and what is behind its verdict
-  by_hop : (k : ℕ) (hop : Hop) (hops : List Hop) (coming : Coming) (version : ℕ) (versions : List ℕ) (read : Result (ParsedPacket Wire) CarryFault) → Judged plan k hop hops coming version versions end out read
+  -- what follows a hop's verdict on what is read
+  abbrev Behind : ℕ → List Hop → Coming → List ℕ → HopVerdict → Type 0
+  Behind k hops coming versions verdict = Follows k (octets_in coming) (λ next. IsWalk plan (k + 1) hops next versions end out) versions end out verdict
+
+  by_hop : (k : ℕ) (hop : Hop) (hops : List Hop) (coming : Coming) (version : ℕ) (versions : List ℕ) (read : Result (ParsedPacket Wire) CarryFault)
+      → Behind k hops coming versions (hop_verdict (network_after plan version) hop (octets_in coming) read)
       → ((carrier : Carrier) (packet : ParsedPacket Wire) → IsWalk plan (k + 1) hops (from_hop carrier packet) versions end out → ComesToNoOption plan (k + 1) hops (from_hop carrier packet) versions at why → IsDenied)
       → ((at ≡ k) × HopHasNoOption (network_after plan version) hop (octets_in coming) read why)
-      ⊎ ((carrier : Carrier) × (packet : ParsedPacket Wire) × (hop_verdict (network_after plan version) hop (octets_in coming) read ≡ Ok (goes_on carrier packet)) × ComesToNoOption plan (k + 1) hops (from_hop carrier packet) versions at why)
+      ⊎ ((carrier : Carrier) × (packet : ParsedPacket Wire) × (hop_verdict (network_after plan version) hop (octets_in coming) read ≡ goes_on carrier packet) × ComesToNoOption plan (k + 1) hops (from_hop carrier packet) versions at why)
       → IsDenied
   by_hop k hop hops coming version versions read judged more (inl here) =
-      let denied : Behind plan k hops coming versions end out (Err why) =
-      subst (Behind plan k hops coming versions end out) (denies (network_after plan version) hop (octets_in coming) read why here.1) judged in
-      (denied.1 ∙ ap (λ n. the_end.Denied n why) (sym here.0), denied.2)
+      let ends : Behind k hops coming versions (denied why) =
+      subst (Behind k hops coming versions) (denies (network_after plan version) hop (octets_in coming) read why here.1) judged in
+      (ends.1 ∙ ap (λ n. the_end.Denied n why) (sym here.0), ends.2)
   by_hop k hop hops coming version versions read judged more (inr later) =
-      more later.0 later.1 (subst (Behind plan k hops coming versions end out) later.2 judged) later.3
+      more later.0 later.1 (subst (Behind k hops coming versions) later.2 judged) later.3
 
   walk_denied : (k : ℕ) (hops : List Hop) (coming : Coming) (versions : List ℕ) → IsWalk plan k hops coming versions end out → ComesToNoOption plan k hops coming versions at why → IsDenied
   walk_denied k [] coming versions walk none = absurd none
   walk_denied k (hop ∷ hops) coming [] walk none = absurd walk
   walk_denied k (hop ∷ hops) coming (version ∷ versions) walk none =
-      let a = as_judged plan k hop hops coming version versions end out walk in
-      let same : a.0 ≡ none.0 = read_once coming a.0 none.0 a.1 none.1 in
-      by_hop k hop hops coming version versions none.0 (subst (Judged plan k hop hops coming version versions end out) same a.2)
+      let same : walk.0 ≡ none.0 = read_once coming walk.0 none.0 walk.1 none.1 in
+      by_hop k hop hops coming version versions none.0
+      (subst (λ read. Behind k hops coming versions (hop_verdict (network_after plan version) hop (octets_in coming) read)) same walk.2)
       (λ carrier packet w n. walk_denied (k + 1) hops (from_hop carrier packet) versions w n) none.2
 
   of_denied : (ip : Bool) (hops : List Hop) (octets versions : List ℕ) → MatchBool ip (IsWalk plan 1 hops (from_outside octets) versions end out) (Ends versions end out (the_end.Denied 0 NotIp) []) → IsTrue ip

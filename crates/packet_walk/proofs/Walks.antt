@@ -1,5 +1,5 @@
 -- A walk that goes on by one hop, and what was written is read back.
-use Rattle.std.proofs.Common.{◌≡◌, ◌⊎◌, inl, inr, ℕ, suc, ◌+◌, ◌<◌, ◌≤◌, Bool, true, false, List, [], ◌∷◌, ◌++◌, length, drop, take, get_or, arith, Some, slice_get, unwrap_or, All, MatchBool, Result, Ok, Err, refl, sym, ap, ◌∙◌, subst, le_refl, append-nil}
+use Rattle.std.proofs.Common.{◌≡◌, ◌⊎◌, inl, inr, ℕ, suc, ◌+◌, ◌<◌, ◌≤◌, Bool, true, false, List, [], ◌∷◌, ◌++◌, length, drop, take, get_or, arith, Some, slice_get, unwrap_or, All, MatchBool, Result, Ok, refl, sym, ap, ◌∙◌, subst, le_refl, append-nil}
 use Rattle.std.proofs.Math.Numerals.{suc-eq-add-one}
 use Rattle.std.proofs.Math.Seq.{drop-cons}
 use Rattle.std.proofs.lemmas.List.{length-append, length-drop, length-take-le, take_all}
@@ -29,16 +29,10 @@ use Rattle.packet_walk.specs.Walk.{from_outside, from_hop, tables_of, hop_verdic
 use Rattle.packet_walk.specs.inside.Hop.{ReadsBack, HasJudged}
 use Rattle.packet_walk.specs.inside.Way.{octets_behind, Comes, HasWalked}
 
-pub one_read : (octets : List ℕ) (a b : Result (ParsedPacket Wire) CarryFault) → IsReadAs octets a → IsReadAs octets b → a ≡ b
-one_read octets (Ok p) (Ok q) x y = ap Ok ((octets_are_a_packet_or_have_one_fault octets).one_packet p q x y)
-one_read octets (Err f) (Err g) x y = ap Err ((octets_are_a_packet_or_have_one_fault octets).one_fault f g x y)
-one_read octets (Ok p) (Err f) x y = absurd ((octets_are_a_packet_or_have_one_fault octets).not_both p f x y)
-one_read octets (Err f) (Ok p) x y = absurd ((octets_are_a_packet_or_have_one_fault octets).not_both p f y x)
-
 next_by : (hides : Bool) (octets : List ℕ) (next read : Result (ParsedPacket Wire) CarryFault) → IsReadAs octets read
     → ((answer : Result (ParsedPacket Wire) CarryFault) → MatchBool hides (IsReadAs octets answer) (answer ≡ next) → IsReadAs octets answer) → MatchBool hides (IsReadAs octets read) (read ≡ next)
 next_by true octets next read is law = is
-next_by false octets next read is law = one_read octets read next is (law next refl)
+next_by false octets next read is law = (octets_are_a_packet_or_have_one_fault octets).one read next is (law next refl)
 
 -- what has room is read as the packet that it then is
 pub reads_back : (p : ParsedPacket Wire) → IsInRoom p → ReadsBack p

@@ -35,7 +35,7 @@ ComesToNoOption plan k (hop ∷ hops) coming [] at why = ⊥
 ComesToNoOption plan k (hop ∷ hops) coming (version ∷ versions) at why =
     (read : Result (ParsedPacket Wire) CarryFault) × IsReadFrom coming read
     × (((at ≡ k) × HopHasNoOption (network_after plan version) hop (octets_in coming) read why)
-    ⊎ ((carrier : Carrier) × (packet : ParsedPacket Wire) × (hop_verdict (network_after plan version) hop (octets_in coming) read ≡ Ok (goes_on carrier packet))
+    ⊎ ((carrier : Carrier) × (packet : ParsedPacket Wire) × (hop_verdict (network_after plan version) hop (octets_in coming) read ≡ goes_on carrier packet)
     × ComesToNoOption plan (k + 1) hops (from_hop carrier packet) versions at why))
 
 -- the same of a packet that comes in

@@ -15,8 +15,8 @@ use Rattle.node_tables.specs.Tables.{TableState, fresh}
 use Rattle.label_receive.specs.declared.receiving.Delivered.{Delivered}
 use Rattle.label_receive.specs.Judged.{judged_by}
 use Rattle.label_receive.specs.Receive.{receive_of}
-use Rattle.label_send.specs.Send.{Sent, send_octets}
-use Rattle.label_gateway.specs.Forward.{Forwarded, forward_of}
+use Rattle.label_send.specs.Send.{send_octets}
+use Rattle.label_gateway.specs.Forward.{forward_of}
 use Rattle.shared_tables.specs.Plan.{PlanState, network_after}
 use Rattle.packet_walk.specs.declared.packet.PacketIn.{PacketIn}
 use Rattle.packet_walk.specs.declared.walked.End.{End}
@@ -43,48 +43,49 @@ abbrev pub IsReadFrom : Coming → Result (ParsedPacket Wire) CarryFault → Typ
 IsReadFrom (from_outside octets) read = IsReadAs octets read
 IsReadFrom (from_hop carrier packet) read = IsNext packet read
 
--- what a hop makes of a packet that it doesn't deny: it wrote one that goes on, or delivers a label
-pub data Passage : Type 0 where
-  goes_on : Carrier → ParsedPacket Wire → Passage
-  arrives : Delivered → Passage
+-- what a hop makes of a packet: it denies it, wrote one that goes on, or delivers a label
+pub data HopVerdict : Type 0 where
+  denied : Denial → HopVerdict
+  goes_on : Carrier → ParsedPacket Wire → HopVerdict
+  arrives : Delivered → HopVerdict
 
-abbrev pub passes : {X : Type 0} → (X → Passage) → Result X Denial → Result Passage Denial
-passes made (Ok x) = Ok (made x)
-passes made (Err why) = Err why
-
-abbrev pub sending : Sent → Passage
-sending sent = goes_on sent.carrier sent.packet
-
-abbrev pub forwarding : Forwarded → Passage
-forwarding forwarded = goes_on forwarded.carrier forwarded.packet
+-- what a rule gives, as a verdict
+abbrev pub verdict_of : {X : Type 0} → (X → HopVerdict) → Result X Denial → HopVerdict
+verdict_of made (Ok x) = made x
+verdict_of made (Err why) = denied why
 
 -- the tables of a node, by its number; a number that no node has stands for a fresh one
 abbrev pub tables_of : List TableState → ℕ → TableState
 tables_of network node = unwrap_or (slice_get network node) fresh
 
 -- what a hop makes of octets that are read so, under the tables of its node: one that sends reads their headers alone
-abbrev pub hop_verdict : List TableState → Hop → List ℕ → Result (ParsedPacket Wire) CarryFault → Result Passage Denial
-hop_verdict network (Send node domain interface label) octets read = passes sending (send_octets (tables_of network node) domain interface label octets)
-hop_verdict network (Forward node from to domain) octets read = passes forwarding (judged_by (forward_of (tables_of network node) from to domain) read)
-hop_verdict network (Receive node interface) octets read = passes arrives (judged_by (receive_of (tables_of network node) interface) read)
+abbrev pub hop_verdict : List TableState → Hop → List ℕ → Result (ParsedPacket Wire) CarryFault → HopVerdict
+hop_verdict network (Send node domain interface label) octets read =
+    verdict_of (λ sent. goes_on sent.carrier sent.packet) (send_octets (tables_of network node) domain interface label octets)
+hop_verdict network (Forward node from to domain) octets read =
+    verdict_of (λ forwarded. goes_on forwarded.carrier forwarded.packet) (judged_by (forward_of (tables_of network node) from to domain) read)
+hop_verdict network (Receive node interface) octets read =
+    verdict_of arrives (judged_by (receive_of (tables_of network node) interface) read)
 
 -- the walk ended here, under no further version, so, and it leaves these octets
 abbrev pub Ends : List ℕ → End → List ℕ → End → List ℕ → Type 0
 Ends versions end out at octets = (versions ≡ []) × (end ≡ at) × (out ≡ octets)
 
+-- What follows the verdict of hop k on these octets. A hop that denies the packet is named, and then no octet is left; behind one that wrote
+-- a packet stands the walk of what comes to the next hop; one that delivers it leaves the octets as they came.
+abbrev pub Follows : ℕ → List ℕ → (Coming → Type 0) → List ℕ → End → List ℕ → HopVerdict → Type 0
+Follows k octets walk versions end out (denied why) = Ends versions end out (the_end.Denied k why) []
+Follows k octets walk versions end out (goes_on carrier packet) = walk (from_hop carrier packet)
+Follows k octets walk versions end out (arrives delivered) = Ends versions end out (the_end.Delivered delivered.label delivered.receiver) octets
+
 -- The walk over these hops, the first of which is hop k, each under the tables of one of the versions. Behind the last hop the packet was
--- sent on. The hop that denies it is named, and then no octet is left; one that delivers it leaves the octets as they came.
+-- sent on.
 abbrev pub IsWalk : PlanState → ℕ → List Hop → Coming → List ℕ → End → List ℕ → Type 0
 IsWalk plan k [] coming versions end out = Ends versions end out (the_end.Sent (carrier_in coming)) (octets_in coming)
 IsWalk plan k (hop ∷ hops) coming [] end out = ⊥
 IsWalk plan k (hop ∷ hops) coming (version ∷ versions) end out =
-    (read : Result (ParsedPacket Wire) CarryFault) × IsReadFrom coming read × elim (hop_verdict (network_after plan version) hop (octets_in coming) read) [
-      | Err why ↦ Ends versions end out (the_end.Denied k why) []
-      | Ok passage ↦ elim passage [
-        | goes_on carrier packet ↦ IsWalk plan (k + 1) hops (from_hop carrier packet) versions end out
-        | arrives delivered ↦ Ends versions end out (the_end.Delivered delivered.label delivered.receiver) (octets_in coming)
-      ]
-    ]
+    (read : Result (ParsedPacket Wire) CarryFault) × IsReadFrom coming read
+    × Follows k (octets_in coming) (λ next. IsWalk plan (k + 1) hops next versions end out) versions end out (hop_verdict (network_after plan version) hop (octets_in coming) read)
 
 -- the walk of what comes in; a frame that isn't a packet of IP is denied by hop 0, under no version
 abbrev pub IsWalkOf : PlanState → List Hop → PacketIn → List ℕ → End → List ℕ → Type 0

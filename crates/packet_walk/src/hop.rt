@@ -6,7 +6,7 @@ ghost use Rattle.label_receive.specs.Judged.{judged_by};
 ghost use Rattle.label_receive.specs.Receive.{receive_of};
 ghost use Rattle.label_send.specs.Send.{send_octets};
 ghost use Rattle.label_gateway.specs.Forward.{forward_of};
-ghost use Rattle.packet_walk.specs.Walk.{tables_of, passes, sending, forwarding, arrives, hop_verdict};
+ghost use Rattle.packet_walk.specs.Walk.{tables_of, verdict_of, goes_on, arrives, hop_verdict};
 ghost use Rattle.packet_walk.specs.inside.Hop.{Answered, AnsweredOf, stopped_as};
 
 use address_text::{Address, Name};
@@ -89,8 +89,8 @@ fn send_at(
     room: &mut Room,
     out: &mut Vec<u8>,
 ) -> Given
-    ensures { Answered
-        (passes sending (send_octets tables.now domain.now interface.now label.now packet.now))
+    ensures { Answered (verdict_of (λ sent. goes_on sent.carrier sent.packet)
+        (send_octets tables.now domain.now interface.now label.now packet.now))
         result room.new.local out.new.items }
 {
     match send_into(
@@ -116,7 +116,8 @@ fn forward_at(
     room: &mut Room,
     out: &mut Vec<u8>,
 ) -> Given
-    ensures { AnsweredOf packet.now (λ read. passes forwarding
+    ensures { AnsweredOf packet.now
+        (λ read. verdict_of (λ forwarded. goes_on forwarded.carrier forwarded.packet)
         (judged_by (forward_of tables.now from.now to.now domain.now) read))
         result room.new.local out.new.items }
 {
@@ -129,7 +130,7 @@ fn forward_at(
 fn receive_at(tables: &Tables, interface: &Name, packet: &[u8], room: &mut Room) -> Given
     ensures { (out : List ℕ)
         → AnsweredOf packet.now
-        (λ read. passes arrives (judged_by (receive_of tables.now interface.now) read))
+        (λ read. verdict_of arrives (judged_by (receive_of tables.now interface.now) read))
         result room.new.local out }
 {
     match receive_into(tables, interface, packet, room) {

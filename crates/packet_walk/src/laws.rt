@@ -1,6 +1,6 @@
 //! What the definitions are worth, whatever the code does.
 
-ghost use Rattle.std.specs.Prelude.{◌≡◌, ℕ, ◌≤◌, ◌++◌, List, [], take, All, Result, Err};
+ghost use Rattle.std.specs.Prelude.{◌≡◌, ℕ, ◌≤◌, ◌++◌, List, [], take, All, Result};
 ghost use Rattle.ip_headers.specs.Packet.{ParsedPacket};
 ghost use Rattle.packet_label.specs.declared.denial.Denial.{Denial};
 ghost use Rattle.packet_label.specs.declared.fault.CarryFault.{CarryFault};
@@ -11,7 +11,7 @@ ghost use Rattle.shared_tables.specs.Plan.{PlanState};
 ghost use Rattle.packet_walk.specs.declared.packet.PacketIn.{PacketIn};
 ghost use Rattle.packet_walk.specs.declared.walked.End.{End};
 ghost use Rattle.packet_walk.specs.declared.walked.End.TheVariants as the_end;
-ghost use Rattle.packet_walk.specs.Walk.{Coming, IsReadFrom, IsWalkOf, hop_verdict};
+ghost use Rattle.packet_walk.specs.Walk.{Coming, IsReadFrom, IsWalkOf, denied, hop_verdict};
 ghost use Rattle.packet_walk.specs.NoOption.{HopHasNoOption, MeetsNoOption};
 
 /// Under given versions a packet's walk ends in one way, and leaves the same octets.
@@ -43,7 +43,7 @@ pub fn hops_without_an_option_deny()
     ensures { (network : List TableState) (hop : Hop) (octets : List ℕ)
         (read : Result (ParsedPacket Wire) CarryFault) (why : Denial)
         → HopHasNoOption network hop octets read why
-        → hop_verdict network hop octets read ≡ Err why }
+        → hop_verdict network hop octets read ≡ denied why }
 {}
 
 /// There the packet's walk ends, and no octet is left of it.

@@ -19,7 +19,7 @@ use Rattle.label_send.specs.Send.{Sent, send_octets}
 use Rattle.label_send.proofs.Law.{sent_packets_may_go_out}
 use Rattle.label_gateway.specs.Forward.{Forwarded, forward_of}
 use Rattle.label_gateway.proofs.Law.{forwarded_packets_may_go_on}
-use Rattle.packet_walk.specs.Walk.{Passage, goes_on, arrives, passes, sending, forwarding, tables_of, hop_verdict}
+use Rattle.packet_walk.specs.Walk.{goes_on, arrives, verdict_of, tables_of, hop_verdict}
 use Rattle.flow_access.specs.Labels.{high_of, hop_label}
 use Rattle.static_law.specs.Covered.{interface_out}
 
@@ -30,9 +30,10 @@ pub record IsReleased (t : TableState) (out : List ℕ) (x : Label) : Type 0 whe
 
 -- ---- where a hop sends
 
-by_sent : (t : TableState) (domain interface octets : List ℕ) (x : Label) (passage : Passage) (r : Result Sent Denial) → send_octets t domain interface x octets ≡ r → passes sending r ≡ Ok passage → IsReleased t interface x
-by_sent t domain interface octets x passage (Err why) s e = absurd (cc)
-by_sent t domain interface octets x passage (Ok sent) s e = record { low = x; inside = (sent_packets_may_go_out t domain interface x octets sent s).released }
+by_sent : (t : TableState) (domain interface octets : List ℕ) (x : Label) (carrier : Carrier) (packet : ParsedPacket Wire) (r : Result Sent Denial) → send_octets t domain interface x octets ≡ r
+    → verdict_of (λ (sent : Sent). goes_on sent.carrier sent.packet) r ≡ goes_on carrier packet → IsReleased t interface x
+by_sent t domain interface octets x carrier packet (Err why) s e = absurd (cc)
+by_sent t domain interface octets x carrier packet (Ok sent) s e = record { low = x; inside = (sent_packets_may_go_out t domain interface x octets sent s).released }
 
 -- ---- where it forwards
 
@@ -44,28 +45,26 @@ module _ (t : TableState) (from to domain : List ℕ) (p : ParsedPacket Wire) (x
       let same : g.incoming.high ≡ x = cc in
       record { low = g.incoming.low; inside = subst (λ l. is_outside t.ranges to g.incoming.low l ≡ false) same g.released }
 
-  by_result : (passage : Passage) (r : Result Forwarded Denial) → forward_of t from to domain p ≡ r → passes forwarding r ≡ Ok passage → IsReleased t to x
-  by_result passage (Err why) s e = absurd (cc)
-  by_result passage (Ok f) s e = by_forwarded f s
+  by_result : (carrier : Carrier) (packet : ParsedPacket Wire) (r : Result Forwarded Denial) → forward_of t from to domain p ≡ r
+      → verdict_of (λ (forwarded : Forwarded). goes_on forwarded.carrier forwarded.packet) r ≡ goes_on carrier packet → IsReleased t to x
+  by_result carrier packet (Err why) s e = absurd (cc)
+  by_result carrier packet (Ok f) s e = by_forwarded f s
 
 -- ---- where it receives
 
 -- nothing goes on
-module _ {P : Type 0} (t : TableState) (interface : List ℕ) (carrier : Carrier) (packet : ParsedPacket Wire) where
-  by_delivered : (r : Result Delivered Denial) → passes arrives r ≡ Ok (goes_on carrier packet) → P
-  by_delivered (Err why) e = absurd (cc)
-  by_delivered (Ok delivered) e = let other : arrives delivered ≡ goes_on carrier packet = cc in absurd (cc)
-
-  pub never_on : (read : Result (ParsedPacket Wire) CarryFault) → passes arrives (judged_by (receive_of t interface) read) ≡ Ok (goes_on carrier packet) → P
-  never_on read e = by_delivered (judged_by (receive_of t interface) read) e
+module _ {P : Type 0} (carrier : Carrier) (packet : ParsedPacket Wire) where
+  pub never_on : (r : Result Delivered Denial) → verdict_of arrives r ≡ goes_on carrier packet → P
+  never_on (Err why) e = absurd (cc)
+  never_on (Ok delivered) e = absurd (cc)
 
 pub released : (network : List TableState) (hop : Hop) (octets : List ℕ) (read : Result (ParsedPacket Wire) CarryFault) (carrier : Carrier) (packet : ParsedPacket Wire) (x : Label)
-    → hop_verdict network hop octets read ≡ Ok (goes_on carrier packet) → hop_label (tables_of network (node_of hop)) hop read ≡ Ok x → IsReleased (tables_of network (node_of hop)) (interface_out hop) x
+    → hop_verdict network hop octets read ≡ goes_on carrier packet → hop_label (tables_of network (node_of hop)) hop read ≡ Ok x → IsReleased (tables_of network (node_of hop)) (interface_out hop) x
 released network (Send node domain interface label) octets read carrier packet x e takes =
     let same : label ≡ x = cc in
     subst (IsReleased (tables_of network node) interface) same
-    (by_sent (tables_of network node) domain interface octets label (goes_on carrier packet) (send_octets (tables_of network node) domain interface label octets) refl e)
+    (by_sent (tables_of network node) domain interface octets label carrier packet (send_octets (tables_of network node) domain interface label octets) refl e)
 released network (Forward node from to domain) octets (Err fault) carrier packet x e takes = absurd (cc)
 released network (Forward node from to domain) octets (Ok p) carrier packet x e takes =
-    by_result (tables_of network node) from to domain p x takes (goes_on carrier packet) (forward_of (tables_of network node) from to domain p) refl e
-released network (Receive node interface) octets read carrier packet x e takes = never_on (tables_of network node) interface carrier packet read e
+    by_result (tables_of network node) from to domain p x takes carrier packet (forward_of (tables_of network node) from to domain p) refl e
+released network (Receive node interface) octets read carrier packet x e takes = never_on carrier packet (judged_by (receive_of (tables_of network node) interface) read) e

@@ -26,11 +26,12 @@ use Rattle.flow_lines.specs.Hop.{is_send}
 use Rattle.node_tables.specs.Tables.{TableState}
 use Rattle.version_cross.specs.Cause.{is_fragment, first_cause, cross_cause}
 use Rattle.label_receive.specs.Judged.{judged_by}
+use Rattle.label_receive.specs.Receive.{receive_of}
 use Rattle.label_send.specs.Send.{Sent, send_octets}
 use Rattle.label_send.proofs.Law.{sent_packets_may_go_out}
 use Rattle.label_gateway.specs.Forward.{Forwarded, forward_of, onward}
 use Rattle.label_gateway.proofs.Law.{forwarded_packets_may_go_on, packets_that_go_on_keep_their_protocol}
-use Rattle.packet_walk.specs.Walk.{Coming, from_outside, from_hop, octets_in, IsReadFrom, goes_on, passes, sending, forwarding, tables_of, hop_verdict}
+use Rattle.packet_walk.specs.Walk.{Coming, from_outside, from_hop, octets_in, IsReadFrom, goes_on, verdict_of, tables_of, hop_verdict}
 use Rattle.static_law.specs.Climbs.{IsExcepted}
 use Rattle.static_law.proofs.Released.{never_on}
 
@@ -115,32 +116,32 @@ read_shown hop hops (from_hop carrier q) p shown is hides =
 
 module _ (hops : List Hop) (carrier : Carrier) (packet : ParsedPacket Wire) (hides : MayHide packet.version packet.protocol) where
   send_shown : (t : TableState) (node : ℕ) (domain interface : List ℕ) (x : Label) (coming : Coming) → Shown (Send node domain interface x ∷ hops) coming
-      → passes sending (send_octets t domain interface x (octets_in coming)) ≡ Ok (goes_on carrier packet) → ⊥
+      → verdict_of (λ (sent : Sent). goes_on sent.carrier sent.packet) (send_octets t domain interface x (octets_in coming)) ≡ goes_on carrier packet → ⊥
   send_shown t node domain interface x (from_hop with_carrier q) shown e = absurd (true≢false shown.0)
   send_shown t node domain interface x (from_outside octets) shown e = by_result (send_octets t domain interface x octets) refl e
     where
-      by_result : (r : Result Sent Denial) → send_octets t domain interface x octets ≡ r → passes sending r ≡ Ok (goes_on carrier packet) → ⊥
+      by_result : (r : Result Sent Denial) → send_octets t domain interface x octets ≡ r → verdict_of (λ (sent : Sent). goes_on sent.carrier sent.packet) r ≡ goes_on carrier packet → ⊥
       by_result (Err why) s h = absurd (cc)
       by_result (Ok sent) s h =
-          let is : goes_on sent.carrier sent.packet ≡ goes_on carrier packet = cc in
+          let is : goes_on sent.carrier sent.packet ≡ goes_on carrier packet = h in
           let same : sent.packet ≡ packet = cc in
           shown (sent_hides t domain interface x sent octets s (subst (λ (q : ParsedPacket Wire). MayHide q.version q.protocol) (sym same) hides))
 
   forward_shown : (t : TableState) (hop : Hop) (from to domain : List ℕ) (coming : Coming) (read : Result (ParsedPacket Wire) CarryFault) → Shown (hop ∷ hops) coming → IsReadFrom coming read
-      → passes forwarding (judged_by (forward_of t from to domain) read) ≡ Ok (goes_on carrier packet) → ⊥
+      → verdict_of (λ (forwarded : Forwarded). goes_on forwarded.carrier forwarded.packet) (judged_by (forward_of t from to domain) read) ≡ goes_on carrier packet → ⊥
   forward_shown t hop from to domain coming (Err fault) shown reads e = absurd (cc)
   forward_shown t hop from to domain coming (Ok p) shown reads e = by_result (forward_of t from to domain p) refl e
     where
-      by_result : (r : Result Forwarded Denial) → forward_of t from to domain p ≡ r → passes forwarding r ≡ Ok (goes_on carrier packet) → ⊥
+      by_result : (r : Result Forwarded Denial) → forward_of t from to domain p ≡ r → verdict_of (λ (forwarded : Forwarded). goes_on forwarded.carrier forwarded.packet) r ≡ goes_on carrier packet → ⊥
       by_result (Err why) s h = absurd (cc)
       by_result (Ok f) s h =
           let g = forwarded_packets_may_go_on t from to domain p f s in
-          let is : goes_on f.carrier f.packet ≡ goes_on carrier packet = cc in
+          let is : goes_on f.carrier f.packet ≡ goes_on carrier packet = h in
           let same : f.packet ≡ packet = cc in
           read_shown hop hops coming p shown reads (onward_hides t g.protocol g.incoming.high p f.packet g.goes (subst (λ (q : ParsedPacket Wire). MayHide q.version q.protocol) (sym same) hides))
 
   pub goes_on_shown : (network : List TableState) (hop : Hop) (coming : Coming) (read : Result (ParsedPacket Wire) CarryFault) → Shown (hop ∷ hops) coming → IsReadFrom coming read
-      → hop_verdict network hop (octets_in coming) read ≡ Ok (goes_on carrier packet) → ⊥
+      → hop_verdict network hop (octets_in coming) read ≡ goes_on carrier packet → ⊥
   goes_on_shown network (Send node domain interface x) coming read shown reads e = send_shown (tables_of network node) node domain interface x coming shown e
   goes_on_shown network (Forward node from to domain) coming read shown reads e = forward_shown (tables_of network node) (Forward node from to domain) from to domain coming read shown reads e
-  goes_on_shown network (Receive node interface) coming read shown reads e = never_on (tables_of network node) interface carrier packet read e
+  goes_on_shown network (Receive node interface) coming read shown reads e = never_on carrier packet (judged_by (receive_of (tables_of network node) interface) read) e

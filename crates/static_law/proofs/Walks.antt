@@ -52,7 +52,7 @@ module _ (plan : PlanState) (readings : List NamedMeanings) where
 
   module _ (tables : (version : ℕ) (hop : Hop) → AreValid (hop_tables plan version hop)) (named : (hop : Hop) → IsReading (reading_at readings hop))
       (hop next : Hop) (coming : Coming) (v w : ℕ) (read : Result (ParsedPacket Wire) CarryFault) (carrier : Carrier) (packet : ParsedPacket Wire) (no_send : is_send next ≡ false)
-      (verdict : hop_verdict (network_after plan v) hop (octets_in coming) read ≡ Ok (goes_on carrier packet)) (covered : CoveredBetween plan readings hop v next w)
+      (verdict : hop_verdict (network_after plan v) hop (octets_in coming) read ≡ goes_on carrier packet) (covered : CoveredBetween plan readings hop v next w)
       (x y : Label) (later : Result (ParsedPacket Wire) CarryFault) (is : hop_label (hop_tables plan v hop) hop read ≡ Ok x) (is_label : IsLabel x) (follows : IsNext packet later)
       (takes : hop_label (hop_tables plan w next) next later ≡ Ok y) where
     over_option : (said : Wire) → packet.label ≡ Some said → MeansDominates (meaning_of (reading_at readings next) y) (meaning_of (reading_at readings hop) x) × IsLabel y

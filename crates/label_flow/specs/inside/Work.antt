@@ -20,6 +20,10 @@ HasNodes hops v = All (λ hop. node_of hop < v.plan.nodes) hops
 abbrev pub IsWalkedBy : List Hop → ViewerState → ViewerState → PacketIn → PairState → Type 0
 IsWalkedBy hops v u packet pair = IsWalked v.plan hops v.seen u.seen packet pair.walked pair.octets
 
+-- one more pair stands behind those that were there: what became of that packet
+abbrev pub IsOneMore : List Hop → ViewerState → ViewerState → PacketIn → List PairState → List PairState → Type 0
+IsOneMore hops v u packet old new = (pair : PairState) × (new ≡ old ++ pair ∷ []) × IsWalkedBy hops v u packet pair
+
 -- worker k and those after it, each with its packets of a batch that begins at number n
 abbrev pub AreWorks : List Hop → ℕ → ℕ → List PacketIn → ℕ → List ViewerState → List (List PairState) → List ViewerState → Type 0
 AreWorks hops w n batch k [] [] [] = Unit {0}

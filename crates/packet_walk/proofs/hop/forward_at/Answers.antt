@@ -1,5 +1,6 @@
 use Rattle.std.proofs.Common.{ap, sym, ◌∙◌}
-use Rattle.packet_walk.specs.Walk.{passes, forwarding}
+use Rattle.label_gateway.specs.Forward.{Forwarded}
+use Rattle.packet_walk.specs.Walk.{verdict_of, goes_on}
 use Rattle.packet_walk.proofs.Lengths.{octets_short}
 use Rattle.packet_walk.proofs.Walks.{reads_back}
 use Rattle.packet_walk.proofs.hop.forward_at.Goals as goal
@@ -12,5 +13,5 @@ returns-in-Ok c =
     record {
       read = v.judged.read;
       reads = v.judged.reads;
-      answered = (v.answers.0, ap (passes forwarding) is, v.answers.2, reads_back v.answers.0 room, rw v.answers.2 (octets_short v.answers.0 room));
+      answered = (v.answers.0, ap (verdict_of (λ (forwarded : Forwarded). goes_on forwarded.carrier forwarded.packet)) is, v.answers.2, reads_back v.answers.0 room, rw v.answers.2 (octets_short v.answers.0 room));
     }

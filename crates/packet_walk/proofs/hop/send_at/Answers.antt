@@ -1,5 +1,6 @@
 use Rattle.std.proofs.Common.{ap}
-use Rattle.packet_walk.specs.Walk.{passes, sending}
+use Rattle.label_send.specs.Send.{Sent}
+use Rattle.packet_walk.specs.Walk.{verdict_of, goes_on}
 use Rattle.packet_walk.proofs.Lengths.{octets_short}
 use Rattle.packet_walk.proofs.Walks.{reads_back}
 use Rattle.packet_walk.proofs.hop.send_at.Goals as goal
@@ -8,4 +9,4 @@ pub returns-in-Ok : goal.returns-in-Ok
 returns-in-Ok c =
     let v = c.in-Ok.ensures.value in
     let room = rw v.1 at c.in-Ok.ensures.in_room in
-    (v.0, ap (passes sending) v.1, v.2, reads_back v.0 room, rw v.2 (octets_short v.0 room))
+    (v.0, ap (verdict_of (λ (sent : Sent). goes_on sent.carrier sent.packet)) v.1, v.2, reads_back v.0 room, rw v.2 (octets_short v.0 room))
