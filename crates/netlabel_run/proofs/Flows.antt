@@ -22,9 +22,10 @@ module _ (own : List ℕ) (script : Script) (sound : IsSoundScript own script) w
   -- its hops are of nodes of the script, and there is one at least
   pub hops_of_flow : (number : ℕ) (flow : FlowLine) → flow_numbered script number ≡ Some flow → All (λ hop. node_of hop < length script.nodes) flow.hops × IsRoute flow.hops
   hops_of_flow zero flow is = absurd cc
-  hops_of_flow (suc place) flow is =
-      (at_place (λ (f : FlowLine). All (λ hop. node_of hop < length script.nodes) f.hops) script.flows place flow sound.hop_nodes is,
-        at_place (λ (f : FlowLine). IsRoute f.hops) script.flows place flow sound.routes is)
+  hops_of_flow (suc place) flow is = (
+    at_place (λ (f : FlowLine). All (λ hop. node_of hop < length script.nodes) f.hops) script.flows place flow sound.hop_nodes is,
+    at_place (λ (f : FlowLine). IsRoute f.hops) script.flows place flow sound.routes is,
+  )
 
   -- its versions are those of some commands of the script
   pub versions_within : (number : ℕ) (flow : FlowLine) (versions : List ℕ) → AreVersionsOf script number flow versions → Rises 0 (length script.steps) versions

@@ -1,3 +1,5 @@
+use denote.Shadow.{shadow}
+use denote.Text.{Utf8}
 use Rattle.std.proofs.Common.{◌≡◌, length}
 use Rattle.netlabel_run.specs.Words.{versions_named}
 use Rattle.netlabel_run.proofs.Splits.{in_front}
@@ -8,4 +10,7 @@ decreases-loop-part l = length l.rest
 
 -- what was read, in front of what the rest gives
 abbrev pub invariant-loop-part : goal.invariant-loop-part
-invariant-loop-part l = versions_named l.word ≡ in_front l.numbers.items (versions_named l.rest)
+invariant-loop-part l = record {
+  text : shadow (Utf8 l.rest);
+  walk : versions_named l.word ≡ in_front l.numbers.items (versions_named l.rest);
+}
