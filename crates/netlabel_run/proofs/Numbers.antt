@@ -3,7 +3,7 @@ use Rattle.std.proofs.Common.{◌≡◌, ℕ, ◌^◌, ◌<◌, ◌≤◌, List,
 use Rattle.std.specs.Prelude.{nat_le}
 use Rattle.std.specs.Str.{bytes_eq}
 use Rattle.std.specs.Str.Parse.{digits_value}
-use Rattle.std.proofs.lemmas.Bool.{and_from, and_right, and_parts, cond-true, cond-false, false_from_ne_true, le-leb, lt-leb, leb-true}
+use Rattle.std.proofs.lemmas.Bool.{and_from, and_right, cond-true, cond-false, le-leb, lt-leb}
 use Rattle.std.proofs.lemmas.Fmt.{decimal_is_IsNumeral}
 use Rattle.std.proofs.lemmas.Slice.Eq.{bytes_eq-Decides}
 use Rattle.netlabel_run.specs.Words.{number_named}
@@ -22,10 +22,3 @@ pub names_too_much : (n : ℕ) (text : List ℕ) → n < 2 ^ 64 → text ≡ dec
 names_too_much n text small is lt =
     let v = value_is n text small is in
     cond-false _ _ _ (and_right (bytes_eq (decimal (digits_value 10 text)) text) _ (lt-leb _ 4294967295 (omega (arith, v))))
-
-pub names_none : (text : List ℕ) → ((n : ℕ) → n < 2 ^ 64 → text ≡ decimal n → ⊥) → number_named text ≡ None
-names_none text none =
-    let n = digits_value 10 text in
-    cond-false _ _ _ (false_from_ne_true _ λ both.
-    let parts = and_parts (bytes_eq (decimal n) text) (nat_le n 4294967295) both in
-    none n (omega (arith, leb-true n 4294967295 parts.1)) (sym ((bytes_eq-Decides (decimal n) text).0 parts.0)))

@@ -5,7 +5,6 @@ ghost use Rattle.std.specs.List.{list_all};
 ghost use Rattle.label_commands.specs.Script.{before};
 ghost use Rattle.label_commands.specs.Sound.{IsSoundScript};
 ghost use Rattle.packet_walk.specs.Walk.{Rises};
-ghost use Rattle.call_report.specs.Lines.Agreement.{bad_versions_line};
 ghost use Rattle.call_report.specs.Outside.{Outside};
 ghost use Rattle.call_report.specs.CallEnds.{CallEnds};
 ghost use Rattle.call_report.specs.Status.{status_number};
@@ -151,8 +150,7 @@ fn append_found(found: &[Option<Disagree>], lines: &mut Vec<u8>) -> Result<(), O
     ensures { OnOk result (lines.new.items ≡ lines.old.items ++ agree_text found.now) }
 {
     append_hops(found, lines)?;
-    let agree = found.iter().all(|found| found.is_none());
-    lines.extend_from_slice(agree_or_disagree(agree))?;
+    lines.extend_from_slice(agree_or_disagree(all_agree(found)))?;
     Ok(())
 }
 
@@ -166,4 +164,11 @@ fn append_hops(found: &[Option<Disagree>], lines: &mut Vec<u8>) -> Result<(), Ou
         place += 1;
     }
     Ok(())
+}
+
+/// Whether each two hops agree.
+fn all_agree(found: &[Option<Disagree>]) -> bool
+    ensures { result ≡ list_all is_none found.now }
+{
+    found.iter().all(|found| found.is_none())
 }
