@@ -50,6 +50,11 @@ for name, text in texts.items():
         lacking = named - {found.group(1), *uses[found.group(1)]}
         failures += [f"{name}: names {crate}, which its crate's line of crates.txt lacks" for crate in sorted(lacking)]
 
+# Tests alone name test material, so that nobody has to believe it.
+for name, text in texts.items():
+    if re.match(r"crates/(?!worked_)\w+/(?:src/(?!tests[./])|specs/|proofs/(?!tests/)).*\.(?:rt|antt)$", name):
+        failures += [f"{name}: names {crate}, which is for tests alone" for crate in sorted(set(re.findall(r"\bworked_(?:values|networks)\b", text)))]
+
 # Functions have few arguments, and clauses short lines.
 failures += signatures.faults({name: text for name, text in texts.items() if re.match(r"crates/\w+/src/.*\.rt$", name)})
 

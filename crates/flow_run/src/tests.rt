@@ -12,19 +12,20 @@ use label_flow::Gate;
 use net_io::{DepotCall, MemoryDepot, MemorySink};
 use node_tables::Network;
 use pcap_frames::{CaptureFault, CaptureKind};
-use script_lines::{Step, command_of, read_said, words_into};
+use script_lines::{Step, words_into};
 use std::alloc::Global;
 use std::process::Abort;
 use std::str::from_utf8;
 use std::sync::Wait;
 use std::sync::atomic::{AtomicU64, Ordering};
 use std::thread::{Threads, yield_now};
+use worked_networks::steps_of;
 
-const LINES: [&str; 4] = [
-    "unlbl accept on",
-    "unlbl add default address:10.0.0.0/8 label:s1:c2",
-    "map add default protocol:unlbl",
-    "receiver add address:10.0.0.2 domain:sink_t level:s1:c2",
+const LINES: [(usize, &str); 4] = [
+    (0, "unlbl accept on"),
+    (0, "unlbl add default address:10.0.0.0/8 label:s1:c2"),
+    (0, "map add default protocol:unlbl"),
+    (0, "receiver add address:10.0.0.2 domain:sink_t level:s1:c2"),
 ];
 
 const FLOW: &str = "in.pcap out.pcap receive:r,eth0";
@@ -171,28 +172,6 @@ fn flow_of(rt: &impl Abort, alloc: Global, names: &NodeNames) -> FlowLine
     flow
 }
 
-fn step_of(rt: &impl Abort, alloc: Global, line: &str) -> Step
-    ensures { result.node < 1 }
-{
-    let mut words = Vec::new(alloc);
-    words_into(line.as_bytes(), &mut words).expect(rt, "memory");
-    let said = read_said(alloc, false, &words, line.len()).expect(rt, "said");
-    let command = command_of(said.row, said.fields).expect(rt, "a command");
-    Step { node: 0, command }
-}
-
-fn steps_of(rt: &impl Abort, alloc: Global) -> Vec<Step>
-    ensures count { length result.items ≡ 4 }
-    ensures nodes { All (λ step. step.node < 1) result.items }
-{
-    let mut steps = Vec::new(alloc);
-    for line in LINES.as_slice() {
-        let step = step_of(rt, alloc, line);
-        steps.push(step).expect(rt, "memory");
-    }
-    steps
-}
-
 fn fresh(rt: &impl Abort, alloc: Global, steps: &[Step]) -> Network
     ensures { result ≡ tables_after 1 steps.now 0 }
 {
@@ -210,7 +189,7 @@ fn called(
 ) -> Ran {
     let nodes = names_of(rt, alloc);
     let flow = flow_of(rt, alloc, &nodes);
-    let steps = steps_of(rt, alloc);
+    let steps = steps_of(alloc, 1, &LINES).expect(rt, "commands");
     let network = fresh(rt, alloc, &steps);
     let place = FlowPlace {
         flow: &flow,

@@ -1,23 +1,12 @@
 // Worked values: packets made by hand from RFC 791 and RFC 8200, and the first test that fails of broken ones.
 
-ghost use Rattle.std.specs.Prelude.{◌<◌};
 ghost use Rattle.ip_headers.specs.declared.version.Version.TheVariants.{V4, V6};
 ghost use Rattle.ip_headers.specs.Written.{IsLabelOption};
 
 use super::*;
-use std::alloc::{AllocError, Global};
 use std::test::*;
-
-/// A packet of UDP with a CIPSO option of DOI 16, level 2, categories 1 and 3.
-const LABELLED: &str =
-    "480000280000000040118ca00a0000010a000002860b0000001001050002500003e8003500080000";
-
-/// A packet of UDP without options.
-const PLAIN: &str = "4500001c00004000401126cf0a0000010a00000203e800350008e7be";
-
-/// The fixed header of a packet of IPv6 with a Hop-by-Hop header of 8 octets and 8 octets of payload.
-const ALERT: &str =
-    "6000000000100040fd000000000000000000000000000001fd000000000000000000000000000002110005020000010003e8003500080000";
+use worked_values::octets_of;
+use worked_values::packets::{ALERT_6, BITMAP_16, CUT_4, LABELLED_4, PLAIN_4, WRONG_SUM_4};
 
 const FAULTS4: [(&str, &str, usize, HeadKind); 27] = [
     ("no octet", "", 0, HeadKind::Short),
@@ -76,18 +65,8 @@ const FAULTS4: [(&str, &str, usize, HeadKind); 27] = [
         2,
         HeadKind::TotalLength,
     ),
-    (
-        "without the last octet",
-        "480000280000000040118ca00a0000010a000002860b0000001001050002500003e80035000800",
-        2,
-        HeadKind::TotalLength,
-    ),
-    (
-        "checksum octet 10",
-        "480000280000000040118da00a0000010a000002860b0000001001050002500003e8003500080000",
-        10,
-        HeadKind::Checksum,
-    ),
+    ("without the last octet", CUT_4, 2, HeadKind::TotalLength),
+    ("checksum octet 10", WRONG_SUM_4, 10, HeadKind::Checksum),
     (
         "checksum octet 11",
         "480000280000000040118ca10a0000010a000002860b0000001001050002500003e8003500080000",
@@ -319,30 +298,10 @@ fn calipso() -> [u8; 10]
     [7, 8, 0, 0, 0, 16, 0, 2, 0xbf, 0xd9]
 }
 
-fn nibble(digit: u8) -> u8
-    ensures { result < 16 }
-{
-    match digit {
-        b'0'..=b'9' => digit - b'0',
-        b'a'..=b'f' => digit - b'a' + 10,
-        _ => 0,
-    }
-}
-
-fn octets(alloc: Global, text: &str) -> Result<Vec<u8>, AllocError> {
-    let mut octets = Vec::new(alloc);
-    let mut rest = text.as_bytes();
-    while let [high, low, after @ ..] = rest {
-        octets.push(16 * nibble(*high) + nibble(*low))?;
-        rest = after;
-    }
-    Ok(octets)
-}
-
 #[test]
 fn first_faults_of_version_4(rt: HostRuntime) -> Result<(), Fail> {
     for (name, text, octet, kind) in FAULTS4 {
-        let bytes = octets(rt.alloc(), text)?;
+        let bytes = octets_of(rt.alloc(), text)?;
         let got = read4(&bytes).err();
         assert_eq!(rt; got, Some(HeadFault { octet, kind }), "{name}");
         let front = front4(&bytes).err();
@@ -354,7 +313,7 @@ fn first_faults_of_version_4(rt: HostRuntime) -> Result<(), Fail> {
 #[test]
 fn first_faults_of_version_6(rt: HostRuntime) -> Result<(), Fail> {
     for (name, text, octet, kind) in FAULTS6 {
-        let bytes = octets(rt.alloc(), text)?;
+        let bytes = octets_of(rt.alloc(), text)?;
         let got = read6(&bytes).err();
         assert_eq!(rt; got, Some(HeadFault { octet, kind }), "{name}");
         let front = front6(&bytes).err();
@@ -365,7 +324,7 @@ fn first_faults_of_version_6(rt: HostRuntime) -> Result<(), Fail> {
 
 #[test]
 fn a_labelled_packet_of_version_4(rt: HostRuntime) -> Result<(), Fail> {
-    let bytes = octets(rt.alloc(), LABELLED)?;
+    let bytes = octets_of(rt.alloc(), LABELLED_4)?;
     let option = cipso();
     let packet = read4(&bytes).ok().ok_or("a packet")?;
     assert_eq!(rt; packet.hops(), 64);
@@ -380,7 +339,7 @@ fn a_labelled_packet_of_version_4(rt: HostRuntime) -> Result<(), Fail> {
     let mut out = Vec::new(rt.alloc());
     assert_eq!(rt; rebuild4(&packet, Some(&option), 64, &mut out), Ok(()));
     assert_eq!(rt; out.as_slice(), bytes.as_slice());
-    let bare = octets(
+    let bare = octets_of(
         rt.alloc(),
         "4500001c00000000401166cf0a0000010a00000203e8003500080000",
     )?;
@@ -391,7 +350,7 @@ fn a_labelled_packet_of_version_4(rt: HostRuntime) -> Result<(), Fail> {
 
 #[test]
 fn a_plain_packet_of_version_4(rt: HostRuntime) -> Result<(), Fail> {
-    let bytes = octets(rt.alloc(), PLAIN)?;
+    let bytes = octets_of(rt.alloc(), PLAIN_4)?;
     let option = cipso();
     let packet = front4(&bytes).ok().ok_or("a packet")?;
     assert_eq!(rt; packet.tos(), 0);
@@ -400,17 +359,14 @@ fn a_plain_packet_of_version_4(rt: HostRuntime) -> Result<(), Fail> {
     assert_eq!(rt; packet.label_option().is_none(), true);
     let mut out = Vec::new(rt.alloc());
     assert_eq!(rt; rebuild4(&packet, Some(&option), 64, &mut out), Ok(()));
-    let labelled = octets(
-        rt.alloc(),
-        "480000280000400040114ca00a0000010a000002860b0000001001050002500003e800350008e7be",
-    )?;
+    let labelled = octets_of(rt.alloc(), BITMAP_16)?;
     assert_eq!(rt; out.as_slice(), labelled.as_slice());
     Ok(())
 }
 
 #[test]
 fn a_router_alert_keeps_its_place(rt: HostRuntime) -> Result<(), Fail> {
-    let bytes = octets(rt.alloc(), ALERT)?;
+    let bytes = octets_of(rt.alloc(), ALERT_6)?;
     let option = calipso();
     let packet = read6(&bytes).ok().ok_or("a packet")?;
     assert_eq!(rt; packet.class(), 0);
@@ -424,7 +380,7 @@ fn a_router_alert_keeps_its_place(rt: HostRuntime) -> Result<(), Fail> {
     assert_eq!(rt; packet.payload().len(), 8);
     let mut out = Vec::new(rt.alloc());
     assert_eq!(rt; rebuild6(&packet, Some(&option), 64, &mut out), Ok(()));
-    let labelled = octets(
+    let labelled = octets_of(
         rt.alloc(),
         "6000000000200040fd000000000000000000000000000001fd00000000000000000000000000000211020708000000100002bfd901040000000005020000010003e8003500080000",
     )?;
@@ -436,7 +392,7 @@ fn a_router_alert_keeps_its_place(rt: HostRuntime) -> Result<(), Fail> {
 
 #[test]
 fn packets_by_their_fields(rt: HostRuntime) -> Result<(), Fail> {
-    let payload = octets(rt.alloc(), "03e800350008e7be")?;
+    let payload = octets_of(rt.alloc(), "03e800350008e7be")?;
     let fields = Fields4 {
         tos: 0,
         id: 0,
@@ -447,10 +403,7 @@ fn packets_by_their_fields(rt: HostRuntime) -> Result<(), Fail> {
         destination: [10, 0, 0, 2],
     };
     let option = cipso();
-    let want = octets(
-        rt.alloc(),
-        "480000280000400040114ca00a0000010a000002860b0000001001050002500003e800350008e7be",
-    )?;
+    let want = octets_of(rt.alloc(), BITMAP_16)?;
     let mut out = Vec::new(rt.alloc());
     assert_eq!(rt; write4(&fields, Some(&option), &payload, &mut out), Ok(()));
     assert_eq!(rt; out.as_slice(), want.as_slice());
@@ -463,7 +416,7 @@ fn packets_by_their_fields(rt: HostRuntime) -> Result<(), Fail> {
         destination: [0xfd, 0, 0, 0, 0, 0, 0, 0, 0, 0, 0, 0, 0, 0, 0, 2],
     };
     let option = calipso();
-    let want = octets(
+    let want = octets_of(
         rt.alloc(),
         "612345670018003ffd000000000000000000000000000001fd00000000000000000000000000000211010708000000100002bfd90102000003e800350008e7be",
     )?;

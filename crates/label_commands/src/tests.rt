@@ -2,6 +2,7 @@ use super::*;
 use script_lines::ScriptKind as Kind;
 use std::alloc::Global;
 use std::process::Abort;
+use worked_values::scripts::CROSSING;
 
 /// A script that is refused, and the line, the octet and the kind of its first fault: each kind at an early place and at a late one.
 const FAULTS: [(&str, u32, usize, Kind); 44] = [
@@ -119,31 +120,6 @@ fn tells_the_first_fault(rt: HostRuntime) {
         assert_eq!(rt; found, Some(ScriptStop::Fault(wanted)), "of {text:?}");
     }
 }
-
-/// Two gateways between an IPv4 network and another, with the meaning of the last node's categories.
-const CROSSING: &str = "node a
-cipsov4 add pass doi:8 tags:1
-map add default protocol:cipsov4,8
-node g
-cipsov4 add pass doi:8 tags:1
-calipso add pass doi:9
-map add default protocol:calipso,9
-pair add address4:10.0.0.1 address6:fd00::1
-pair add address4:10.0.0.2 address6:fd00::2
-node h
-calipso add pass doi:9
-cipsov4 add trans doi:10 tags:2 levels:0=10,1=11,2=12 categories:1=5,3=4
-map add default protocol:cipsov4,10
-pair add address4:10.0.0.1 address6:fd00::1
-pair add address4:10.0.0.2 address6:fd00::2
-node b
-cipsov4 add trans doi:10 tags:2 levels:0=10,1=11,2=12 categories:7=5,8=4
-map add default protocol:cipsov4,10
-receiver add address:10.0.0.2 domain:sink_t level:s3:c7.c9
-reading categories:7=1,8=3,1=7,3=8
-flow one.pcap far.pcap send:a,app_t,eth0,s2:c1,c3 forward:g,eth0,eth1,any forward:h,eth0,eth1,any receive:b,eth0
-flow one.pcap half.pcap send:a,app_t,eth0,s2:c1,c3 forward:g,eth0,eth1,any
-";
 
 /// A script, and what it says: its steps in their written forms, its flows with the steps above them and their hops, its nodes.
 const SCRIPTS: [(&str, &str); 6] = [

@@ -16,19 +16,18 @@ use std::process::Abort;
 use std::sync::atomic::{AtomicU64, Ordering};
 use std::sync::{Arc, Wait};
 use std::thread::{Threads, yield_now};
+use worked_networks::steps_of;
+use worked_values::octets_of;
+use worked_values::packets::LABELLED_4;
 
-/// IPv4 from 10.0.0.1 to 10.0.0.2 with a CIPSO option: DOI 16, tag 1, `s2:c1,c3`. The two octets behind its length are the feed's own.
-const PACKET: [u8; 42] = [
-    0x48, 0x00, 0x00, 0x28, 0x00, 0x00, 0x00, 0x00, 0x40, 0x11, 0x8c, 0xa0, 0x0a, 0x00, 0x00, 0x01,
-    0x0a, 0x00, 0x00, 0x02, 0x86, 0x0b, 0x00, 0x00, 0x00, 0x10, 0x01, 0x05, 0x00, 0x02, 0x50, 0x00,
-    0x03, 0xe8, 0x00, 0x35, 0x00, 0x08, 0x00, 0x00, 0x00, 0x00,
-];
-
-const LINES: [&str; 4] = [
-    "cipsov4 add pass doi:16 tags:1",
-    "map add default protocol:cipsov4,16",
-    "receiver add address:10.0.0.2 domain:sink_t level:s2:c0.c5",
-    "unlbl accept on",
+const LINES: [(usize, &str); 4] = [
+    (0, "cipsov4 add pass doi:16 tags:1"),
+    (0, "map add default protocol:cipsov4,16"),
+    (
+        0,
+        "receiver add address:10.0.0.2 domain:sink_t level:s2:c0.c5",
+    ),
+    (0, "unlbl accept on"),
 ];
 
 const TWO_HOPS: &str = "in out forward:r,eth0,eth1,any receive:r,eth1";
@@ -62,13 +61,16 @@ struct Copies {
     versions: Vec<u32>,
 }
 
+// A packet with its number behind its length, in two octets.
 fn numbered(alloc: Global, number: u64) -> Option<PacketIn>
     ensures { IfSome result (λ packet. length packet.bytes ≤ 262144) }
 {
-    let mut bytes = Vec::new(alloc);
-    bytes.extend_from_slice(&PACKET).ok()?;
-    bytes[40] = (number / 256 % 256) as u8;
-    bytes[41] = (number % 256) as u8;
+    let mut bytes = octets_of(alloc, LABELLED_4).ok()?;
+    if bytes.len() != 40 {
+        return None;
+    }
+    bytes.push((number / 256 % 256) as u8).ok()?;
+    bytes.push((number % 256) as u8).ok()?;
     let bytes = Octets::of(bytes);
     Some(PacketIn { bytes, is_ip: true })
 }
@@ -242,24 +244,10 @@ fn flow_of(rt: &impl Abort, alloc: Global, line: &str) -> FlowLine
     flow
 }
 
-fn step_of(rt: &impl Abort, alloc: Global, line: &str) -> Step
-    ensures { result.node < 1 }
-{
-    let mut words = Vec::new(alloc);
-    words_into(line.as_bytes(), &mut words).expect(rt, "memory");
-    let said = read_said(alloc, false, &words, line.len()).expect(rt, "said");
-    let command = command_of(said.row, said.fields).expect(rt, "a command");
-    Step { node: 0, command }
-}
-
 fn plan_of(rt: &impl Abort, alloc: Global) -> Arc<Plan>
     ensures { ((arc_value result).nodes ≡ 1) × (length (arc_value result).steps ≡ 4) }
 {
-    let mut steps = Vec::new(alloc);
-    for line in LINES.as_slice() {
-        let step = step_of(rt, alloc, line);
-        steps.push(step).expect(rt, "memory");
-    }
+    let steps = steps_of(alloc, 1, &LINES).expect(rt, "commands");
     Plan::from_steps(alloc, steps, 1).expect(rt, "memory")
 }
 

@@ -8,37 +8,8 @@ mod lengths;
 mod nodes;
 mod packets;
 
-ghost use Rattle.std.specs.Prelude.{◌<◌};
-
 use address_text::{Name, read_name};
-use std::alloc::Global;
 use std::process::Abort;
-
-fn nibble(digit: u8) -> u8
-    ensures { result < 16 }
-{
-    match digit {
-        b'0'..=b'9' => digit - b'0',
-        b'a'..=b'f' => digit - b'a' + 10,
-        _ => 0,
-    }
-}
-
-fn append_octets(rt: &impl Abort, text: &str, octets: &mut Vec<u8>) {
-    let mut rest = text.as_bytes();
-    while let [high, low, after @ ..] = rest {
-        octets
-            .push(16 * nibble(*high) + nibble(*low))
-            .expect(rt, "memory");
-        rest = after;
-    }
-}
-
-fn octets_of(rt: &impl Abort, alloc: Global, text: &str) -> Vec<u8> {
-    let mut octets = Vec::new(alloc);
-    append_octets(rt, text, &mut octets);
-    octets
-}
 
 fn name(rt: &impl Abort, text: &str) -> Name {
     read_name(text.as_bytes()).expect(rt, "a name")

@@ -1,27 +1,16 @@
 //! Packets at a node, each with the commands that the node was given, and the same one step away.
 
-ghost use Rattle.std.specs.Prelude.{◌<◌};
-
 use super::*;
 use address_text::{Address, Name, read_name};
 use mls_range::read_label;
-use node_tables::{Network, Reply};
 use packet_label::Denial;
-use script_lines::{Command, Step, command_of, read_said, words_into};
 use std::alloc::Global;
 use std::process::Abort;
+use worked_networks::node_after;
+use worked_values::octets_of;
+use worked_values::packets::{BEHIND_4, CUT_4, LABELLED_4, MISALIGNED_4, PLAIN_4, WRONG_SUM_4};
 
-/// IPv4 from 10.0.0.1 to 10.0.0.2 with a CIPSO option of DOI 16, tag 1, level 2, categories 1 and 3, at octet 20.
-const P: &str = "480000280000000040118ca00a0000010a000002860b0000001001050002500003e8003500080000";
-
-/// The same behind a No Operation.
-const BEHIND: &str =
-    "480000280000000040113fec0a0000010a00000201860b00000010010500025003e8003500080000";
-
-/// The same addresses without an option.
-const Q: &str = "4500001c00004000401126cf0a0000010a00000203e800350008e7be";
-
-/// The same with `s3:c0`, `s4`, `s3:c0,c2,c9` and `s4:c0,c2,c9`.
+/// `LABELLED_4` with `s3:c0`, `s4`, `s3:c0,c2,c9` and `s4:c0,c2,c9`.
 const KNOWN: &str =
     "480000280000000040115c9f0a0000010a000002860b0000001001050003800003e8003500080000";
 
@@ -70,12 +59,12 @@ const BROKEN: [Case; 7] = [
     (&[], "", Err(Denial::BadHeader { octet: 0 })),
     (
         &[DOI, MAP, SINK],
-        "480000280000000040118da00a0000010a000002860b0000001001050002500003e8003500080000",
+        WRONG_SUM_4,
         Err(Denial::BadHeader { octet: 10 }),
     ),
     (
         &[DOI, MAP, SINK],
-        "480000280000000040118ca00a0000010a000002860b0000001001050002500003e80035000800",
+        CUT_4,
         Err(Denial::BadHeader { octet: 2 }),
     ),
     (
@@ -85,7 +74,7 @@ const BROKEN: [Case; 7] = [
     ),
     (
         &[DOI, MAP, SINK],
-        "480000280000000040118ba00a0000010a000002860b0000001001050102500003e8003500080000",
+        MISALIGNED_4,
         Err(Denial::BadOption { octet: 28 }),
     ),
     (
@@ -93,20 +82,20 @@ const BROKEN: [Case; 7] = [
         "4b00003400000000401166bd0a0000010a000002860b000000100105000250860b000000100105000250000003e8003500080000",
         Err(Denial::BadOption { octet: 31 }),
     ),
-    (&[DOI, MAP, SINK], P, Ok(("s2:c1,c3", V4))),
+    (&[DOI, MAP, SINK], LABELLED_4, Ok(("s2:c1,c3", V4))),
 ];
 
 /// Packets with a label option.
 const LABELLED: [Case; 14] = [
-    (&[], P, Err(Denial::UnknownDoi { octet: 22 })),
+    (&[], LABELLED_4, Err(Denial::UnknownDoi { octet: 22 })),
     (
         &["cipsov4 add pass doi:17 tags:1"],
-        BEHIND,
+        BEHIND_4,
         Err(Denial::UnknownDoi { octet: 23 }),
     ),
     (
         &["calipso add pass doi:16"],
-        P,
+        LABELLED_4,
         Err(Denial::UnknownDoi { octet: 22 }),
     ),
     (
@@ -116,17 +105,17 @@ const LABELLED: [Case; 14] = [
     ),
     (
         &["cipsov4 add pass doi:16 tags:2,5"],
-        P,
+        LABELLED_4,
         Err(Denial::TagNotAllowed { octet: 26 }),
     ),
     (
         &["cipsov4 add trans doi:16 tags:5 levels:0=5"],
-        BEHIND,
+        BEHIND_4,
         Err(Denial::TagNotAllowed { octet: 27 }),
     ),
     (
         &["cipsov4 add pass doi:16 tags:5,1", MAP, SINK],
-        BEHIND,
+        BEHIND_4,
         Ok(("s2:c1,c3", V4)),
     ),
     (
@@ -176,9 +165,9 @@ const LABELLED: [Case; 14] = [
 
 /// Packets without one.
 const SET: [Case; 8] = [
-    (&[], Q, Err(Denial::Unlabelled)),
-    (&[UNLBL, ALL, SINK], Q, Err(Denial::Unlabelled)),
-    (&[ACCEPT], Q, Err(Denial::NoStatic)),
+    (&[], PLAIN_4, Err(Denial::Unlabelled)),
+    (&[UNLBL, ALL, SINK], PLAIN_4, Err(Denial::Unlabelled)),
+    (&[ACCEPT], PLAIN_4, Err(Denial::NoStatic)),
     (
         &[
             ACCEPT,
@@ -187,7 +176,7 @@ const SET: [Case; 8] = [
             SINK,
             "unlbl add interface:eth0 address:10.0.0.2/32 label:s1:c2",
         ],
-        Q,
+        PLAIN_4,
         Err(Denial::NoStatic),
     ),
     (
@@ -197,10 +186,10 @@ const SET: [Case; 8] = [
             ALL,
             "receiver add address:10.0.0.2 domain:sink_t level:s1:c2",
         ],
-        Q,
+        PLAIN_4,
         Ok(("s1:c2", V4)),
     ),
-    (&[ACCEPT, UNLBL, ALL], Q, Err(Denial::NoReceiver)),
+    (&[ACCEPT, UNLBL, ALL], PLAIN_4, Err(Denial::NoReceiver)),
     (
         &[
             ACCEPT,
@@ -208,7 +197,7 @@ const SET: [Case; 8] = [
             "unlbl add default address:0.0.0.0/0 label:s0-s1:c2",
             "receiver add address:10.0.0.2 domain:sink_t level:s1-s1:c2",
         ],
-        Q,
+        PLAIN_4,
         Err(Denial::BelowRange),
     ),
     (
@@ -218,7 +207,7 @@ const SET: [Case; 8] = [
             "unlbl add default address:0.0.0.0/0 label:s0-s1:c2",
             SINK,
         ],
-        Q,
+        PLAIN_4,
         Ok(("s1:c2", V4)),
     ),
 ];
@@ -227,17 +216,17 @@ const SET: [Case; 8] = [
 const RANGES: [Case; 7] = [
     (
         &[DOI, "range add interface:eth0 range:s0-s2:c1"],
-        P,
+        LABELLED_4,
         Err(Denial::OutsideRange),
     ),
     (
         &[DOI, "range add default range:s2:c2-s2:c0.c5"],
-        P,
+        LABELLED_4,
         Err(Denial::OutsideRange),
     ),
     (
         &[DOI, MAP, SINK, "range add interface:eth1 range:s0"],
-        P,
+        LABELLED_4,
         Ok(("s2:c1,c3", V4)),
     ),
     (
@@ -248,7 +237,7 @@ const RANGES: [Case; 7] = [
             "range add interface:eth0 range:s2:c1,c3",
             "range add default range:s0",
         ],
-        P,
+        LABELLED_4,
         Ok(("s2:c1,c3", V4)),
     ),
     (
@@ -257,7 +246,7 @@ const RANGES: [Case; 7] = [
             "unlbl add default address:0.0.0.0/0 label:s0-s1:c2",
             "range add default range:s1-s1:c2",
         ],
-        Q,
+        PLAIN_4,
         Err(Denial::OutsideRange),
     ),
     (
@@ -266,7 +255,7 @@ const RANGES: [Case; 7] = [
             "unlbl add default address:0.0.0.0/0 label:s0-s1:c2",
             "range add default range:s0-s1",
         ],
-        Q,
+        PLAIN_4,
         Err(Denial::OutsideRange),
     ),
     (
@@ -275,7 +264,7 @@ const RANGES: [Case; 7] = [
             "unlbl add default address:0.0.0.0/0 label:s0-s1:c2",
             "range add default range:s0-s1:c2",
         ],
-        Q,
+        PLAIN_4,
         Err(Denial::NoReceiver),
     ),
 ];
@@ -287,16 +276,16 @@ const RECEIVERS: [Case; 13] = [
             DOI,
             "receiver add address:10.0.0.1 domain:sink_t level:s2:c0.c5",
         ],
-        P,
+        LABELLED_4,
         Err(Denial::NoReceiver),
     ),
     (
         &[DOI, "receiver add address:10.0.0.2 domain:sink_t level:s0"],
-        P,
+        LABELLED_4,
         Err(Denial::MapRefuses),
     ),
-    (&[ACCEPT, ALL, SINK], Q, Err(Denial::MapRefuses)),
-    (&[DOI, UNLBL, SINK], P, Err(Denial::MapRefuses)),
+    (&[ACCEPT, ALL, SINK], PLAIN_4, Err(Denial::MapRefuses)),
+    (&[DOI, UNLBL, SINK], LABELLED_4, Err(Denial::MapRefuses)),
     (
         &[
             DOI,
@@ -304,7 +293,7 @@ const RECEIVERS: [Case; 13] = [
             "map add default protocol:cipsov4,17",
             SINK,
         ],
-        P,
+        LABELLED_4,
         Err(Denial::MapRefuses),
     ),
     (
@@ -314,7 +303,7 @@ const RECEIVERS: [Case; 13] = [
             "map add default protocol:calipso,16",
             SINK,
         ],
-        P,
+        LABELLED_4,
         Err(Denial::MapRefuses),
     ),
     (
@@ -324,7 +313,7 @@ const RECEIVERS: [Case; 13] = [
             "map add domain:sink_t address:10.0.0.1/32 protocol:cipsov4,16",
             SINK,
         ],
-        P,
+        LABELLED_4,
         Ok(("s2:c1,c3", V4)),
     ),
     (
@@ -334,7 +323,7 @@ const RECEIVERS: [Case; 13] = [
             "map add domain:sink_t address:10.0.0.2/32 protocol:cipsov4,16",
             SINK,
         ],
-        P,
+        LABELLED_4,
         Err(Denial::MapRefuses),
     ),
     (
@@ -343,7 +332,7 @@ const RECEIVERS: [Case; 13] = [
             MAP,
             "receiver add address:10.0.0.2 domain:sink_t level:s2:c1",
         ],
-        P,
+        LABELLED_4,
         Err(Denial::NotDominated),
     ),
     (
@@ -352,7 +341,7 @@ const RECEIVERS: [Case; 13] = [
             MAP,
             "receiver add address:10.0.0.2 domain:sink_t level:s2:c2-s2:c2",
         ],
-        P,
+        LABELLED_4,
         Err(Denial::NotDominated),
     ),
     (
@@ -361,7 +350,7 @@ const RECEIVERS: [Case; 13] = [
             MAP,
             "receiver add address:10.0.0.2 domain:sink_t level:s2:c2-s2:c0.c5",
         ],
-        P,
+        LABELLED_4,
         Err(Denial::BelowRange),
     ),
     (
@@ -370,7 +359,7 @@ const RECEIVERS: [Case; 13] = [
             MAP,
             "receiver add address:10.0.0.2 domain:sink_t level:s3-s3:c0.c5",
         ],
-        P,
+        LABELLED_4,
         Err(Denial::BelowRange),
     ),
     (
@@ -379,61 +368,17 @@ const RECEIVERS: [Case; 13] = [
             MAP,
             "receiver add address:10.0.0.2 domain:sink_t level:s2:c1-s2:c0.c5",
         ],
-        P,
+        LABELLED_4,
         Ok(("s2:c1,c3", V4)),
     ),
 ];
 
-fn nibble(digit: u8) -> u8
-    ensures { result < 16 }
-{
-    match digit {
-        b'0'..=b'9' => digit - b'0',
-        b'a'..=b'f' => digit - b'a' + 10,
-        _ => 0,
-    }
-}
-
-fn octets(rt: &impl Abort, alloc: Global, text: &str) -> Vec<u8> {
-    let mut octets = Vec::new(alloc);
-    let mut rest = text.as_bytes();
-    while let [high, low, after @ ..] = rest {
-        octets
-            .push(16 * nibble(*high) + nibble(*low))
-            .expect(rt, "memory");
-        rest = after;
-    }
-    octets
-}
-
-fn command(rt: &impl Abort, alloc: Global, line: &str) -> Command {
-    let mut words = Vec::new(alloc);
-    words_into(line.as_bytes(), &mut words).expect(rt, "memory");
-    let said = read_said(alloc, false, &words, line.len()).expect(rt, line);
-    command_of(said.row, said.fields).expect(rt, line)
-}
-
-/// The network of one node that was given these commands.
-fn node(rt: &impl Abort, alloc: Global, lines: &[&str]) -> Network {
-    let mut network = Network::fresh(alloc, 1).expect(rt, "memory");
-    for line in lines {
-        let step = Step {
-            node: 0,
-            command: command(rt, alloc, line),
-        };
-        assert!(rt; network.nodes() > 0);
-        let reply = network.apply(&step).expect(rt, "memory");
-        assert!(rt; matches!(reply, Reply::Done), "{line}");
-    }
-    network
-}
-
 /// Each packet by both calls, with the same room for all.
 fn receives(rt: &impl Abort, alloc: Global, interface: &Name, room: &mut Room, cases: &[Case]) {
     for (lines, text, wanted) in cases {
-        let network = node(rt, alloc, lines);
+        let network = node_after(alloc, lines).expect(rt, "a node");
         assert!(rt; network.nodes() > 0);
-        let packet = octets(rt, alloc, text);
+        let packet = octets_of(alloc, text).expect(rt, "memory");
         let found = receive_into(network.node(0), interface, &packet, room);
         let delivered = receive(network.node(0), interface, &packet);
         match wanted {

@@ -1,39 +1,23 @@
 //! Packets that are sent at a node, each with the commands that the node was given, and the same one step away. The octets were
 //! worked from RFC 791, RFC 8200, FIPS 188 and RFC 5570, apart from the program.
 
-ghost use Rattle.std.specs.Prelude.{◌<◌};
-
 use super::*;
 use address_text::{Name, read_name};
 use mls_label::Label;
 use mls_range::read_label;
-use node_tables::{Network, Reply};
 use packet_label::{Carrier, Denial, Stop};
-use script_lines::{Command, Step, command_of, read_said, words_into};
 use std::alloc::Global;
 use std::process::Abort;
+use worked_networks::node_after;
+use worked_values::append_octets;
+use worked_values::packets::{BITMAP_8, CALIPSO_9, LABELLED_4, PLAIN_4, PLAIN_6};
 
-/// IPv4 from 10.0.0.1 to 10.0.0.2 without an option.
-const FOUR: &str = "4500001c00004000401126cf0a0000010a00000203e800350008e7be";
-
-/// The same with `s2:c1,c3` in a CIPSO option of DOI 8.
-const FOUR_LABELLED: &str =
-    "480000280000400040114ca80a0000010a000002860b0000000801050002500003e800350008e7be";
-
-/// The same with an option of 29 octets, and with one of 30.
+/// `PLAIN_4` with an option of 29 octets, and with one of 30.
 const WITH_29: &str =
     "4d00003c000040004011d5910a0000010a000002441d05000000000000000000000000000000000000000000000000000000000003e800350008e7be";
 
 const WITH_30: &str =
     "4d00003c000040004011d5900a0000010a000002441e05000000000000000000000000000000000000000000000000000000000003e800350008e7be";
-
-/// IPv6 from fd00::1 to fd00::2 without an option.
-const SIX: &str =
-    "600000000008113ffd000000000000000000000000000001fd00000000000000000000000000000203e80035000801bd";
-
-/// The same with `s2:c1,c3` in a CALIPSO option of DOI 9.
-const SIX_LABELLED: &str =
-    "600000000018003ffd000000000000000000000000000001fd0000000000000000000000000000021101070c00000009010214b35000000003e80035000801bd";
 
 const DOI: &str = "cipsov4 add pass doi:8 tags:1";
 
@@ -121,7 +105,7 @@ const BEFORE: [Case; 10] = [
     (
         &["range add default range:s0"],
         "s2:c1,c3",
-        "480000280000000040118ca00a0000010a000002860b0000001001050002500003e8003500080000",
+        LABELLED_4,
         Err(Stop::Denied(Denial::AlreadyLabelled { octet: 20 })),
         "",
     ),
@@ -160,21 +144,21 @@ const FOUND: [Case; 12] = [
     (
         &["range add interface:eth0 range:s0-s2:c1"],
         "s2:c1,c3",
-        FOUR,
+        PLAIN_4,
         OUTSIDE,
         "",
     ),
     (
         &["range add interface:eth0 range:s0-s2:c1,c3"],
         "s2:c1,c3",
-        FOUR,
+        PLAIN_4,
         NO_MAP,
         "",
     ),
     (
         &["range add default range:s3-s3:c1,c3"],
         "s2:c1,c3",
-        SIX,
+        PLAIN_6,
         OUTSIDE,
         "",
     ),
@@ -185,15 +169,15 @@ const FOUND: [Case; 12] = [
             UNLBL,
         ],
         "s2",
-        SIX,
+        PLAIN_6,
         PLAIN,
-        SIX,
+        PLAIN_6,
     ),
-    (&[], "s2:c1,c3", FOUR, NO_MAP, ""),
+    (&[], "s2:c1,c3", PLAIN_4, NO_MAP, ""),
     (
         &[DOI, "map add domain:other_t protocol:cipsov4,8"],
         "s2:c1,c3",
-        FOUR,
+        PLAIN_4,
         NO_MAP,
         "",
     ),
@@ -236,14 +220,14 @@ const FOUND: [Case; 12] = [
         Ok(Carrier::Cipso { doi: 1 }),
         "48000028000040004011429f0b0000010a090909860b0000000101050002500003e800350008e7be",
     ),
-    (&[DOI, MAP], "s2:c240", SIX, WRONG, ""),
-    (&[DOI_SIX, MAP_SIX], "s2:c1952", FOUR, WRONG, ""),
-    (&[DOI_SIX, MAP_SIX], "s2:c1,c3", SIX, C9, SIX_LABELLED),
+    (&[DOI, MAP], "s2:c240", PLAIN_6, WRONG, ""),
+    (&[DOI_SIX, MAP_SIX], "s2:c1952", PLAIN_4, WRONG, ""),
+    (&[DOI_SIX, MAP_SIX], "s2:c1,c3", PLAIN_6, C9, CALIPSO_9),
 ];
 
 /// Packets without a label: what is kept, and what is lost.
 const UNLABELLED: [Case; 7] = [
-    (&[UNLBL], "s2:c1,c3", FOUR, PLAIN, FOUR),
+    (&[UNLBL], "s2:c1,c3", PLAIN_4, PLAIN, PLAIN_4),
     (
         &[UNLBL],
         "s255:c65534",
@@ -256,14 +240,14 @@ const UNLABELLED: [Case; 7] = [
         "s2:c1,c3",
         "4500001c00004000401126cf0a0000010a00000203e800350008e7beffff",
         PLAIN,
-        FOUR,
+        PLAIN_4,
     ),
     (
         &[UNLBL],
         "s2:c1,c3",
         "4600002000004000401123ca0a0000010a0000020101010003e800350008e7be",
         PLAIN,
-        FOUR,
+        PLAIN_4,
     ),
     (&[UNLBL], "s2:c1,c3", WITH_30, PLAIN, WITH_30),
     (
@@ -271,7 +255,7 @@ const UNLABELLED: [Case; 7] = [
         "s2:c1,c3",
         "600000000010003ffd000000000000000000000000000001fd000000000000000000000000000002110001040000000003e80035000801bd",
         PLAIN,
-        SIX,
+        PLAIN_6,
     ),
     (
         &[UNLBL],
@@ -284,7 +268,7 @@ const UNLABELLED: [Case; 7] = [
 
 /// CIPSO: tags 1, 2 and 5, pairs of numbers, and the room of a header.
 const CIPSO: [Case; 20] = [
-    (&[DOI, MAP], "s2:c1,c3", FOUR, C8, FOUR_LABELLED),
+    (&[DOI, MAP], "s2:c1,c3", PLAIN_4, C8, BITMAP_8),
     (
         &[DOI, MAP],
         "s2:c1,c3",
@@ -295,57 +279,57 @@ const CIPSO: [Case; 20] = [
     (
         &[DOI, MAP],
         "s2:c239",
-        FOUR,
+        PLAIN_4,
         C8,
         "4f00004400004000401195510a0000010a0000028628000000080122000200000000000000000000000000000000000000000000000000000000000103e800350008e7be",
     ),
-    (&[DOI, MAP], "s2:c240", FOUR, INEXPRESSIBLE, ""),
+    (&[DOI, MAP], "s2:c240", PLAIN_4, INEXPRESSIBLE, ""),
     (
         &["cipsov4 add pass doi:8 tags:2,1", MAP],
         "s2:c1,c3",
-        FOUR,
+        PLAIN_4,
         C8,
         "4900002c0000400040119a9a0a0000010a000002860e000000080208000200010003000003e800350008e7be",
     ),
     (
         &["cipsov4 add pass doi:8 tags:1,2", MAP],
         "s2:c240",
-        FOUR,
+        PLAIN_4,
         C8,
         "480000280000400040119ab60a0000010a000002860c000000080206000200f003e800350008e7be",
     ),
     (
         &["cipsov4 add pass doi:8 tags:2", MAP],
         "s0:c0.c14",
-        FOUR,
+        PLAIN_4,
         C8,
         "4f00004400004000401193eb0a0000010a000002862800000008022200000000000100020003000400050006000700080009000a000b000c000d000e03e800350008e7be",
     ),
     (
         &["cipsov4 add pass doi:8 tags:2", MAP],
         "s0:c0.c15",
-        FOUR,
+        PLAIN_4,
         INEXPRESSIBLE,
         "",
     ),
     (
         &["cipsov4 add pass doi:8 tags:1,2,5", MAP],
         "s0:c0.c300",
-        FOUR,
+        PLAIN_4,
         C8,
         "48000028000040004011977c0a0000010a000002860c0000000805060000012c03e800350008e7be",
     ),
     (
         &["cipsov4 add pass doi:8 tags:5", MAP],
         "s0:c1,c3,c5,c7,c9,c11,c13",
-        FOUR,
+        PLAIN_4,
         C8,
         "4f00004400004000401190f60a0000010a00000286260000000805200000000d000d000b000b0009000900070007000500050003000300010001000003e800350008e7be",
     ),
     (
         &["cipsov4 add pass doi:8 tags:5", MAP],
         "s0:c1,c3,c5,c7,c9,c11,c13,c15",
-        FOUR,
+        PLAIN_4,
         INEXPRESSIBLE,
         "",
     ),
@@ -355,7 +339,7 @@ const CIPSO: [Case; 20] = [
             MAP,
         ],
         "s2:c1,c3",
-        FOUR,
+        PLAIN_4,
         C8,
         "4900002c0000400040119a8b0a0000010a000002860e000000080208000c00040005000003e800350008e7be",
     ),
@@ -365,7 +349,7 @@ const CIPSO: [Case; 20] = [
             MAP,
         ],
         "s3:c1,c3",
-        FOUR,
+        PLAIN_4,
         INEXPRESSIBLE,
         "",
     ),
@@ -375,7 +359,7 @@ const CIPSO: [Case; 20] = [
             MAP,
         ],
         "s2:c1,c4",
-        FOUR,
+        PLAIN_4,
         INEXPRESSIBLE,
         "",
     ),
@@ -385,7 +369,7 @@ const CIPSO: [Case; 20] = [
             MAP,
         ],
         "s2:c1",
-        FOUR,
+        PLAIN_4,
         INEXPRESSIBLE,
         "",
     ),
@@ -419,7 +403,7 @@ const CALIPSO: [Case; 9] = [
     (
         &[ONE_TO_SEVEN, MAP_SIX],
         "s2:c1",
-        SIX,
+        PLAIN_6,
         C9,
         "600000000018003ffd000000000000000000000000000001fd0000000000000000000000000000021101070c000000090107cfbb8000000003e80035000801bd",
     ),
@@ -430,18 +414,30 @@ const CALIPSO: [Case; 9] = [
         C9,
         "600000000020003ffd000000000000000000000000000001fd0000000000000000000000000000021102070c000000090107cfbb80000000010005020000010003e80035000801bd",
     ),
-    (&[ONE_TO_SEVEN, MAP_SIX], "s3", SIX, INEXPRESSIBLE, ""),
-    (&[ONE_TO_SEVEN, MAP_SIX], "s2:c2", SIX, INEXPRESSIBLE, ""),
-    (&[ONE_TO_SEVEN, MAP_SIX], "s2:c5", SIX, INEXPRESSIBLE, ""),
+    (&[ONE_TO_SEVEN, MAP_SIX], "s3", PLAIN_6, INEXPRESSIBLE, ""),
+    (
+        &[ONE_TO_SEVEN, MAP_SIX],
+        "s2:c2",
+        PLAIN_6,
+        INEXPRESSIBLE,
+        "",
+    ),
+    (
+        &[ONE_TO_SEVEN, MAP_SIX],
+        "s2:c5",
+        PLAIN_6,
+        INEXPRESSIBLE,
+        "",
+    ),
     (
         &[DOI_SIX, MAP_SIX],
         "s2:c1951",
-        SIX,
+        PLAIN_6,
         C9,
         "600000000108003ffd000000000000000000000000000001fd000000000000000000000000000002111f07fc000000093d024e660000000000000000000000000000000000000000000000000000000000000000000000000000000000000000000000000000000000000000000000000000000000000000000000000000000000000000000000000000000000000000000000000000000000000000000000000000000000000000000000000000000000000000000000000000000000000000000000000000000000000000000000000000000000000000000000000000000000000000000000000000000000000000000000000000000000000000000000000000000000000000000000000000000000000000000000000000000000000000000000000000000103e80035000801bd",
     ),
-    (&[DOI_SIX, MAP_SIX], "s2:c1952", SIX, INEXPRESSIBLE, ""),
-    (&[DOI_SIX, MAP_SIX], "s0:c2000", SIX, INEXPRESSIBLE, ""),
+    (&[DOI_SIX, MAP_SIX], "s2:c1952", PLAIN_6, INEXPRESSIBLE, ""),
+    (&[DOI_SIX, MAP_SIX], "s0:c2000", PLAIN_6, INEXPRESSIBLE, ""),
     (
         &[DOI_SIX, MAP_SIX],
         "s2:c1,c3",
@@ -565,55 +561,13 @@ const LONG: [LongCase; 10] = [
     ),
 ];
 
-fn nibble(digit: u8) -> u8
-    ensures { result < 16 }
-{
-    match digit {
-        b'0'..=b'9' => digit - b'0',
-        b'a'..=b'f' => digit - b'a' + 10,
-        _ => 0,
-    }
-}
-
-fn push_octets(rt: &impl Abort, text: &str, octets: &mut Vec<u8>) {
-    let mut rest = text.as_bytes();
-    while let [high, low, after @ ..] = rest {
-        octets
-            .push(16 * nibble(*high) + nibble(*low))
-            .expect(rt, "memory");
-        rest = after;
-    }
-}
-
 fn octets(rt: &impl Abort, alloc: Global, (front, fill, count, end): Long) -> Vec<u8> {
     let mut octets = Vec::new(alloc);
-    push_octets(rt, front, &mut octets);
+    append_octets(front, &mut octets).expect(rt, "memory");
     let length = octets.len().saturating_add(count);
     octets.resize(length, fill).expect(rt, "memory");
-    push_octets(rt, end, &mut octets);
+    append_octets(end, &mut octets).expect(rt, "memory");
     octets
-}
-
-fn command(rt: &impl Abort, alloc: Global, line: &str) -> Command {
-    let mut words = Vec::new(alloc);
-    words_into(line.as_bytes(), &mut words).expect(rt, "memory");
-    let said = read_said(alloc, false, &words, line.len()).expect(rt, line);
-    command_of(said.row, said.fields).expect(rt, line)
-}
-
-/// The network of one node that was given these commands.
-fn node(rt: &impl Abort, alloc: Global, lines: &[&str]) -> Network {
-    let mut network = Network::fresh(alloc, 1).expect(rt, "memory");
-    for line in lines {
-        let step = Step {
-            node: 0,
-            command: command(rt, alloc, line),
-        };
-        assert!(rt; network.nodes() > 0);
-        let reply = network.apply(&step).expect(rt, "memory");
-        assert!(rt; matches!(reply, Reply::Done), "{line}");
-    }
-    network
 }
 
 /// What is lent to all calls: names, a label, and what was written last.
@@ -632,7 +586,7 @@ fn sends(
     lent: &mut Lent,
     (lines, label, packet, wanted, written): &LongCase,
 ) {
-    let network = node(rt, alloc, lines);
+    let network = node_after(alloc, lines).expect(rt, "a node");
     assert!(rt; network.nodes() > 0);
     let tables = network.node(0);
     let label = read_label(label.as_bytes()).expect(rt, "a label");

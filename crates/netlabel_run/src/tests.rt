@@ -17,13 +17,6 @@ use std::process::Abort;
 use std::sync::Wait;
 use std::thread::Threads;
 
-/// An IPv4 packet with a CIPSO option of DOI 16, tag type 1, level 2 and the categories 1 and 3.
-const PACKET: [u8; 40] = [
-    0x48, 0x00, 0x00, 0x28, 0x00, 0x00, 0x00, 0x00, 0x40, 0x11, 0x8c, 0xa0, 0x0a, 0x00, 0x00, 0x01,
-    0x0a, 0x00, 0x00, 0x02, 0x86, 0x0b, 0x00, 0x00, 0x00, 0x10, 0x01, 0x05, 0x00, 0x02, 0x50, 0x00,
-    0x03, 0xe8, 0x00, 0x35, 0x00, 0x08, 0x00, 0x00,
-];
-
 const USAGE: &str =
     "usage: netlabel run <script> [-w <n>] | judge <doi> <level> <file> | check <script> | show <capture> | agree <script> <flow> [<versions>] | make <number> <count> <capture>\n";
 
@@ -127,7 +120,7 @@ const NO_FORMS: [&str; 17] = [
 #[test]
 fn answers_words(rt: HostRuntime) {
     let alloc = rt.alloc();
-    let mut depot = folder(&rt, alloc, 0, 4096, "p.bin", &PACKET);
+    let mut depot = folder(&rt, alloc, 0, 4096, "p.bin", &packets::LABELLED_4);
     for (line, status, text) in FORMS {
         let is_so = answers(&rt, alloc, line, &mut depot, 0, status, text.as_bytes());
         assert!(rt; is_so, "at {line}");
@@ -174,7 +167,7 @@ fn judges_files_of_each_length(rt: HostRuntime) {
     assert!(rt; judges_zeros(&rt, alloc, 65576, 0, 7, b"limit packet 65575\n"));
     // An event that came first keeps its status when printing it fails.
     assert!(rt; judges_zeros(&rt, alloc, 65576, 1, 7, b""));
-    let mut depot = folder(&rt, alloc, 0, 4096, "p.bin", &PACKET);
+    let mut depot = folder(&rt, alloc, 0, 4096, "p.bin", &packets::LABELLED_4);
     assert!(rt; answers(&rt, alloc, "judge", &mut depot, 1, 1, b""));
 }
 
@@ -192,7 +185,7 @@ const FAILURES: [(u32, u32, u8, &str); 5] = [
 fn tells_failed_calls(rt: HostRuntime) {
     let alloc = rt.alloc();
     for (read, write, status, text) in FAILURES {
-        let mut depot = folder(&rt, alloc, read, 2, "p.bin", &PACKET);
+        let mut depot = folder(&rt, alloc, read, 2, "p.bin", &packets::LABELLED_4);
         let line = "judge 16 s2:c0.c5 p.bin";
         let is_so = answers(&rt, alloc, line, &mut depot, write, status, text.as_bytes());
         assert!(rt; is_so, "at read {read}, write {write}");

@@ -3,6 +3,7 @@ use label_commands::{Step, read_script};
 use node_tables::{Network, Reply};
 use std::alloc::Global;
 use std::process::Abort;
+use worked_values::scripts::{CROSSING, EXCHANGE};
 
 fn carry_out(rt: &impl Abort, network: &mut Network, steps: &[Step]) {
     for step in steps {
@@ -204,34 +205,7 @@ fn tells_the_first_difference(rt: HostRuntime) {
     }
 }
 
-// Four nodes in a row: CIPSO 8, CALIPSO 9 and CIPSO 10 join neighbours. With its last four commands the third changes CIPSO 10.
-const FOUR_NODES: &str = "node a
-cipsov4 add pass doi:8 tags:1
-map add default protocol:cipsov4,8
-node g
-cipsov4 add pass doi:8 tags:1
-calipso add pass doi:9
-map add default protocol:calipso,9
-pair add address4:10.0.0.1 address6:fd00::1
-pair add address4:10.0.0.2 address6:fd00::2
-node h
-calipso add pass doi:9
-cipsov4 add trans doi:10 tags:2 levels:0=10,1=11,2=12 categories:1=5,3=4
-map add default protocol:cipsov4,10
-pair add address4:10.0.0.1 address6:fd00::1
-pair add address4:10.0.0.2 address6:fd00::2
-node b
-cipsov4 add trans doi:10 tags:2 levels:0=10,1=11,2=12 categories:7=5,8=4
-map add default protocol:cipsov4,10
-receiver add address:10.0.0.2 domain:sink_t level:s3:c7.c9
-reading categories:7=1,8=3,1=7,3=8
-node h
-map del default
-cipsov4 del doi:10
-cipsov4 add trans doi:10 tags:2 levels:2=12 categories:1=4,3=5
-map add default protocol:cipsov4,10";
-
-// So many steps, two nodes, and what is told of them.
+// So many steps of `CROSSING` and `EXCHANGE`, two nodes, and what is told of them.
 const NEIGHBOURS: [(usize, (usize, usize), Option<Told>); 7] = [
     (15, (0, 1), None),
     (15, (1, 2), None),
@@ -244,8 +218,9 @@ const NEIGHBOURS: [(usize, (usize, usize), Option<Told>); 7] = [
 
 #[test]
 fn compares_neighbours_of_four_nodes(rt: HostRuntime) {
+    let script = format!(in rt.alloc(); "{CROSSING}{EXCHANGE}").expect(&rt, "memory");
     for (steps, nodes, wanted) in NEIGHBOURS {
-        let found = compared(&rt, rt.alloc(), FOUR_NODES, steps, nodes);
+        let found = compared(&rt, rt.alloc(), &script, steps, nodes);
         assert!(rt; told(found) == wanted, "after {steps} steps");
     }
 }

@@ -1,7 +1,6 @@
 // Worked values: packets made by hand from RFC 791, RFC 8200, FIPS 188 and RFC 5570, and the first test that fails of broken
 // ones.
 
-ghost use Rattle.std.specs.Prelude.{◌<◌};
 ghost use Rattle.ip_headers.specs.declared.version.Version.TheVariants as version;
 ghost use Rattle.ip_headers.specs.Written.{IsLabelOption};
 
@@ -9,23 +8,12 @@ use super::*;
 use arrayvec::ArrayVec;
 use ip_headers::{HeadFault, HeadKind, read4, read6};
 use mls_label::{Label, Tag};
-use std::alloc::{AllocError, Global};
 use std::test::*;
-
-/// A packet of IPv4 with a CIPSO option: DOI 16, tag 1, level 2, categories 1 and 3.
-const CIPSO: &str =
-    "480000280000000040118ca00a0000010a000002860b0000001001050002500003e8003500080000";
-
-/// A packet of IPv4 without options.
-const PLAIN: &str = "4500001c00004000401126cf0a0000010a00000203e800350008e7be";
-
-/// A packet of IPv6 with a Router Alert.
-const ALERT: &str =
-    "6000000000100040fd000000000000000000000000000001fd000000000000000000000000000002110005020000010003e8003500080000";
-
-/// A packet of IPv6 with a CALIPSO option: DOI 9, level 2, categories 1 and 3.
-const CALIPSO: &str =
-    "600000000018003ffd000000000000000000000000000001fd0000000000000000000000000000021101070c00000009010214b35000000003e80035000801bd";
+use worked_values::octets_of;
+use worked_values::packets::{
+    ALERT_6, BEHIND_4, BITMAP_16, CALIPSO_9, CUT_4, LABELLED_4, LIST_10, MISALIGNED_4, PLAIN_4,
+    WRONG_SUM_4,
+};
 
 /// A name, the octets, the label option's place, DOI, tag, level and categories.
 type Labelled = (
@@ -41,7 +29,7 @@ type Labelled = (
 const LABELLED: [Labelled; 9] = [
     (
         "version 4, a bitmap",
-        "480000280000000040118ca00a0000010a000002860b0000001001050002500003e8003500080000",
+        LABELLED_4,
         20,
         16,
         Some(Tag::One),
@@ -50,7 +38,7 @@ const LABELLED: [Labelled; 9] = [
     ),
     (
         "version 4, categories one by one",
-        "4900002c000040003e119c890a0000010a000002860e0000000a0208000c00040005000003e800350008e7be",
+        LIST_10,
         20,
         10,
         Some(Tag::Two),
@@ -68,7 +56,7 @@ const LABELLED: [Labelled; 9] = [
     ),
     (
         "version 4, behind a NOP",
-        "480000280000000040113fec0a0000010a00000201860b00000010010500025003e8003500080000",
+        BEHIND_4,
         21,
         16,
         Some(Tag::One),
@@ -102,15 +90,7 @@ const LABELLED: [Labelled; 9] = [
         2,
         &[],
     ),
-    (
-        "version 6, one word",
-        "600000000018003ffd000000000000000000000000000001fd0000000000000000000000000000021101070c00000009010214b35000000003e80035000801bd",
-        42,
-        9,
-        None,
-        2,
-        &[1, 3],
-    ),
+    ("version 6, one word", CALIPSO_9, 42, 9, None, 2, &[1, 3]),
     (
         "version 6, behind padding",
         "6000000000180040fd000000000000000000000000000001fd0000000000000000000000000000021101000708000000100002bfd901010003e8003500080000",
@@ -143,12 +123,12 @@ const FAULTS: [(&str, &str, CarryFault); 28] = [
     ),
     (
         "version 4, header checksum",
-        "480000280000000040118da00a0000010a000002860b0000001001050002500003e8003500080000",
+        WRONG_SUM_4,
         CarryFault::Header { octet: 10 },
     ),
     (
         "version 4, without the last octet",
-        "480000280000000040118ca00a0000010a000002860b0000001001050002500003e80035000800",
+        CUT_4,
         CarryFault::Header { octet: 2 },
     ),
     (
@@ -198,7 +178,7 @@ const FAULTS: [(&str, &str, CarryFault); 28] = [
     ),
     (
         "version 4, alignment octet",
-        "480000280000000040118ba00a0000010a000002860b0000001001050102500003e8003500080000",
+        MISALIGNED_4,
         CarryFault::Option { octet: 28 },
     ),
     (
@@ -254,11 +234,7 @@ const FAULTS: [(&str, &str, CarryFault); 28] = [
 ];
 
 const PLACES: [(&str, &str, Option<usize>); 8] = [
-    (
-        "version 4, a label",
-        "480000280000000040118ca00a0000010a000002860b0000001001050002500003e8003500080000",
-        Some(20),
-    ),
+    ("version 4, a label", LABELLED_4, Some(20)),
     (
         "version 4, a broken label",
         "480000280000000040118aa00a0000010a000002860b0000001003050002500003e8003500080000",
@@ -269,16 +245,8 @@ const PLACES: [(&str, &str, Option<usize>); 8] = [
         "4600002000000000401159c60a0000010a0000028602860203e8003500080000",
         Some(20),
     ),
-    (
-        "version 4, behind a NOP",
-        "480000280000000040113fec0a0000010a00000201860b00000010010500025003e8003500080000",
-        Some(21),
-    ),
-    (
-        "version 4, no label",
-        "4500001c00004000401126cf0a0000010a00000203e800350008e7be",
-        None,
-    ),
+    ("version 4, behind a NOP", BEHIND_4, Some(21)),
+    ("version 4, no label", PLAIN_4, None),
     (
         "version 6, a bad checksum",
         "6000000000180040fd000000000000000000000000000001fd00000000000000000000000000000211010708000000100003bfd90102000003e8003500080000",
@@ -289,32 +257,8 @@ const PLACES: [(&str, &str, Option<usize>); 8] = [
         "6000000000180040fd000000000000000000000000000001fd00000000000000000000000000000211010708000000100002bfd90700010003e8003500080000",
         Some(42),
     ),
-    (
-        "version 6, no label",
-        "6000000000100040fd000000000000000000000000000001fd000000000000000000000000000002110005020000010003e8003500080000",
-        None,
-    ),
+    ("version 6, no label", ALERT_6, None),
 ];
-
-fn nibble(digit: u8) -> u8
-    ensures { result < 16 }
-{
-    match digit {
-        b'0'..=b'9' => digit - b'0',
-        b'a'..=b'f' => digit - b'a' + 10,
-        _ => 0,
-    }
-}
-
-fn octets(alloc: Global, text: &str) -> Result<Vec<u8>, AllocError> {
-    let mut octets = Vec::new(alloc);
-    let mut rest = text.as_bytes();
-    while let [high, low, after @ ..] = rest {
-        octets.push(16 * nibble(*high) + nibble(*low))?;
-        rest = after;
-    }
-    Ok(octets)
-}
 
 /// DOI 16, tag 1, level 2, categories 1 and 3.
 fn cipso() -> ArrayVec<u8, 40>
@@ -352,7 +296,7 @@ fn has_cats(label: &Label, cats: &[u16]) -> bool {
 #[test]
 fn labels_of_worked_packets(rt: HostRuntime) -> Result<(), Fail> {
     for (name, text, at, doi, tag, level, cats) in LABELLED {
-        let bytes = octets(rt.alloc(), text)?;
+        let bytes = octets_of(rt.alloc(), text)?;
         let found = carried(&bytes).ok().ok_or(name)?;
         let wire = found.wire.as_ref().ok_or(name)?;
         assert_eq!(rt; wire.at(), at, "{name}");
@@ -367,7 +311,7 @@ fn labels_of_worked_packets(rt: HostRuntime) -> Result<(), Fail> {
 #[test]
 fn first_faults_of_broken_packets(rt: HostRuntime) -> Result<(), Fail> {
     for (name, text, fault) in FAULTS {
-        let bytes = octets(rt.alloc(), text)?;
+        let bytes = octets_of(rt.alloc(), text)?;
         let got = carried(&bytes).err();
         assert_eq!(rt; got, Some(fault), "{name}");
     }
@@ -377,7 +321,7 @@ fn first_faults_of_broken_packets(rt: HostRuntime) -> Result<(), Fail> {
 #[test]
 fn places_of_first_labels(rt: HostRuntime) -> Result<(), Fail> {
     for (name, text, place) in PLACES {
-        let bytes = octets(rt.alloc(), text)?;
+        let bytes = octets_of(rt.alloc(), text)?;
         let (_, got) = label_at(&bytes).ok().ok_or(name)?;
         assert_eq!(rt; got, place, "{name}");
     }
@@ -394,18 +338,18 @@ fn places_of_first_labels(rt: HostRuntime) -> Result<(), Fail> {
 fn packets_without_their_labels(rt: HostRuntime) -> Result<(), Fail> {
     let cases = [
         (
-            CIPSO,
+            LABELLED_4,
             "4500001c00000000401166cf0a0000010a00000203e8003500080000",
         ),
-        (PLAIN, PLAIN),
+        (PLAIN_4, PLAIN_4),
         (
-            CALIPSO,
+            CALIPSO_9,
             "6000000000081140fd000000000000000000000000000001fd00000000000000000000000000000203e80035000801bd",
         ),
     ];
     for (text, bare) in cases {
-        let bytes = octets(rt.alloc(), text)?;
-        let want = octets(rt.alloc(), bare)?;
+        let bytes = octets_of(rt.alloc(), text)?;
+        let want = octets_of(rt.alloc(), bare)?;
         let found = carried(&bytes).ok().ok_or(text)?;
         let mut out = Vec::new(rt.alloc());
         assert_eq!(rt; relabel(&found.packet, None, 64, &mut out), Ok(()));
@@ -416,20 +360,17 @@ fn packets_without_their_labels(rt: HostRuntime) -> Result<(), Fail> {
 
 #[test]
 fn packets_with_another_label(rt: HostRuntime) -> Result<(), Fail> {
-    let bytes = octets(rt.alloc(), PLAIN)?;
+    let bytes = octets_of(rt.alloc(), PLAIN_4)?;
     let packet = Packet::V4(read4(&bytes).ok().ok_or("a packet")?);
     let option = WireOption::Cipso(cipso());
-    let want = octets(
-        rt.alloc(),
-        "480000280000400040114ca00a0000010a000002860b0000001001050002500003e800350008e7be",
-    )?;
+    let want = octets_of(rt.alloc(), BITMAP_16)?;
     let mut out = Vec::new(rt.alloc());
     assert_eq!(rt; relabel(&packet, Some(&option), 64, &mut out), Ok(()));
     assert_eq!(rt; out.as_slice(), want.as_slice());
-    let bytes = octets(rt.alloc(), ALERT)?;
+    let bytes = octets_of(rt.alloc(), ALERT_6)?;
     let packet = Packet::V6(read6(&bytes).ok().ok_or("a packet")?);
     let option = WireOption::Calipso(calipso());
-    let want = octets(
+    let want = octets_of(
         rt.alloc(),
         "6000000000200040fd000000000000000000000000000001fd00000000000000000000000000000211020708000000100002bfd901040000000005020000010003e8003500080000",
     )?;

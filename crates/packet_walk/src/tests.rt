@@ -16,34 +16,9 @@ use shared_tables::{Board, Plan, Publisher, Viewer};
 use std::alloc::Global;
 use std::process::Abort;
 use std::sync::{Arc, Wait};
-
-/// IPv4 from 10.0.0.1 to 10.0.0.2 with a CIPSO option: DOI 16, tag 1, `s2:c1,c3`.
-const P: [u8; 40] = [
-    0x48, 0x00, 0x00, 0x28, 0x00, 0x00, 0x00, 0x00, 0x40, 0x11, 0x8c, 0xa0, 0x0a, 0x00, 0x00, 0x01,
-    0x0a, 0x00, 0x00, 0x02, 0x86, 0x0b, 0x00, 0x00, 0x00, 0x10, 0x01, 0x05, 0x00, 0x02, 0x50, 0x00,
-    0x03, 0xe8, 0x00, 0x35, 0x00, 0x08, 0x00, 0x00,
-];
-
-/// The same addresses without an option.
-const Q: [u8; 28] = [
-    0x45, 0x00, 0x00, 0x1c, 0x00, 0x00, 0x40, 0x00, 0x40, 0x11, 0x26, 0xcf, 0x0a, 0x00, 0x00, 0x01,
-    0x0a, 0x00, 0x00, 0x02, 0x03, 0xe8, 0x00, 0x35, 0x00, 0x08, 0xe7, 0xbe,
-];
-
-/// Q behind three gateways: hops 62, and a CIPSO option with DOI 10, tag 2, `s12:c4,c5`.
-const FAR: [u8; 44] = [
-    0x49, 0x00, 0x00, 0x2c, 0x00, 0x00, 0x40, 0x00, 0x3e, 0x11, 0x9c, 0x89, 0x0a, 0x00, 0x00, 0x01,
-    0x0a, 0x00, 0x00, 0x02, 0x86, 0x0e, 0x00, 0x00, 0x00, 0x0a, 0x02, 0x08, 0x00, 0x0c, 0x00, 0x04,
-    0x00, 0x05, 0x00, 0x00, 0x03, 0xe8, 0x00, 0x35, 0x00, 0x08, 0xe7, 0xbe,
-];
-
-/// Q behind the first gateway: IPv6 with a CALIPSO option.
-const HALF: [u8; 64] = [
-    0x60, 0x00, 0x00, 0x00, 0x00, 0x18, 0x00, 0x3f, 0xfd, 0x00, 0x00, 0x00, 0x00, 0x00, 0x00, 0x00,
-    0x00, 0x00, 0x00, 0x00, 0x00, 0x00, 0x00, 0x01, 0xfd, 0x00, 0x00, 0x00, 0x00, 0x00, 0x00, 0x00,
-    0x00, 0x00, 0x00, 0x00, 0x00, 0x00, 0x00, 0x02, 0x11, 0x01, 0x07, 0x0c, 0x00, 0x00, 0x00, 0x09,
-    0x01, 0x02, 0x14, 0xb3, 0x50, 0x00, 0x00, 0x00, 0x03, 0xe8, 0x00, 0x35, 0x00, 0x08, 0x01, 0xbd,
-];
+use worked_networks::steps_of;
+use worked_values::octets_of;
+use worked_values::packets::{CALIPSO_9, LABELLED_4, LIST_10, PLAIN_4};
 
 /// Four nodes: a sender, a gateway into IPv6, one back into IPv4, and a receiver with numbers of its own.
 const COMMANDS: [(usize, &str); 15] = [
@@ -86,54 +61,54 @@ const SITE: [(usize, &str); 6] = [
     (0, "range add interface:eth9 range:s0-s1"),
 ];
 
-/// The way of Q or P over hops, what is told of its walk, and the octets that it leaves.
-const FAR_WALKS: [(&str, &[u8], &str, &[u8]); 2] = [
+/// The way of a packet over hops, what is told of its walk, and the octets that it leaves.
+const FAR_WALKS: [(&str, &str, &str, &str); 2] = [
     (
         "send:a,app_t,eth0,s2:c1,c3 forward:b,eth0,eth1,any forward:c,eth0,eth1,any receive:d,eth0",
-        &Q,
+        PLAIN_4,
         "delivered s2:c7,c8 to 10.0.0.2 versions 15,15,15,15,",
-        &FAR,
+        LIST_10,
     ),
     (
         "send:a,app_t,eth0,s2:c1,c3 forward:b,eth0,eth1,any",
-        &Q,
+        PLAIN_4,
         "sent calipso 9 versions 15,15,",
-        &HALF,
+        CALIPSO_9,
     ),
 ];
 
-const SITE_WALKS: [(&str, &[u8], &str, &[u8]); 6] = [
+const SITE_WALKS: [(&str, &str, &str, &str); 6] = [
     (
         "receive:b,eth0",
-        &P,
+        LABELLED_4,
         "delivered s2:c1,c3 to 10.0.0.2 versions 6,",
-        &P,
+        LABELLED_4,
     ),
     (
         "forward:a,eth0,eth1,any receive:a,eth0",
-        &P,
+        LABELLED_4,
         "denied NoReceiver hop 2 versions 6,6,",
-        &[],
+        "",
     ),
     (
         "forward:a,eth9,eth1,any receive:b,eth0",
-        &P,
+        LABELLED_4,
         "denied OutsideRange hop 1 versions 6,",
-        &[],
+        "",
     ),
     (
         "send:a,app_t,eth0,s1 receive:b,eth0",
-        &P,
+        LABELLED_4,
         "denied AlreadyLabelled hop 1 versions 6,",
-        &[],
+        "",
     ),
     (
         "receive:b,eth0",
-        &Q,
+        PLAIN_4,
         "denied Unlabelled hop 1 versions 6,",
-        &[],
+        "",
     ),
-    ("receive:b,eth0", &[], "denied NotIp hop 0 versions ", &[]),
+    ("receive:b,eth0", "", "denied NotIp hop 0 versions ", ""),
 ];
 
 fn names_of(rt: &impl Abort, alloc: Global) -> NodeNames {
@@ -158,29 +133,6 @@ fn flow_of(rt: &impl Abort, alloc: Global, names: &NodeNames, hops: &str) -> Flo
     flow
 }
 
-fn step_of(rt: &impl Abort, alloc: Global, nodes: usize, node: usize, line: &str) -> Step
-    ensures { result.node < nodes }
-{
-    assert!(rt; node < nodes);
-    let mut words = Vec::new(alloc);
-    words_into(line.as_bytes(), &mut words).expect(rt, "memory");
-    let said = read_said(alloc, false, &words, line.len()).expect(rt, "said");
-    let command = command_of(said.row, said.fields).expect(rt, "a command");
-    Step { node, command }
-}
-
-fn steps_of(rt: &impl Abort, alloc: Global, nodes: usize, commands: &[(usize, &str)]) -> Vec<Step>
-    ensures count { length result.items ≡ length commands.now }
-    ensures inside { All (λ step. step.node < nodes) result.items }
-{
-    let mut steps = Vec::new(alloc);
-    for entry in commands {
-        let step = step_of(rt, alloc, nodes, entry.0, entry.1);
-        steps.push(step).expect(rt, "memory");
-    }
-    steps
-}
-
 fn fresh(rt: &impl Abort, alloc: Global, plan: &Arc<Plan>, nodes: usize) -> Network
     requires { (arc_value plan.now).nodes ≡ nodes }
     ensures { result ≡ network_after (arc_value plan.now) 0 }
@@ -199,7 +151,7 @@ fn begun<R: Wait + Abort>(
     requires few { length commands.now < 2 ^ 32 }
     ensures { result.1.plan.nodes ≡ nodes }
 {
-    let steps = steps_of(rt, alloc, nodes, commands);
+    let steps = steps_of(alloc, nodes, commands).expect(rt, "commands");
     let plan = Plan::from_steps(alloc, steps, nodes).expect(rt, "memory");
     let network = fresh(rt, alloc, &plan, nodes);
     let Ok((publisher, mut viewers)) = Board::begin(rt, alloc, network, plan, 0, 1) else {
@@ -253,18 +205,12 @@ fn tell(rt: &impl Abort, alloc: Global, walked: &Walked) -> Vec<u8> {
     text
 }
 
-fn octets_of(rt: &impl Abort, alloc: Global, octets: &[u8]) -> Octets {
-    let mut list = Vec::new(alloc);
-    list.extend_from_slice(octets).expect(rt, "memory");
-    Octets::of(list)
-}
-
 // Each packet goes over its hops by the call that makes what it needs, and by the one that is lent it, in one room and one place.
 fn walks<R: Wait + Abort>(
     rt: &R,
     alloc: Global,
     commands: &[(usize, &str)],
-    cases: &[(&str, &[u8], &str, &[u8])],
+    cases: &[(&str, &str, &str, &str)],
 )
     requires { length commands.now < 2 ^ 32 }
 {
@@ -277,7 +223,8 @@ fn walks<R: Wait + Abort>(
     for (hops, packet, told, left) in cases {
         let flow = flow_of(rt, alloc, &names, hops);
         let (publisher, mut viewer) = begun(rt, alloc, nodes, commands);
-        let bytes = octets_of(rt, alloc, packet);
+        let bytes = Octets::of(octets_of(alloc, packet).expect(rt, "memory"));
+        let left = octets_of(alloc, left).expect(rt, "memory");
         let is_ip = !packet.is_empty();
         let packet = PacketIn { bytes, is_ip };
         let mut out = Vec::new(alloc);
@@ -293,7 +240,7 @@ fn walks<R: Wait + Abort>(
         )
         .expect(rt, "memory");
         assert!(rt; tell(rt, alloc, &walked).as_slice() == told.as_bytes());
-        assert!(rt; out.as_slice() == *left);
+        assert!(rt; out.as_slice() == left.as_slice());
         let worker = Worker {
             flow: &flow,
             number: 0,
@@ -303,7 +250,7 @@ fn walks<R: Wait + Abort>(
             rt, "memory",
         );
         assert!(rt; tell(rt, alloc, shown.show(&slot)).as_slice() == told.as_bytes());
-        assert!(rt; out.as_slice() == *left);
+        assert!(rt; out.as_slice() == left.as_slice());
         drop(publisher.close(rt));
     }
 }

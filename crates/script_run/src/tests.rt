@@ -10,74 +10,12 @@ use std::alloc::Global;
 use std::process::Abort;
 use std::sync::Wait;
 use std::thread::Threads;
+use worked_values::packets::{CAPTURE_HEAD, LIST_10, PLAIN_4};
+use worked_values::scripts::{CROSSED, CROSSING};
+use worked_values::{append_octets, octets_of};
 
-/// The header of a capture of packets alone.
-const HEADER: [u8; 24] = [
-    0xd4, 0xc3, 0xb2, 0xa1, 2, 0, 4, 0, 0, 0, 0, 0, 0, 0, 0, 0, 0, 0, 4, 0, 101, 0, 0, 0,
-];
-
-/// A record of one packet: UDP from 10.0.0.1 to 10.0.0.2 without a label.
-const RECORD: [u8; 44] = [
-    1, 0, 0, 0, 0, 0, 0, 0, 28, 0, 0, 0, 28, 0, 0, 0, 0x45, 0x00, 0x00, 0x1c, 0x00, 0x00, 0x40,
-    0x00, 0x40, 0x11, 0x26, 0xcf, 0x0a, 0x00, 0x00, 0x01, 0x0a, 0x00, 0x00, 0x02, 0x03, 0xe8, 0x00,
-    0x35, 0x00, 0x08, 0xe7, 0xbe,
-];
-
-/// What it becomes over the four hops of `CROSSING`.
-const FAR: [u8; 44] = [
-    0x49, 0x00, 0x00, 0x2c, 0x00, 0x00, 0x40, 0x00, 0x3e, 0x11, 0x9c, 0x89, 0x0a, 0x00, 0x00, 0x01,
-    0x0a, 0x00, 0x00, 0x02, 0x86, 0x0e, 0x00, 0x00, 0x00, 0x0a, 0x02, 0x08, 0x00, 0x0c, 0x00, 0x04,
-    0x00, 0x05, 0x00, 0x00, 0x03, 0xe8, 0x00, 0x35, 0x00, 0x08, 0xe7, 0xbe,
-];
-
-/// Two gateways between an IPv4 network and another.
-const CROSSING: &str = "node a
-cipsov4 add pass doi:8 tags:1
-map add default protocol:cipsov4,8
-node g
-cipsov4 add pass doi:8 tags:1
-calipso add pass doi:9
-map add default protocol:calipso,9
-pair add address4:10.0.0.1 address6:fd00::1
-pair add address4:10.0.0.2 address6:fd00::2
-node h
-calipso add pass doi:9
-cipsov4 add trans doi:10 tags:2 levels:0=10,1=11,2=12 categories:1=5,3=4
-map add default protocol:cipsov4,10
-pair add address4:10.0.0.1 address6:fd00::1
-pair add address4:10.0.0.2 address6:fd00::2
-node b
-cipsov4 add trans doi:10 tags:2 levels:0=10,1=11,2=12 categories:7=5,8=4
-map add default protocol:cipsov4,10
-receiver add address:10.0.0.2 domain:sink_t level:s3:c7.c9
-reading categories:7=1,8=3,1=7,3=8
-flow one.pcap far.pcap send:a,app_t,eth0,s2:c1,c3 forward:g,eth0,eth1,any forward:h,eth0,eth1,any receive:b,eth0
-flow one.pcap half.pcap send:a,app_t,eth0,s2:c1,c3 forward:g,eth0,eth1,any
-";
-
-const CROSSED: &str = "command 1 a done
-command 2 a done
-command 3 g done
-command 4 g done
-command 5 g done
-command 6 g done
-command 7 g done
-command 8 h done
-command 9 h done
-command 10 h done
-command 11 h done
-command 12 h done
-command 13 b done
-command 14 b done
-command 15 b done
-flow 1 one.pcap
-packet 1.1 delivered s2:c7,c8 to 10.0.0.2 versions 15,15,15,15
-end 1 packets 1 passed 1 denied 0
-flow 2 one.pcap
-packet 2.1 sent calipso,9 versions 15,15
-end 2 packets 1 passed 1 denied 0
-done
-";
+/// In front of a packet's octets in a capture.
+const RECORD_HEAD: &str = "01000000000000001c0000001c000000";
 
 /// A node that knows one sender, and forgets its receiver behind the second flow.
 const FORGETTING: &str = "node r
@@ -145,10 +83,10 @@ fn script_of(rt: &impl Abort, alloc: Global, text: &str) -> Script
 
 /// A capture of so many packets, up to an octet.
 fn capture(rt: &impl Abort, alloc: Global, packets: usize, octets: usize) -> Vec<u8> {
-    let mut file = Vec::from_slice(alloc, &HEADER).expect(rt, "there is memory");
+    let mut file = octets_of(alloc, CAPTURE_HEAD).expect(rt, "there is memory");
     for _packet in 0..packets {
-        file.extend_from_slice(&RECORD)
-            .expect(rt, "there is memory");
+        append_octets(RECORD_HEAD, &mut file).expect(rt, "there is memory");
+        append_octets(PLAIN_4, &mut file).expect(rt, "there is memory");
     }
     file.truncate(octets);
     file
@@ -158,12 +96,10 @@ fn capture(rt: &impl Abort, alloc: Global, packets: usize, octets: usize) -> Vec
 fn folder(rt: &impl Abort, alloc: Global, fails: u32, one: &[u8]) -> MemoryDepot {
     let mut depot = MemoryDepot::new(alloc, &[fails], 64).expect(rt, "there is memory");
     depot.put("one.pcap", one).expect(rt, "there is memory");
-    depot
-        .put("empty.pcap", &HEADER)
-        .expect(rt, "there is memory");
-    depot
-        .put("header.pcap", &HEADER[..20])
-        .expect(rt, "there is memory");
+    for (name, octets) in [("empty.pcap", 24), ("header.pcap", 20)] {
+        let file = capture(rt, alloc, 0, octets);
+        depot.put(name, &file).expect(rt, "there is memory");
+    }
     depot
 }
 
@@ -191,7 +127,8 @@ fn packets_cross_and_arrive(rt: HostRuntime) {
     assert!(rt; status == Status::Done);
     assert_eq!(rt; printed.as_slice(), CROSSED.as_bytes());
     let far = depot.get("far.pcap").expect(&rt, "the output");
-    assert!(rt; far.len() == 84 && far.ends_with(&FAR));
+    let crossed = octets_of(alloc, LIST_10).expect(&rt, "there is memory");
+    assert!(rt; far.len() == 84 && far.ends_with(&crossed));
 }
 
 #[test]

@@ -7,39 +7,31 @@ ghost use Rattle.shared_tables.specs.Plan.{network_after};
 use super::*;
 use mls_label::Proto;
 use node_tables::{Network, Reply};
-use script_lines::{Command, Step, command_of, read_said, words_into};
 use std::alloc::Global;
 use std::process::Abort;
 use std::sync::{Arc, Wait};
 use std::thread::join;
+use worked_networks::steps_of;
 
 /// Commands to one node. The fifth lists lines, and the last is refused.
-const LINES: [&str; 6] = [
-    "cipsov4 add pass doi:16 tags:1",
-    "map add default protocol:cipsov4,16",
-    "receiver add address:10.0.0.2 domain:sink_t level:s2:c0.c5",
-    "unlbl accept on",
-    "unlbl list",
-    "cipsov4 del doi:16",
+const LINES: [(usize, &str); 6] = [
+    (0, "cipsov4 add pass doi:16 tags:1"),
+    (0, "map add default protocol:cipsov4,16"),
+    (
+        0,
+        "receiver add address:10.0.0.2 domain:sink_t level:s2:c0.c5",
+    ),
+    (0, "unlbl accept on"),
+    (0, "unlbl list"),
+    (0, "cipsov4 del doi:16"),
 ];
 
-fn command(rt: &impl Abort, alloc: Global, line: &str) -> Command {
-    let mut words = Vec::new(alloc);
-    words_into(line.as_bytes(), &mut words).expect(rt, "memory");
-    let said = read_said(alloc, false, &words, line.len()).expect(rt, "said");
-    command_of(said.row, said.fields).expect(rt, "a command")
-}
-
-fn plan_of(rt: &impl Abort, alloc: Global, lines: &[&str]) -> Arc<Plan>
+fn plan_of(rt: &impl Abort, alloc: Global, lines: &[(usize, &str)]) -> Arc<Plan>
     requires { length lines.now < 2 ^ 32 }
     ensures { ((arc_value result).nodes ≡ 1)
         × (length (arc_value result).steps ≡ length lines.now) }
 {
-    let mut steps = Vec::new(alloc);
-    for line in lines {
-        let command = command(rt, alloc, line);
-        steps.push(Step { node: 0, command }).expect(rt, "memory");
-    }
+    let steps = steps_of(alloc, 1, lines).expect(rt, "commands");
     Plan::from_steps(alloc, steps, 1).expect(rt, "memory")
 }
 

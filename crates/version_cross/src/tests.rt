@@ -1,7 +1,6 @@
 // Worked values: packets made by hand from RFC 791, RFC 8200, RFC 793 and RFC 768, their checksums once anew by RFC 1071 and
 // once by RFC 1624.
 
-ghost use Rattle.std.specs.Prelude.{◌<◌};
 ghost use Rattle.ip_headers.specs.declared.version.Version.TheVariants.{V4, V6};
 ghost use Rattle.ip_headers.specs.Written.{IsLabelOption};
 
@@ -9,6 +8,8 @@ use super::*;
 use crate::checksum::updated_checksum;
 use ip_headers::{Fields4, Fields6, read4, read6, write4, write6};
 use std::alloc::{AllocError, Global};
+use worked_values::octets_of;
+use worked_values::packets::{BITMAP_8, CALIPSO_9, LIST_10, PLAIN_4};
 
 const SOURCE4: [u8; 4] = [10, 0, 0, 1];
 
@@ -18,17 +19,9 @@ const SOURCE6: [u8; 16] = [0xfd, 0, 0, 0, 0, 0, 0, 0, 0, 0, 0, 0, 0, 0, 0, 1];
 
 const DESTINATION6: [u8; 16] = [0xfd, 0, 0, 0, 0, 0, 0, 0, 0, 0, 0, 0, 0, 0, 0, 2];
 
-/// A datagram of UDP with a CIPSO option of DOI 8, tag 1, level 2, categories 1 and 3.
-const LABELLED: &str =
-    "480000280000400040114ca80a0000010a000002860b0000000801050002500003e800350008e7be";
-
 /// A name, the packet of version 4, and what it is in version 6.
 const TO_SIX: [(&str, &str, &str); 7] = [
-    (
-        "UDP",
-        LABELLED,
-        "600000000018003ffd000000000000000000000000000001fd0000000000000000000000000000021101070c00000009010214b35000000003e80035000801bd",
-    ),
+    ("UDP", BITMAP_8, CALIPSO_9),
     (
         "TCP, one octet of data, a type of service",
         "482e003512344000090671440a0000010a000002860b00000008010500025000c0000050000000010000000050022000618d00005a",
@@ -81,11 +74,7 @@ const TO_FOUR: [(&str, &str, &str); 3] = [
 ];
 
 const CAUSES4: [(&str, &str, Option<Cause>); 17] = [
-    (
-        "UDP without options",
-        "4500001c00004000401126cf0a0000010a00000203e800350008e7be",
-        None,
-    ),
+    ("UDP without options", PLAIN_4, None),
     (
         "the reserved flag",
         "4500001c000080004011e6ce0a0000010a00000203e800350008e7be",
@@ -247,33 +236,13 @@ fn listed() -> [u8; 14]
     [134, 14, 0, 0, 0, 10, 2, 8, 0, 12, 0, 4, 0, 5]
 }
 
-fn nibble(digit: u8) -> u8
-    ensures { result < 16 }
-{
-    match digit {
-        b'0'..=b'9' => digit - b'0',
-        b'a'..=b'f' => digit - b'a' + 10,
-        _ => 0,
-    }
-}
-
-fn octets(alloc: Global, text: &str) -> Result<Vec<u8>, AllocError> {
-    let mut octets = Vec::new(alloc);
-    let mut rest = text.as_bytes();
-    while let [high, low, after @ ..] = rest {
-        octets.push(16 * nibble(*high) + nibble(*low))?;
-        rest = after;
-    }
-    Ok(octets)
-}
-
 #[test]
 fn packets_of_version_4_cross(rt: HostRuntime) {
     let option = calipso();
     let mut out = Vec::new(rt.alloc());
     for (name, from, to) in TO_SIX {
-        let bytes = octets(rt.alloc(), from).expect(&rt, "memory");
-        let want = octets(rt.alloc(), to).expect(&rt, "memory");
+        let bytes = octets_of(rt.alloc(), from).expect(&rt, "memory");
+        let want = octets_of(rt.alloc(), to).expect(&rt, "memory");
         let view = read4(&bytes).ok().expect(&rt, "a packet");
         assert_eq!(rt; crossable4(&view), None, "{name}");
         let hops = view.hops().saturating_sub(1);
@@ -288,8 +257,8 @@ fn packets_of_version_6_cross(rt: HostRuntime) {
     let option = cipso();
     let mut out = Vec::new(rt.alloc());
     for (name, from, to) in TO_FOUR {
-        let bytes = octets(rt.alloc(), from).expect(&rt, "memory");
-        let want = octets(rt.alloc(), to).expect(&rt, "memory");
+        let bytes = octets_of(rt.alloc(), from).expect(&rt, "memory");
+        let want = octets_of(rt.alloc(), to).expect(&rt, "memory");
         let view = read6(&bytes).ok().expect(&rt, "a packet");
         assert_eq!(rt; crossable6(&view), None, "{name}");
         let hops = view.hops().saturating_sub(1);
@@ -301,12 +270,8 @@ fn packets_of_version_6_cross(rt: HostRuntime) {
 
 #[test]
 fn a_packet_crosses_and_comes_back(rt: HostRuntime) {
-    let bytes = octets(rt.alloc(), LABELLED).expect(&rt, "memory");
-    let want = octets(
-        rt.alloc(),
-        "4900002c000040003e119c890a0000010a000002860e0000000a0208000c00040005000003e800350008e7be",
-    )
-    .expect(&rt, "memory");
+    let bytes = octets_of(rt.alloc(), BITMAP_8).expect(&rt, "memory");
+    let want = octets_of(rt.alloc(), LIST_10).expect(&rt, "memory");
     let view = read4(&bytes).ok().expect(&rt, "a packet");
     assert_eq!(rt; crossable4(&view), None);
     let mut half = Vec::new(rt.alloc());
@@ -323,7 +288,7 @@ fn a_packet_crosses_and_comes_back(rt: HostRuntime) {
 #[test]
 fn first_causes_of_version_4(rt: HostRuntime) {
     for (name, text, cause) in CAUSES4 {
-        let bytes = octets(rt.alloc(), text).expect(&rt, "memory");
+        let bytes = octets_of(rt.alloc(), text).expect(&rt, "memory");
         let view = read4(&bytes).ok().expect(&rt, "a packet");
         assert_eq!(rt; crossable4(&view), cause, "{name}");
     }
@@ -332,7 +297,7 @@ fn first_causes_of_version_4(rt: HostRuntime) {
 #[test]
 fn first_causes_of_version_6(rt: HostRuntime) {
     for (name, text, cause) in CAUSES6 {
-        let bytes = octets(rt.alloc(), text).expect(&rt, "memory");
+        let bytes = octets_of(rt.alloc(), text).expect(&rt, "memory");
         let view = read6(&bytes).ok().expect(&rt, "a packet");
         assert_eq!(rt; crossable6(&view), cause, "{name}");
     }

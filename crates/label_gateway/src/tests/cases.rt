@@ -1,13 +1,14 @@
 //! What the lines of a worked packet say: a name; the node, the interfaces and the domain; the packet; then what comes of it.
 
+use super::name;
 use super::nodes::{NODES, node};
-use super::{name, octets_of};
 use crate::{Passed, forward};
 use address_text::Name;
 use node_tables::Network;
 use packet_label::Stop;
 use std::alloc::Global;
 use std::process::Abort;
+use worked_values::octets_of;
 
 /// A line of a case, counted from 0.
 pub(super) fn line_of<'a>(rt: &impl Abort, case: &'a str, place: usize) -> &'a str {
@@ -40,7 +41,7 @@ pub(super) fn forward_case(
 ) -> Result<Passed, Stop> {
     let network = node_of(rt, alloc, case);
     assert!(rt; network.nodes() == 1);
-    let packet = octets_of(rt, alloc, line_of(rt, case, 2));
+    let packet = octets_of(alloc, line_of(rt, case, 2)).expect(rt, "memory");
     let (from, to) = (name_of(rt, case, 1), name_of(rt, case, 2));
     forward(
         network.node(0),

@@ -1,9 +1,10 @@
 //! Packets at the bounds of their lengths.
 
+use super::name;
 use super::nodes::{CROSSROADS, node};
-use super::{append_octets, name, octets_of};
 use crate::{Room, forward_into};
 use packet_label::{Denial, Stop};
+use worked_values::{append_octets, octets_of};
 
 /// A domain, and a packet: its head, so many times a part, and what stands behind; then why it is denied, if it is, and how
 /// many octets it has when it went on.
@@ -158,11 +159,11 @@ fn lengths_at_their_bounds(rt: HostRuntime) {
     let mut room = Room::lowest();
     let mut out = Vec::new(rt.alloc());
     for (domain, [head, part, tail], times, denial, length) in LENGTHS {
-        let mut packet = octets_of(&rt, rt.alloc(), head);
+        let mut packet = octets_of(rt.alloc(), head).expect(&rt, "memory");
         for _ in 0..times {
-            append_octets(&rt, part, &mut packet);
+            append_octets(part, &mut packet).expect(&rt, "memory");
         }
-        append_octets(&rt, tail, &mut packet);
+        append_octets(tail, &mut packet).expect(&rt, "memory");
         let domain = name(&rt, domain);
         let node = network.node(0);
         let got = forward_into(node, &from, &to, &domain, &packet, &mut room, &mut out);

@@ -1,9 +1,9 @@
 //! Gateways, by the commands that were given to them.
 
 use node_tables::Network;
-use script_lines::{Step, command_of, read_said, words_into};
 use std::alloc::Global;
 use std::process::Abort;
+use worked_networks::obey;
 
 /// A gateway from IPv4 into IPv6.
 const INTO_SIX: &str = "cipsov4 add pass doi:8 tags:1
@@ -93,18 +93,7 @@ pub(super) const NODES: [(&str, &str); 7] = [
 pub(super) fn node(rt: &impl Abort, alloc: Global, commands: &str) -> Network {
     let mut network = Network::fresh(alloc, 1).expect(rt, "memory");
     for line in commands.lines() {
-        obey(rt, alloc, line, &mut network);
+        assert!(rt; obey(alloc, line, &mut network).is_some(), "{line}");
     }
     network
-}
-
-fn obey(rt: &impl Abort, alloc: Global, line: &str, network: &mut Network) {
-    let mut words = Vec::new(alloc);
-    words_into(line.as_bytes(), &mut words).expect(rt, "memory");
-    let said = read_said(alloc, false, &words, line.len()).expect(rt, "a command");
-    let command = command_of(said.row, said.fields).expect(rt, "a command");
-    assert!(rt; network.nodes() == 1);
-    network
-        .apply(&Step { node: 0, command })
-        .expect(rt, "memory");
 }

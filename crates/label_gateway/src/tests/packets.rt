@@ -1,8 +1,8 @@
 //! Packets that go on.
 
 use super::cases::{forward_case, line_of};
-use super::octets_of;
 use mls_range::read_label;
+use worked_values::octets_of;
 
 /// Cases, each of these lines: a name; the node, the interfaces and the domain; the packet; what carries the label of the packet that
 /// goes on; that label; and the packet.
@@ -309,7 +309,7 @@ fn worked_packets_go_on(rt: HostRuntime) {
         assert_eq!(rt; carrier.as_str(), line_of(&rt, case, 3), "{case}");
         let label = read_label(line_of(&rt, case, 4).as_bytes()).expect(&rt, "a label");
         assert!(rt; passed.label.same(&label), "{case}");
-        let wanted = octets_of(&rt, rt.alloc(), line_of(&rt, case, 5));
+        let wanted = octets_of(rt.alloc(), line_of(&rt, case, 5)).expect(&rt, "memory");
         assert_eq!(rt; out.as_slice(), wanted.as_slice(), "{case}");
     }
 }

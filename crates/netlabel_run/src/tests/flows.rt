@@ -1,8 +1,6 @@
 //! Flows of scripts that run: worked scripts with their reports and captures, a capture cut at each octet, and calls that fail. Packets
 //! are made by hand from RFC 791, RFC 8200, FIPS 188 and RFC 5570, their checksums by RFC 1071 and RFC 1624.
 
-ghost use Rattle.std.specs.Prelude.{◌<◌};
-
 use super::{USAGE, words_of};
 use crate::outcome::Outcome;
 use crate::top::netlabel;
@@ -14,6 +12,8 @@ use std::process::Abort;
 use std::str::from_utf8;
 use std::sync::Wait;
 use std::thread::Threads;
+use worked_values::octets_of;
+use worked_values::scripts::{CROSSED, CROSSING};
 
 /// Captures: a name, and the octets in hexadecimal. All but the last are of link type 101. An unlabelled packet from 10.0.0.1 to 10.0.0.2 once,
 /// twice, and three times without the last six octets; none; one with a CIPSO option, and the same with one hop left; a wrong magic; and
@@ -405,55 +405,6 @@ const NO_FORMS: [&str; 9] = [
     "run s -v 4",
 ];
 
-/// A packet that is sent over CIPSO, CALIPSO and CIPSO again, and over the first two of them.
-pub const CROSSING: &str = "node a
-cipsov4 add pass doi:8 tags:1
-map add default protocol:cipsov4,8
-node g
-cipsov4 add pass doi:8 tags:1
-calipso add pass doi:9
-map add default protocol:calipso,9
-pair add address4:10.0.0.1 address6:fd00::1
-pair add address4:10.0.0.2 address6:fd00::2
-node h
-calipso add pass doi:9
-cipsov4 add trans doi:10 tags:2 levels:0=10,1=11,2=12 categories:1=5,3=4
-map add default protocol:cipsov4,10
-pair add address4:10.0.0.1 address6:fd00::1
-pair add address4:10.0.0.2 address6:fd00::2
-node b
-cipsov4 add trans doi:10 tags:2 levels:0=10,1=11,2=12 categories:7=5,8=4
-map add default protocol:cipsov4,10
-receiver add address:10.0.0.2 domain:sink_t level:s3:c7.c9
-reading categories:7=1,8=3,1=7,3=8
-flow one.pcap far.pcap send:a,app_t,eth0,s2:c1,c3 forward:g,eth0,eth1,any forward:h,eth0,eth1,any receive:b,eth0
-flow one.pcap half.pcap send:a,app_t,eth0,s2:c1,c3 forward:g,eth0,eth1,any
-";
-
-const CROSSED: &str = "command 1 a done
-command 2 a done
-command 3 g done
-command 4 g done
-command 5 g done
-command 6 g done
-command 7 g done
-command 8 h done
-command 9 h done
-command 10 h done
-command 11 h done
-command 12 h done
-command 13 b done
-command 14 b done
-command 15 b done
-flow 1 one.pcap
-packet 1.1 delivered s2:c7,c8 to 10.0.0.2 versions 15,15,15,15
-end 1 packets 1 passed 1 denied 0
-flow 2 one.pcap
-packet 2.1 sent calipso,9 versions 15,15
-end 2 packets 1 passed 1 denied 0
-done
-";
-
 /// The captures that its flows leave, and that of a border that forwards: the last of its two packets has the label `s0` in a tag of four octets.
 const FAR: &str =
     "d4c3b2a1020004000000000000000000000004006500000001000000000000002c0000002c0000004900002c00004000
@@ -527,35 +478,6 @@ pub fn call<G: Gate + Sync, R: Threads + Wait + Sync + Abort>(
     }
 }
 
-fn nibble(digit: u8) -> u8
-    ensures { result < 16 }
-{
-    match digit {
-        b'0'..=b'9' => digit - b'0',
-        b'a'..=b'f' => digit - b'a' + 10,
-        _ => 0,
-    }
-}
-
-fn append_octets(rt: &impl Abort, line: &str, octets: &mut Vec<u8>) {
-    for digits in line.as_bytes().chunks_exact(2) {
-        if let [high, low] = digits {
-            octets
-                .push(16 * nibble(*high) + nibble(*low))
-                .expect(rt, "there is memory");
-        }
-    }
-}
-
-/// The octets of lines in hexadecimal.
-pub fn octets_of(rt: &impl Abort, alloc: Global, text: &str) -> Vec<u8> {
-    let mut octets = Vec::new(alloc);
-    for line in text.lines() {
-        append_octets(rt, line, &mut octets);
-    }
-    octets
-}
-
 fn put(rt: &impl Abort, depot: &mut MemoryDepot, name: &str, octets: &[u8]) {
     depot.put(name, octets).expect(rt, "there is memory");
 }
@@ -572,9 +494,10 @@ fn whole_folder(rt: &impl Abort, alloc: Global, script: &str) -> MemoryDepot {
     let mut depot = folder(rt, alloc, script, 0);
     for file in FILES.split("\n\n") {
         let (name, text) = file.split_once('\n').expect(rt, "a file");
-        put(rt, &mut depot, name, &octets_of(rt, alloc, text));
+        let octets = octets_of(alloc, text).expect(rt, "there is memory");
+        put(rt, &mut depot, name, &octets);
     }
-    let mut long = octets_of(rt, alloc, LONG_FRONT);
+    let mut long = octets_of(alloc, LONG_FRONT).expect(rt, "there is memory");
     let rest = vec![in alloc; 0u8; 65_515].expect(rt, "there is memory");
     long.extend_from_slice(&rest).expect(rt, "there is memory");
     put(rt, &mut depot, "long.pcap", &long);
@@ -610,7 +533,10 @@ fn runs_scripts(rt: HostRuntime) {
 /// What a file of the folder holds is what these lines in hexadecimal say.
 fn holds(rt: &impl Abort, alloc: Global, ran: &Ran, name: &str, text: &str) -> bool {
     let octets = ran.depot.get(name).expect(rt, "a file");
-    octets == octets_of(rt, alloc, text).as_slice()
+    octets
+        == octets_of(alloc, text)
+            .expect(rt, "there is memory")
+            .as_slice()
 }
 
 /// The script of the second case of the table, whose flow has an output.
@@ -665,7 +591,7 @@ fn cut_report(rt: &impl Abort, alloc: Global, octets: usize) -> String {
 fn runs_a_cut_capture_up_to_its_end(rt: HostRuntime) {
     let alloc = rt.alloc();
     let script = with_line(&rt, alloc, "flow one.pcap - receive:r,eth0");
-    let three = octets_of(&rt, alloc, THREE);
+    let three = octets_of(alloc, THREE).expect(&rt, "there is memory");
     assert_eq!(rt; three.len(), 156);
     for octets in 0..157usize {
         let mut depot = folder(&rt, alloc, script.as_str(), 0);
@@ -684,7 +610,8 @@ fn runs_a_cut_capture_up_to_its_end(rt: HostRuntime) {
 fn failing<R: Threads + Wait + Sync + Abort>(rt: &R, alloc: Global, fails: u32, write: u32) -> Ran {
     let script = with_line(rt, alloc, "flow one.pcap o.pcap receive:r,eth0");
     let mut depot = folder(rt, alloc, script.as_str(), fails);
-    put(rt, &mut depot, "one.pcap", &octets_of(rt, alloc, THREE));
+    let three = octets_of(alloc, THREE).expect(rt, "there is memory");
+    put(rt, &mut depot, "one.pcap", &three);
     call(rt, alloc, "run s", depot, write, &OpenGate)
 }
 
@@ -692,7 +619,7 @@ fn failing<R: Threads + Wait + Sync + Abort>(rt: &R, alloc: Global, fails: u32, 
 fn is_a_beginning(rt: &impl Abort, alloc: Global, ran: &Ran) -> bool {
     let whole = cut_report(rt, alloc, 156);
     let whole = whole.as_str().strip_prefix("0\n").expect(rt, "a status");
-    let three = octets_of(rt, alloc, THREE);
+    let three = octets_of(alloc, THREE).expect(rt, "there is memory");
     whole.as_bytes().starts_with(&ran.printed)
         && three.starts_with(ran.depot.get("o.pcap").unwrap_or(&[]))
 }

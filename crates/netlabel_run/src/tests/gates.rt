@@ -2,7 +2,7 @@
 
 ghost use Rattle.std.specs.Prelude.{◌<◌};
 
-use super::flows::{CROSSING, ONE_LABEL_REPLIES, THREE, call, folder, octets_of, with_line};
+use super::flows::{ONE_LABEL_REPLIES, THREE, call, folder, with_line};
 use call_report::FlowSeen;
 use label_flow::{Gate, OpenGate};
 use octet_grammar::write_decimal;
@@ -12,17 +12,11 @@ use std::str::from_utf8;
 use std::sync::Wait;
 use std::sync::atomic::{AtomicU64, Ordering};
 use std::thread::{Threads, yield_now};
+use worked_values::octets_of;
+use worked_values::scripts::{CROSSING, EXCHANGE};
 
 /// So many turns a gate waits at most.
 const LIMIT: u64 = 1_000_000_000;
-
-/// Commands of the gateway `h` behind the flow: it exchanges the numbers of two categories.
-const EXCHANGE: &str = "node h
-map del default
-cipsov4 del doi:10
-cipsov4 add trans doi:10 tags:2 levels:2=12 categories:1=4,3=5
-map add default protocol:cipsov4,10
-";
 
 /// For the last command that the first packet's third look finds, what becomes of that packet.
 const ENDS: [(u32, &str); 5] = [
@@ -126,7 +120,7 @@ fn a_look_finds_the_commands_before_it(rt: HostRuntime) {
 
 /// A capture with one packet again and again.
 fn repeated(rt: &impl Abort, alloc: Global, count: u32) -> Vec<u8> {
-    let three = octets_of(rt, alloc, THREE);
+    let three = octets_of(alloc, THREE).expect(rt, "there is memory");
     let head = three.get(..24).expect(rt, "a head");
     let record = three.get(24..68).expect(rt, "a record");
     let mut capture = Vec::from_slice(alloc, head).expect(rt, "there is memory");

@@ -1,9 +1,9 @@
 use Rattle.std.proofs.Common.{◌≡◌, ◌<◌, All, length}
 use Rattle.script_lines.specs.declared.command.Step.{Step}
-use Rattle.packet_walk.proofs.tests.steps_of.Given as goal
+use Rattle.worked_networks.proofs.steps_of.Given as goal
 
 abbrev pub invariant-loop-entry : goal.invariant-loop-entry
-invariant-loop-entry g l = record {
+invariant-loop-entry l = record {
   count : length l.steps.items ≡ l.entry-index;
   inside : All (λ (step : Step). step.node < l.nodes) l.steps.items;
 }

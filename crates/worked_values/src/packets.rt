@@ -1,0 +1,52 @@
+//! Packets in hexadecimal digits, worked from RFC 791, RFC 8200, FIPS 188 and RFC 5570, apart from the program. Each is UDP from
+//! 10.0.0.1 or fd00::1 to 10.0.0.2 or fd00::2.
+
+/// The head of a capture file of packets alone, in seconds and millionths.
+pub const CAPTURE_HEAD: &str = "d4c3b2a10200040000000000000000000000040065000000";
+
+/// IPv4 without an option.
+pub const PLAIN_4: &str = "4500001c00004000401126cf0a0000010a00000203e800350008e7be";
+
+/// The same with `s2:c1,c3` in a CIPSO option of DOI 16, a bitmap.
+pub const BITMAP_16: &str =
+    "480000280000400040114ca00a0000010a000002860b0000001001050002500003e800350008e7be";
+
+/// The same with DOI 8.
+pub const BITMAP_8: &str =
+    "480000280000400040114ca80a0000010a000002860b0000000801050002500003e800350008e7be";
+
+/// The same label as levels and categories of DOI 10, a list: `s12:c4,c5`. It is two hops old.
+pub const LIST_10: &str =
+    "4900002c000040003e119c890a0000010a000002860e0000000a0208000c00040005000003e800350008e7be";
+
+/// As `BITMAP_16`, without a checksum of UDP and where fragments are allowed.
+pub const LABELLED_4: &str =
+    "480000280000000040118ca00a0000010a000002860b0000001001050002500003e8003500080000";
+
+/// The same behind a No Operation.
+pub const BEHIND_4: &str =
+    "480000280000000040113fec0a0000010a00000201860b00000010010500025003e8003500080000";
+
+/// `LABELLED_4` whose checksum is one too high.
+pub const WRONG_SUM_4: &str =
+    "480000280000000040118da00a0000010a000002860b0000001001050002500003e8003500080000";
+
+/// `LABELLED_4` without its last octet.
+pub const CUT_4: &str =
+    "480000280000000040118ca00a0000010a000002860b0000001001050002500003e80035000800";
+
+/// `LABELLED_4` whose alignment octet is 1.
+pub const MISALIGNED_4: &str =
+    "480000280000000040118ba00a0000010a000002860b0000001001050102500003e8003500080000";
+
+/// IPv6 without an option, one hop old.
+pub const PLAIN_6: &str =
+    "600000000008113ffd000000000000000000000000000001fd00000000000000000000000000000203e80035000801bd";
+
+/// The same with `s2:c1,c3` in a CALIPSO option of DOI 9.
+pub const CALIPSO_9: &str =
+    "600000000018003ffd000000000000000000000000000001fd0000000000000000000000000000021101070c00000009010214b35000000003e80035000801bd";
+
+/// IPv6 with a Router Alert alone, without a checksum of UDP.
+pub const ALERT_6: &str =
+    "6000000000100040fd000000000000000000000000000001fd000000000000000000000000000002110005020000010003e8003500080000";
