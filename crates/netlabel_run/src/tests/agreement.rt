@@ -1,7 +1,6 @@
 //! Hops compared: worked scripts, each cause of status 2, versions at both sides of their bounds, and calls that fail. Meanings are worked by hand from the
 //! pairs and readings of the scripts.
 
-use super::flows::CROSSING;
 use super::gates::exchanging;
 use super::{USAGE, answers, folder, words_of};
 use crate::top::netlabel;
@@ -11,6 +10,7 @@ use std::alloc::Global;
 use std::process::Abort;
 use std::sync::Wait;
 use std::thread::Threads;
+use worked_values::scripts::CROSSING;
 
 /// Words on the script `s` of four nodes, the status and the report. Its second flow has the first two hops.
 const CROSSED: [(&str, u8, &str); 9] = [
