@@ -1,9 +1,12 @@
 -- The hops of a flow compared one after the other, over plain values.
-use Rattle.std.proofs.Common.{◌≡◌, ◌<◌, ◌≤◌, ℕ, zero, suc, ◌+◌, ◌-◌, List, [], ◌∷◌, ◌++◌, length, drop, Option, Some, refl, sym, ap, subst, ◌∙◌, arith}
-use Rattle.std.specs.Prelude.{slice_get, unwrap_or}
+use Rattle.std.proofs.Common.{◌≡◌, ◌<◌, ◌≤◌, ℕ, zero, suc, ◌+◌, ◌-◌, List, [], ◌∷◌, ◌++◌, length, drop, Option, Some, None, refl, sym, ap, subst, ◌∙◌, arith}
+use Rattle.std.specs.Prelude.{slice_get, IfSome, IfNone}
 use Rattle.flow_lines.specs.declared.hop.Hop.{Hop}
 use Rattle.node_readings.specs.Reading.{NamedMeanings}
+use Rattle.node_tables.specs.Tables.{TableState}
 use Rattle.node_agreement.specs.declared.disagree.Disagree.{Disagree}
+use Rattle.node_agreement.specs.Agreement.{Agree}
+use Rattle.node_agreement.specs.First.{IsFirst}
 use Rattle.shared_tables.specs.Plan.{PlanState}
 use Rattle.packet_walk.specs.Walk.{Rises}
 use Rattle.flow_access.specs.Labels.{hop_tables, reading_at}
@@ -104,3 +107,9 @@ module _ (plan : PlanState) (readings : List NamedMeanings) where
       append_none : (xs : List (Option Disagree)) → xs ++ [] ≡ xs
       append_none [] = refl
       append_none (x ∷ xs) = ap (λ ys. x ∷ ys) (append_none xs)
+
+-- what a comparison of two nodes gives, by its two clauses
+pub found_is : (left right : TableState) (left_named right_named : NamedMeanings) (found : Option Disagree) → IfNone found (Agree left right left_named right_named)
+    → IfSome found (IsFirst left right left_named right_named) → IsFound left right left_named right_named found
+found_is left right left_named right_named None agree first = agree
+found_is left right left_named right_named (Some d) agree first = first
