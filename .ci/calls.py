@@ -62,21 +62,22 @@ def some(folder, pattern):
 
 
 def example(words):
-    """An example: `words` has one word a line; the status is 0 unless a file says otherwise; `wanted/` has the captures that it makes."""
-    folder = words.parent
-    status = folder / "status"
+    """An example: `words` has one word a line; the status is 0 unless a file says otherwise; `wanted/` has the captures that it makes. Of a further call in the
+    same folder the names of all these end alike: `words-run`, `report-run`."""
+    folder, end = words.parent, words.name[len("words"):]
+    status = folder / f"status{end}"
     return Call(
-        name=folder.relative_to(TOP).as_posix(),
+        name=folder.relative_to(TOP).as_posix() + end,
         prepare=lambda made: shutil.copytree(folder, made, dirs_exist_ok=True),
         words=[os.fsencode(word) for word in words.read_text().splitlines()],
         status=int(status.read_text()) if status.exists() else 0,
-        report=(folder / "report").read_bytes(),
-        left=held(folder / "wanted"),
+        report=(folder / f"report{end}").read_bytes(),
+        left=held(folder / f"wanted{end}"),
     )
 
 
 def examples():
-    return [example(words) for words in some(TOP, "examples/*/words")]
+    return [example(words) for words in some(TOP, "examples/*/words*")]
 
 
 # --- captures of a Linux kernel ----------------------------------------------------------------------------------------------------------------
@@ -174,6 +175,13 @@ NAMES = [
     names("a folder as a script", ["b.pcap o.pcap"], own="folder", status=3, report=b""),
     names("a fault below a flow", ["b.pcap o.pcap", "b.pcap o.pcap"], status=2, report=b"script line 3 octet 12 NameTwice\n"),
     names("a flow too many", ["b.pcap -"] * 257, status=7, report=b"limit flows 256\n"),
+    names("hops compared, and no capture read or made", ["absent o.pcap", "b.pcap -"], words=[b"agree", b"s", b"2"], status=0, report=b"agree\n"),
+    names("hops of the script by another name", ["b.pcap s"], words=[b"agree", b"./s", b"1", b"0"], status=0, report=b"agree\n"),
+    names("hops of a script whose output is its own name", ["b.pcap s"], words=[b"agree", b"s", b"1"], status=2, report=b"script line 2 octet 12 NameTwice\n"),
+    names("no such flow", ["b.pcap -"], words=[b"agree", b"s", b"2"], status=2, report=b"script line 0 octet 0 NoFlow\n"),
+    names("versions of another flow", ["b.pcap -"], words=[b"agree", b"s", b"1", b"1"], status=2, report=b"script line 0 octet 0 BadVersions\n"),
+    names("no script to compare hops of", ["b.pcap -"], words=[b"agree", b"absent", b"1"], status=3, report=b""),
+    names("hops compared with an empty list", ["b.pcap -"], words=[b"agree", b"s", b"1", b""], status=1, report=None),
     names("no words", [], words=[b"help"], status=1, report=None),
     names("a file of the program's own folder", [], words=[b"show", b"README.md"], status=3, report=b""),
     names("a capture by another spelling", [], words=[b"show", b"./b.pcap"], status=0, report=b"packet 1 NotIp\nend packets 1\n"),

@@ -5,8 +5,8 @@ to the caller's names after it has ended. So where it has no answer, every file 
 whole, as on a full disk, those before it are in place, and its own file holds what it held or some first octets. A signal that ends this script comes
 before the first capture is brought or after the last. The report is written behind them, so they are all in place where it can't be.
 
-A script is lent twice in one try: as it stands, for `check`, which tells its first fault or limit at the octet where it is; and with other names of
-files, for `run`, whose answer counts where the script is right.
+A script is lent as it stands for `check` and `agree`, which tell its first fault or limit at the octet where it is. For `run` it is lent twice in one try:
+so for `check`, and with other names of files for `run`, whose answer counts where the script is right.
 """
 import contextlib
 import errno
@@ -298,8 +298,9 @@ def asking_file(trial, folder, words):
     return lambda: said_unread(asked(), name)
 
 
-def asking_check(trial, folder, name):
-    asked = trial.ask([b"check", Script(name).lend_as_it_is(folder, trial.lent)])
+def asking_script(trial, folder, command, name, behind):
+    """Of `check` and `agree`, which read a script and none of the files that its flows name."""
+    asked = trial.ask([command, Script(name).lend_as_it_is(folder, trial.lent), *behind])
     return lambda: said_unread(asked(), name)
 
 
@@ -334,8 +335,8 @@ def asking(trial, folder, words):
     if len(words) == READ_ONE.get(command) and FILE_NAME.fullmatch(words[-1]):
         return asking_file(trial, folder, words)
     if len(words) > 1 and FILE_NAME.fullmatch(words[1]):
-        if command == b"check" and len(words) == 2:
-            return asking_check(trial, folder, words[1])
+        if (command == b"check" and len(words) == 2) or (command == b"agree" and len(words) in (3, 4)):
+            return asking_script(trial, folder, command, words[1], words[2:])
         if command == b"run":
             return asking_run(trial, folder, words[1], words[2:])
     return trial.ask(words)

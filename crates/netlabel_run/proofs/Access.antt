@@ -14,7 +14,7 @@ use Rattle.flow_run.specs.Input.{packets_in}
 use Rattle.flow_run.specs.Run.{FlowRun}
 use Rattle.script_run.specs.Runs.{plan_of, AreRuns}
 use Rattle.netlabel_run.specs.declared.command.Command.{Command}
-use Rattle.netlabel_run.specs.declared.command.Command.TheVariants.{Judge, Check, Show, Run}
+use Rattle.netlabel_run.specs.declared.command.Command.TheVariants.{Judge, Check, Show, Agree, Run}
 use Rattle.netlabel_run.specs.ScriptFile.{script_read, ByAnswer, ByScript}
 use Rattle.netlabel_run.specs.Run.{AreItsRuns, HasRunAccess}
 use Rattle.netlabel_run.specs.Commands.{netlabel_says}
@@ -55,4 +55,5 @@ has_access None held seen = tt
 has_access (Some (Judge doi level file)) held seen = tt
 has_access (Some (Check file)) held seen = tt
 has_access (Some (Show file)) held seen = tt
+has_access (Some (Agree file flow versions)) held seen = tt
 has_access (Some (Run file workers)) held seen = of_file file (held file) held seen

@@ -15,7 +15,7 @@ use Rattle.call_report.specs.CallEnds.{CallEnds}
 use Rattle.netlabel_run.specs.ScriptFile.{script_read}
 use Rattle.netlabel_run.specs.Check.{check_text, script_report, CheckReport, script_status, CheckStatus}
 use Rattle.netlabel_run.specs.Commands.{netlabel_says}
-use Rattle.call_report.specs.Report.{Report, late_report}
+use Rattle.call_report.specs.Report.{Report}
 use Rattle.call_report.specs.Stages.{reading_stage}
 use Rattle.call_report.specs.Outside.{Outside}
 use Rattle.call_report.specs.Status.{status_number}
@@ -37,10 +37,6 @@ module _ (file : List ℕ) where
   check_pauses None report has = ap (λ (r : Report). r.pauses) has
   check_pauses (Some text) report has = ap (λ (r : Report). r.pauses) has ∙ pauses_late (script_read file text)
 
-  some_report : (held : Option (List ℕ)) → (report : Report) × CheckReport file held report
-  some_report None = (late_report [] [], refl)
-  some_report (Some text) = (script_report (script_read file text), refl)
-
   has_status : (held : Option (List ℕ)) (text : List ℕ) (read : Result Script ScriptStop) → held ≡ Some text → script_read file text ≡ read → CheckStatus file held (script_status read)
   has_status held text read holds is = subst (λ (o : Option (List ℕ)). CheckStatus file o (script_status read)) (sym holds) (ap script_status (sym is))
 
@@ -54,7 +50,6 @@ module _ (file : List ℕ) where
     knows = λ before after reads told. knows_reading (netlabel_says asked) file before after refl refl refl reads told;
     refused = λ held text why holds is. record { status = has_status (held file) text (Err why) holds is; report = has_report (held file) text (Err why) holds is; whole = refl };
     may = λ text why is. (λ name. Some text, ap script_status (sym is));
-    begins = λ held. let r = some_report (held file) in record { report = r.0; has = r.1; rest = r.0.body; body = refl };
     pauses = λ held report has. subst (λ pauses. Contains pauses []) (sym (check_pauses (held file) report has)) (0, omega arith, refl);
   }
 

@@ -6,24 +6,28 @@ use Rattle.std.specs.declared.alloc.Global.{Global}
 use Rattle.std.proofs.lemmas.Fmt.{decimal_injective}
 use Rattle.std.proofs.lemmas.List.{length-map}
 use Rattle.mls_label.specs.declared.label.Label.{Label}
-use Rattle.netlabel_run.specs.declared.command.Command.TheVariants.{Judge, Check, Show, Run}
-use Rattle.netlabel_run.specs.Words.{texts_of, IsLevel, NamesWorkers, plainly, with_workers, IsForm}
+use Rattle.netlabel_run.specs.declared.command.Command.TheVariants.{Judge, Check, Show, Agree, Run}
+use Rattle.netlabel_run.specs.Words.{texts_of, IsLevel, NamesWorkers, plainly, with_workers, without_versions, with_versions, IsForm}
 
 -- words whose level is none ask for nothing
 pub no_level : (doi level file : List ℕ) → ((l : Label) → IsLevel level l → ⊥) → IsForm (codes "judge" ∷ doi ∷ level ∷ file ∷ []) → ⊥
 no_level doi level file none (Check f, asks) = omega (arith, ap length asks.are)
 no_level doi level file none (Show f, asks) = omega (arith, ap length asks.are)
+no_level doi level file none (Agree f n vs, without_versions t are name is) = omega (arith, ap length are)
+no_level doi level file none (Agree f n vs, with_versions t l v are name is lists) = absurd (let no = are in cc)
 no_level doi level file none (Run f n, plainly are name) = omega (arith, ap length are)
 no_level doi level file none (Run f n, with_workers t w are name named) = absurd (let no = are in cc)
 no_level doi level file none (Judge d l f, asks) = none l (subst (λ t. IsLevel t l) (sym (ap (λ ws. get_or ws 2 []) asks.are)) asks.is_level)
 
--- all forms have two words or four
-pub no_words : (words : List (String Global)) → length words ≢ 2 → length words ≢ 4 → IsForm (texts_of words) → ⊥
-no_words words two four (Judge d l f, asks) = four (sym (length-map words string_bytes) ∙ ap length asks.are)
-no_words words two four (Check f, asks) = two (sym (length-map words string_bytes) ∙ ap length asks.are)
-no_words words two four (Show f, asks) = two (sym (length-map words string_bytes) ∙ ap length asks.are)
-no_words words two four (Run f n, plainly are name) = two (sym (length-map words string_bytes) ∙ ap length are)
-no_words words two four (Run f n, with_workers t w are name named) = four (sym (length-map words string_bytes) ∙ ap length are)
+-- all forms have two words, three or four
+pub no_words : (words : List (String Global)) → length words ≢ 2 → length words ≢ 3 → length words ≢ 4 → IsForm (texts_of words) → ⊥
+no_words words two three four (Judge d l f, asks) = four (sym (length-map words string_bytes) ∙ ap length asks.are)
+no_words words two three four (Check f, asks) = two (sym (length-map words string_bytes) ∙ ap length asks.are)
+no_words words two three four (Show f, asks) = two (sym (length-map words string_bytes) ∙ ap length asks.are)
+no_words words two three four (Agree f n vs, without_versions t are name is) = three (sym (length-map words string_bytes) ∙ ap length are)
+no_words words two three four (Agree f n vs, with_versions t l v are name is lists) = four (sym (length-map words string_bytes) ∙ ap length are)
+no_words words two three four (Run f n, plainly are name) = two (sym (length-map words string_bytes) ∙ ap length are)
+no_words words two three four (Run f n, with_workers t w are name named) = four (sym (length-map words string_bytes) ∙ ap length are)
 
 -- a text of another number names no workers
 pub no_workers : (text : List ℕ) (n : ℕ) → text ≡ decimal n → n < 2 ^ 64 → (n ≡ 0) ⊎ ((n ≡ 0 → ⊥) × 16 < n) → (workers : ℕ) → NamesWorkers text workers → ⊥

@@ -127,6 +127,10 @@ module _ (request : Option Command) (before after : Outside) (stages : List Stag
   short_of_memory : IsClean stages before after 6 → ⊥
   short_of_memory clean = elim clean [ inl e ↦ omega (arith, e) | inr c ↦ c.0 refl ]
 
+  -- some first octets of no text are none
+  no_octets : WritesPrefix [] before.stream.written after.stream.written → IsWritten [] before after
+  no_octets prefix = prefix.written ∙ ap (λ t. before.stream.written ++ t) (take_all prefix.count [] (omega arith))
+
   -- no read has failed, or one that is counted and may have something in front of it
   abbrev Reads : Type 0
   Reads = SameCounts before.folder.reads after.folder.reads ⊎ (ReadRose stages before after × (says.late [] → ⊥))
@@ -160,6 +164,21 @@ module _ (request : Option Command) (before after : Outside) (stages : List Stag
   pub ends_unprinted : SameCounts before.folder.reads after.folder.reads → after.stream ≡ before.stream → CallEnds netlabel_says request before after 6 []
   ends_unprinted reads same =
       ends_without_memory (inl reads) (ap (λ (s : SinkState). s.faults) same) (λ told out. inl (ap (λ (s : SinkState). s.written) same ∙ sym (append-nil before.stream.written)))
+
+  -- memory ran out, and nothing was to be printed
+  pub ends_with_nothing : (status : Status) → SameCounts before.folder.reads after.folder.reads → Printed [] [] OutOfMemory status before.stream after.stream → CallEnds netlabel_says request before after (status_number status) []
+  ends_with_nothing status reads printed =
+      let ended = λ (n : ℕ). CallEnds netlabel_says request before after n [] in
+      elim printed.how [
+        | inl all ↦ subst ended (sym (ap status_number all.0)) (ends_without_memory (inl reads) all.1 (λ told out. inl (all.2 out)))
+        | inr rest ↦ elim rest [
+          | inl memory ↦ subst ended (sym (ap status_number memory.0)) (ends_without_memory (inl reads) memory.1 (λ told out. inl (no_octets (memory.2 out))))
+          | inr failed ↦ elim failed [
+            | inl broken ↦ absurd (omega (arith, broken.2.some))
+            | inr line ↦ absurd (omega (arith, line.2))
+          ]
+        ]
+      ]
 
   -- memory ran out behind the beginning of a report
   pub ends_short : (text : List ℕ) → Reads → after.stream.faults ≡ before.stream.faults → (IsTrue before.folder.tells → Begins says before.folder.held text) → (IsTrue before.stream.tells → WritesPrefix text before.stream.written after.stream.written)

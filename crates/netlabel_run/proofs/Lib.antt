@@ -4,6 +4,12 @@ pub mod Judging
 pub mod Granted
 pub mod Scripts
 pub mod Checking
+pub mod Found
+pub mod Agreeing
+pub mod Numbers
+pub mod Splits
+pub mod Comparing
+pub mod Flows
 pub mod Runs
 pub mod Running
 pub mod Commands

@@ -13,12 +13,13 @@ use Rattle.pcap_frames.specs.declared.header.CaptureHeader.{CaptureHeader}
 use Rattle.pcap_frames.specs.declared.fault.CaptureFault.{CaptureFault}
 use Rattle.pcap_frames.specs.Capture.{Capture, capture_of}
 use Rattle.netlabel_run.specs.declared.command.Command.{Command}
-use Rattle.netlabel_run.specs.declared.command.Command.TheVariants.{Judge, Check, Show, Run}
+use Rattle.netlabel_run.specs.declared.command.Command.TheVariants.{Judge, Check, Show, Agree, Run}
 use Rattle.call_report.specs.Lines.Denial.{verdict_line}
-use Rattle.netlabel_run.specs.Words.{AsksToJudge, AsksToRun, plainly, with_workers, IsAsked}
+use Rattle.netlabel_run.specs.Words.{AsksToJudge, AsksToRun, plainly, with_workers, number_named, versions_named, AsksToAgree, without_versions, with_versions, IsAsked}
 use Rattle.netlabel_run.specs.ScriptFile.{script_read, ByAnswer, ByScript, script_stop_status}
 use Rattle.netlabel_run.specs.Judge.{JudgeReport, absent, too_long, judged, JudgeStatus}
 use Rattle.netlabel_run.specs.Check.{CheckReport, CheckStatus}
+use Rattle.netlabel_run.specs.Agree.{AgreeAnswer, AgreeReport, AgreeStatus}
 use Rattle.netlabel_run.specs.Show.{lines_report, CaptureReport, ShowReport, ShowStatus}
 use Rattle.netlabel_run.specs.Run.{AreItsRuns, flow_stage}
 use Rattle.netlabel_run.specs.Commands.{netlabel_says}
@@ -30,9 +31,10 @@ use Rattle.flow_run.specs.Run.{FlowRun}
 use Rattle.script_run.specs.Runs.{plan_of, StatusOr, FlowsStatus}
 use Rattle.script_run.specs.Report.{runs_report, runs_outputs}
 use Rattle.script_run.proofs.Law.{runs_are_determined}
-use Rattle.call_report.specs.Report.{Folder, Versions, late_report}
+use Rattle.call_report.specs.Report.{Folder, Versions, Report, late_report}
 use Rattle.netlabel_run.specs.Laws.{IsOne, IsDetermined}
 use Rattle.netlabel_run.proofs.Answer.{verdict_once, lines_once}
+use Rattle.netlabel_run.proofs.Found.{one_answer}
 
 judge_report_once : (doi : ℕ) (level : Label) (file : Option (List ℕ)) → IsOne (JudgeReport doi level file)
 judge_report_once doi level None a b absent absent = refl
@@ -82,6 +84,16 @@ by_script_once : {A : Type 0} (file : List ℕ) (o : Option (List ℕ)) (nothing
 by_script_once {A} file None nothing refused read n r s = n
 by_script_once {A} file (Some text) nothing refused read n r s = by_answer_once (script_read file text) refused read r s
 
+agree_status_once : (name : List ℕ) (number : ℕ) (named : Option (List ℕ)) (file : Option (List ℕ)) → IsOne (AgreeStatus name number named file)
+agree_status_once name number named file = by_script_once name file (λ status. ⊥) (λ stop status. status ≡ script_stop_status stop)
+    (λ script status. (report : Report) × AgreeAnswer script number named status report)
+    (λ a b x y. absurd x) (λ stop a b x y. x ∙ sym y) (λ script a b x y. (one_answer script number named a b x.0 y.0 x.1 y.1).0)
+
+agree_report_once : (name : List ℕ) (number : ℕ) (named : Option (List ℕ)) (file : Option (List ℕ)) → IsOne (AgreeReport name number named file)
+agree_report_once name number named file = by_script_once name file (λ report. report ≡ late_report [] []) (λ stop report. report ≡ late_report [] (script_stop_line stop))
+    (λ script report. (status : ℕ) × AgreeAnswer script number named status report)
+    (λ a b x y. x ∙ sym y) (λ stop a b x y. x ∙ sym y) (λ script a b x y. (one_answer script number named x.0 y.0 a b x.1 y.1).1)
+
 status_or_once : (event : Option Event) (header : Option CaptureHeader) (Rest : ℕ → Type 0) → IsOne Rest → IsOne (λ status. StatusOr event header (Rest status) status)
 status_or_once (Some event) header Rest one a b x y = x ∙ sym y
 status_or_once None (Some header) Rest one a b x y = one a b x y
@@ -112,6 +124,37 @@ run_once words file file' workers workers' (with_workers t w are name named) (wi
     let same_workers : w ≡ w' = decimal_injective w w' (omega (arith, named.few)) (omega (arith, named'.few)) (sym named.is ∙ n ∙ named'.is) in
     cc
 
+run_begins : (words : List (List ℕ)) (file : List ℕ) (workers : ℕ) → AsksToRun words file workers → get_or words 0 [] ≡ codes "run"
+run_begins words file workers (plainly are name) = ap (λ ws. get_or ws 0 []) are
+run_begins words file workers (with_workers t w are name named) = ap (λ ws. get_or ws 0 []) are
+
+-- words that begin with another one don't ask to compare hops
+agree_has_no_word : (words : List (List ℕ)) (file : List ℕ) (flow : ℕ) (versions : Option (List ℕ)) (command : List ℕ) → AsksToAgree words file flow versions → get_or words 0 [] ≡ command
+    → (command ≡ codes "agree" → ⊥) → ⊥
+agree_has_no_word words file flow versions command (without_versions t are name is) begins other = other (sym begins ∙ ap (λ ws. get_or ws 0 []) are)
+agree_has_no_word words file flow versions command (with_versions t l v are name is lists) begins other = other (sym begins ∙ ap (λ ws. get_or ws 0 []) are)
+
+agree_once : (words : List (List ℕ)) (file file' : List ℕ) (flow flow' : ℕ) (versions versions' : Option (List ℕ)) → AsksToAgree words file flow versions → AsksToAgree words file' flow' versions'
+    → Some (Agree file flow versions) ≡ Some (Agree file' flow' versions')
+agree_once words file file' flow flow' versions versions' (without_versions t are name is) (without_versions t' are' name' is') =
+    let same = sym are ∙ are' in
+    let f : file ≡ file' = ap (λ ws. get_or ws 1 []) same in
+    let n : t ≡ t' = ap (λ ws. get_or ws 2 []) same in
+    let some_same : Some flow ≡ Some flow' = sym is ∙ ap number_named n ∙ is' in
+    let flow_same : flow ≡ flow' = cc in
+    cc
+agree_once words file file' flow flow' versions versions' (without_versions t are name is) (with_versions t' l' v' are' name' is' lists') = absurd (omega (arith, ap length are, ap length are'))
+agree_once words file file' flow flow' versions versions' (with_versions t l v are name is lists) (without_versions t' are' name' is') = absurd (omega (arith, ap length are, ap length are'))
+agree_once words file file' flow flow' versions versions' (with_versions t l v are name is lists) (with_versions t' l' v' are' name' is' lists') =
+    let same = sym are ∙ are' in
+    let f : file ≡ file' = ap (λ ws. get_or ws 1 []) same in
+    let n : t ≡ t' = ap (λ ws. get_or ws 2 []) same in
+    let m : l ≡ l' = ap (λ ws. get_or ws 3 []) same in
+    let some_same : Some flow ≡ Some flow' = sym is ∙ ap number_named n ∙ is' in
+    let flow_same : flow ≡ flow' = cc in
+    let versions_same : Some v ≡ Some v' = sym lists ∙ ap versions_named m ∙ lists' in
+    cc
+
 pub determined : (request : Option Command) (held : Folder) (seen : Versions) → IsDetermined (netlabel_says request) held seen
 determined None held seen = record {
   status = λ a b x y. x ∙ sym y;
@@ -134,6 +177,12 @@ determined (Some (Check file)) held seen = record {
 determined (Some (Show file)) held seen = record {
   status = show_status_once (held file);
   report = show_report_once (held file);
+  stages = λ a b x y. x ∙ sym y;
+  outputs = λ a b x y. x ∙ sym y;
+}
+determined (Some (Agree file flow versions)) held seen = record {
+  status = agree_status_once file flow versions (held file);
+  report = agree_report_once file flow versions (held file);
   stages = λ a b x y. x ∙ sym y;
   outputs = λ a b x y. x ∙ sym y;
 }
@@ -181,4 +230,13 @@ asked_once words (Some (Run file workers)) (Some (Check file')) a b = absurd (ru
 asked_once words (Some (Check file)) (Some (Run file' workers)) a b = absurd (run_has_no_word words file' workers (codes "check") file b a.are (λ e. cc))
 asked_once words (Some (Run file workers)) (Some (Show file')) a b = absurd (run_has_no_word words file workers (codes "show") file' a b.are (λ e. cc))
 asked_once words (Some (Show file)) (Some (Run file' workers)) a b = absurd (run_has_no_word words file' workers (codes "show") file b a.are (λ e. cc))
+asked_once words (Some (Agree file flow versions)) (Some (Judge doi level file')) a b = absurd (agree_has_no_word words file flow versions (codes "judge") a (ap (λ ws. get_or ws 0 []) b.are) (λ e. cc))
+asked_once words (Some (Judge doi level file)) (Some (Agree file' flow versions)) a b = absurd (agree_has_no_word words file' flow versions (codes "judge") b (ap (λ ws. get_or ws 0 []) a.are) (λ e. cc))
+asked_once words (Some (Agree file flow versions)) (Some (Check file')) a b = absurd (agree_has_no_word words file flow versions (codes "check") a (ap (λ ws. get_or ws 0 []) b.are) (λ e. cc))
+asked_once words (Some (Check file)) (Some (Agree file' flow versions)) a b = absurd (agree_has_no_word words file' flow versions (codes "check") b (ap (λ ws. get_or ws 0 []) a.are) (λ e. cc))
+asked_once words (Some (Agree file flow versions)) (Some (Show file')) a b = absurd (agree_has_no_word words file flow versions (codes "show") a (ap (λ ws. get_or ws 0 []) b.are) (λ e. cc))
+asked_once words (Some (Show file)) (Some (Agree file' flow versions)) a b = absurd (agree_has_no_word words file' flow versions (codes "show") b (ap (λ ws. get_or ws 0 []) a.are) (λ e. cc))
+asked_once words (Some (Agree file flow versions)) (Some (Run file' workers)) a b = absurd (agree_has_no_word words file flow versions (codes "run") a (run_begins words file' workers b) (λ e. cc))
+asked_once words (Some (Run file workers)) (Some (Agree file' flow versions)) a b = absurd (agree_has_no_word words file' flow versions (codes "run") b (run_begins words file workers a) (λ e. cc))
+asked_once words (Some (Agree file flow versions)) (Some (Agree file' flow' versions')) a b = agree_once words file file' flow flow' versions versions' a b
 asked_once words (Some (Run file workers)) (Some (Run file' workers')) a b = run_once words file file' workers workers' a b

@@ -505,19 +505,10 @@ of_refused : (file : List ℕ) (held : Option (List ℕ)) (text : List ℕ) (why
 of_refused file held text why holds is absent refused read h =
     subst (λ (o : Option (List ℕ)). ByScript file o absent refused read) (sym holds) (subst (λ (r : Result Script ScriptStop). ByAnswer r refused read) (sym is) h)
 
--- its report begins with nothing
+-- its report where no flow has begun
 abbrev BeginsSo : List ℕ → Folder → Option (List ℕ) → Report → Type 0
 BeginsSo file held o report = ByScript file o (report ≡ late_report [] []) (λ stop. report ≡ late_report [] (script_stop_line stop))
     (λ script. (runs : List FlowRun) × AreItsRuns script held [] runs × (report ≡ runs_report script runs))
-
-begins_by : (held : Folder) (answer : Result Script ScriptStop) → (report : Report) × ByAnswer answer (λ stop. report ≡ late_report [] (script_stop_line stop))
-    (λ script. (runs : List FlowRun) × AreItsRuns script held [] runs × (report ≡ runs_report script runs))
-begins_by held (Err why) = (late_report [] (script_stop_line why), refl)
-begins_by held (Ok script) = (runs_report script [], ([], tt, refl))
-
-begins_so : (file : List ℕ) (held : Folder) (o : Option (List ℕ)) → (report : Report) × BeginsSo file held o report
-begins_so file held None = (late_report [] [], refl)
-begins_so file held (Some text) = begins_by held (script_read file text)
 
 none_run : (plan : PlanState) (held : Folder) (number most : ℕ) (flows : List FlowLine) (runs : List FlowRun) → AreRuns plan held number most flows [] runs → runs ≡ []
 none_run plan held number most flows [] h = refl
@@ -550,6 +541,5 @@ run_reads file workers = record {
     whole = of_refused file (held file) text why holds is _ _ _ refl;
   };
   may = λ text why is. (text, subst (λ (r : Result Script ScriptStop). RunMay r (script_stop_status why)) (sym is) refl);
-  begins = λ held. let r = begins_so file held (held file) in record { report = r.0; has = r.1; rest = r.0.body; body = refl };
   pauses = λ held report has. pauses_so file held (held file) report has;
 }

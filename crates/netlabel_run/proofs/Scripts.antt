@@ -1,5 +1,5 @@
 -- How a call ends that reads a script from the file which its words name, where it gets none, over plain values.
-use Rattle.std.proofs.Common.{◌≡◌, ◌≢◌, ◌<◌, ℕ, replicate, List, [], ◌∷◌, length, Option, Some, None, Err, refl, sym, ap, subst, ◌∙◌, arith, inl}
+use Rattle.std.proofs.Common.{◌≡◌, ◌≢◌, ◌<◌, ℕ, replicate, List, [], ◌∷◌, length, Option, Some, None, Result, Err, refl, sym, ap, subst, ◌∙◌, arith, inl}
 use Rattle.std.specs.Prelude.{IsTrue}
 use Rattle.std.proofs.lemmas.Bool.{lt-ltb}
 use Rattle.std.proofs.lemmas.List.{append-nil, length-replicate}
@@ -8,6 +8,7 @@ use Rattle.net_io.specs.Faults.{Rose, SameCounts}
 use Rattle.net_io.specs.Sink.{SinkState}
 use Rattle.script_lines.specs.declared.stop.LimitName.TheVariants.{Octets}
 use Rattle.script_lines.specs.Form.{with_translations}
+use Rattle.label_commands.specs.declared.script.Script.{Script}
 use Rattle.label_commands.specs.declared.stop.ScriptStop.{ScriptStop}
 use Rattle.label_commands.specs.declared.stop.ScriptStop.TheVariants as stop
 use Rattle.label_commands.specs.Script.{read_text, IsScriptStop}
@@ -21,11 +22,17 @@ use Rattle.call_report.specs.Outside.{Outside}
 use Rattle.call_report.specs.Printing.{Printed}
 use Rattle.netlabel_run.specs.declared.command.Command.{Command}
 use Rattle.call_report.specs.CallEnds.{CallEnds}
-use Rattle.netlabel_run.specs.ScriptFile.{script_read, script_stop_status}
+use Rattle.netlabel_run.specs.ScriptFile.{script_read, ByAnswer, ByScript, script_stop_status}
 use Rattle.netlabel_run.specs.Commands.{netlabel_says}
 use Rattle.netlabel_run.specs.inside.Stopping.{script_due}
 use Rattle.netlabel_run.specs.inside.Ending.{IsOnlyRead, Knows, ReadsScript}
-use Rattle.netlabel_run.proofs.Endings.{ends_printed, ends_stopped_short, ends_unread, ends_unprinted}
+use Rattle.netlabel_run.proofs.Endings.{ends_printed, ends_with_nothing, ends_unread, ends_unprinted}
+
+-- what is said of a file that holds this text, by what is read of it
+pub in_file : (file : List ℕ) (held : Option (List ℕ)) (text : List ℕ) (answer : Result Script ScriptStop) → held ≡ Some text → script_read file text ≡ answer
+    → (absent : Type 0) (refused : ScriptStop → Type 0) (read : Script → Type 0) → ByAnswer answer refused read → ByScript file held absent refused read
+in_file file held text answer holds is absent refused read has =
+    subst (λ (o : Option (List ℕ)). ByScript file o absent refused read) (sym holds) (subst (λ (r : Result Script ScriptStop). ByAnswer r refused read) (sym is) has)
 
 too_long_by : (text : List ℕ) (file : List ℕ) → 1048576 < length text → script_read file text ≡ Err (stop.Limit Octets 1048576)
 unfolding read_text
@@ -72,7 +79,7 @@ module _ (asked : Option Command) (file : List ℕ) (asks : ReadsScript asked fi
       refused_by text (stop.Fault fault) WrongScript status is (λ told. (text, holds told, is)) refl (λ e. omega (arith, e), λ e. omega (arith, e), λ e. omega (arith, e)) (λ e. omega (arith, e)) (λ e. omega (arith, e)) counts printed
   ends_refused counts text (stop.Limit what number) status holds is printed =
       refused_by text (stop.Limit what number) Limit status is (λ told. (text, holds told, is)) refl (λ e. omega (arith, e), λ e. omega (arith, e), λ e. omega (arith, e)) (λ e. omega (arith, e)) (λ e. omega (arith, e)) counts printed
-  ends_refused counts text stop.OutOfMemory status holds is printed = ends_stopped_short asked before after (reading_stage file ∷ []) known [] asks.form (λ told. asks.begins before.folder.held) status counts printed
+  ends_refused counts text stop.OutOfMemory status holds is printed = ends_with_nothing asked before after (reading_stage file ∷ []) known status counts printed
 
   there : (held : Option (List ℕ)) → 1048576 < length (octets_of held) → (text : List ℕ) × (held ≡ Some text) × (script_read file text ≡ Err (stop.Limit Octets 1048576))
   there None long = absurd (omega (arith, long))

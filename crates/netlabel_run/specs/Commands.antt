@@ -5,11 +5,12 @@ use Rattle.call_report.specs.Outside.{Outside}
 use Rattle.call_report.specs.Says.{Says}
 use Rattle.call_report.specs.CallEnds.{CallEnds}
 use Rattle.netlabel_run.specs.declared.command.Command.{Command}
-use Rattle.netlabel_run.specs.declared.command.Command.TheVariants.{Judge, Check, Show, Run}
+use Rattle.netlabel_run.specs.declared.command.Command.TheVariants.{Judge, Check, Show, Agree, Run}
 use Rattle.netlabel_run.specs.Usage.{usage_says}
 use Rattle.netlabel_run.specs.Judge.{judge_says}
 use Rattle.netlabel_run.specs.Check.{check_says}
 use Rattle.netlabel_run.specs.Show.{show_says}
+use Rattle.netlabel_run.specs.Agree.{agree_says}
 use Rattle.netlabel_run.specs.Run.{run_says}
 
 -- all that is said of each command, and of words that are no form
@@ -18,6 +19,7 @@ netlabel_says None = usage_says
 netlabel_says (Some (Judge doi level file)) = judge_says doi level file
 netlabel_says (Some (Check file)) = check_says file
 netlabel_says (Some (Show file)) = show_says file
+netlabel_says (Some (Agree file flow versions)) = agree_says file flow versions
 netlabel_says (Some (Run file workers)) = run_says file workers
 
 -- some call ends with this status

@@ -4,6 +4,7 @@ pub mod ScriptFile
 pub mod Judge
 pub mod Check
 pub mod Show
+pub mod Agree
 pub mod Run
 pub mod Commands
 pub mod Laws

@@ -5,10 +5,12 @@ use Rattle.std.specs.declared.alloc.Global.{Global}
 use Rattle.mls_label.specs.declared.label.Label.{Label}
 use Rattle.mls_range.specs.LabelText.{IsLabelText}
 use Rattle.mls_range.specs.TextFault.{IsRoomyLabel}
+use Rattle.address_text.specs.Number.{number_of_text}
 use Rattle.command_values.specs.Doi.{doi_of_text}
+use Rattle.command_values.specs.List.{list_of_text}
 use Rattle.flow_lines.specs.FileName.{is_file_name}
 use Rattle.netlabel_run.specs.declared.command.Command.{Command}
-use Rattle.netlabel_run.specs.declared.command.Command.TheVariants.{Judge, Check, Show, Run}
+use Rattle.netlabel_run.specs.declared.command.Command.TheVariants.{Judge, Check, Show, Agree, Run}
 
 -- the octets of each word
 abbrev pub texts_of : List (String Global) → List (List ℕ)
@@ -50,11 +52,25 @@ pub data AsksToRun (words : List (List ℕ)) (file : List ℕ) : ℕ → Type 0 
   with_workers : (text : List ℕ) (workers : ℕ) → words ≡ codes "run" ∷ file ∷ codes "-w" ∷ text ∷ [] → IsTrue (is_file_name file) → NamesWorkers text workers
       → AsksToRun words file workers
 
+-- A number that a word names is below 2^32 and has no leading zero, and so has each of the versions that it lists with commas between.
+abbrev pub number_named : List ℕ → Option ℕ
+number_named text = number_of_text 4294967295 text
+
+abbrev pub versions_named : List ℕ → Option (List ℕ)
+versions_named text = list_of_text number_named text
+
+-- `agree <script> <flow>`, or `agree <script> <flow> <versions>`
+pub data AsksToAgree (words : List (List ℕ)) (file : List ℕ) (flow : ℕ) : Option (List ℕ) → Type 0 where
+  without_versions : (text : List ℕ) → words ≡ codes "agree" ∷ file ∷ text ∷ [] → IsTrue (is_file_name file) → number_named text ≡ Some flow → AsksToAgree words file flow None
+  with_versions : (text list : List ℕ) (versions : List ℕ) → words ≡ codes "agree" ∷ file ∷ text ∷ list ∷ [] → IsTrue (is_file_name file) → number_named text ≡ Some flow
+      → versions_named list ≡ Some versions → AsksToAgree words file flow (Some versions)
+
 -- the words are of the command's form
 abbrev pub Asks : List (List ℕ) → Command → Type 0
 Asks words (Judge doi level file) = AsksToJudge words doi level file
 Asks words (Check file) = AsksToCheck words file
 Asks words (Show file) = AsksToShow words file
+Asks words (Agree file flow versions) = AsksToAgree words file flow versions
 Asks words (Run file workers) = AsksToRun words file workers
 
 -- the words are of one of the forms

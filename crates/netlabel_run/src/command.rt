@@ -1,5 +1,6 @@
 //! What the words of the command line ask for.
 
+use crate::versions::NamedVersions;
 use command_values::Doi;
 use mls_label::Label;
 use octet_grammar::read_decimal;
@@ -21,6 +22,12 @@ pub(crate) enum Command<'a> {
     /// `show`: what each packet of a capture carries.
     Show {
         file: FileName<'a>,
+    },
+    /// `agree`: whether each two neighbouring hops of a script's flow agree, under these versions of the tables.
+    Agree {
+        file: FileName<'a>,
+        flow: u32,
+        versions: Option<NamedVersions<'a>>,
     },
     /// `run`: the flows of a script, with so many workers.
     Run {

@@ -1,7 +1,13 @@
 //! Laws: what is true of the definitions alone. Each is a function with nothing to do, whose clause is the law.
 
-ghost use Rattle.std.specs.Prelude.{◌≡◌, ◌<◌, ℕ, List, Option, ◌↔◌, Ok};
+ghost use Rattle.std.specs.Prelude.{◌≡◌, ◌<◌, ℕ, List, Option, ◌↔◌, Ok, IsTrue, is_none};
+ghost use Rattle.std.specs.List.{list_all};
 ghost use Rattle.mls_label.specs.declared.label.Label.{Label};
+ghost use Rattle.flow_lines.specs.declared.hop.Hop.{Hop};
+ghost use Rattle.node_readings.specs.Reading.{NamedMeanings};
+ghost use Rattle.node_agreement.specs.declared.disagree.Disagree.{Disagree};
+ghost use Rattle.shared_tables.specs.Plan.{PlanState};
+ghost use Rattle.flow_access.specs.Kept.{NeighboursAgree};
 ghost use Rattle.call_report.specs.Report.{Folder, Versions, Report};
 ghost use Rattle.call_report.specs.Output.{Output};
 ghost use Rattle.netlabel_run.specs.declared.command.Command.{Command};
@@ -11,6 +17,7 @@ ghost use Rattle.netlabel_run.specs.Run.{run_says};
 ghost use Rattle.netlabel_run.specs.Laws.{IsOne, IsDetermined, IsAnswer};
 ghost use Rattle.netlabel_run.specs.Laws.{HasNoCommandBeside, HoldTheSame};
 ghost use Rattle.netlabel_run.specs.Judge.{IsVerdict, IsGranted};
+ghost use Rattle.netlabel_run.specs.Agree.{AreFound};
 
 /// Words ask for one thing: a command with what it names, or none.
 pub fn words_ask_for_one_thing()
@@ -46,4 +53,12 @@ pub fn scripts_without_commands_beside_have_one_answer()
 pub fn labels_are_delivered_exactly_where_granted()
     ensures { (doi : ℕ) (level : Label) (octets : List ℕ) (label : Label)
         → (IsVerdict doi level octets (Ok label) ↔ IsGranted doi level octets label) }
+{}
+
+/// `agree` is the last line exactly where each two neighbouring hops agree, each with the tables of its version: what access asks of neighbours.
+pub fn agreement_is_told_where_neighbours_agree()
+    ensures { (plan : PlanState) (readings : List NamedMeanings) (hops : List Hop)
+        (versions : List ℕ) (found : List (Option Disagree))
+        → AreFound plan readings hops versions found
+        → (IsTrue (list_all is_none found) ↔ NeighboursAgree plan readings hops versions) }
 {}

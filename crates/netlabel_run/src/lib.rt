@@ -2,8 +2,10 @@
 //! come out. All that the program does is `netlabel`, and its contract says what.
 #![tactic(auto)]
 
+mod agree;
 mod check;
 mod command;
+mod compare;
 mod judge;
 pub mod laws;
 mod outcome;
@@ -14,6 +16,7 @@ mod show;
 mod tests;
 mod top;
 mod verdict;
+mod versions;
 mod words;
 
 pub use call_report::{FlowSeen, Seen};

@@ -1,6 +1,8 @@
 //! Worked words and failing calls, over a folder and a stream in memory; packets stand in `packets`, captures in
-//! `captures`, scripts in `scripts`, flows that run in `flows` and `gates`.
+//! `captures`, scripts in `scripts`, hops that are compared in
+//! `agreement`, flows that run in `flows` and `gates`.
 
+mod agreement;
 mod captures;
 mod flows;
 mod gates;
@@ -74,7 +76,7 @@ fn answers<R: Abort + Threads + Wait + Sync>(
 }
 
 /// Words of each form over a folder with one packet in `p.bin`, the status, and what is printed.
-const FORMS: [(&str, u8, &str); 11] = [
+const FORMS: [(&str, u8, &str); 13] = [
     ("judge 16 s2:c0.c5 p.bin", 0, "delivered s2:c1,c3\n"),
     ("judge 16 s2:c3,c1,c1 p.bin", 0, "delivered s2:c1,c3\n"),
     ("judge 16 s255:c0.c65534 p.bin", 0, "delivered s2:c1,c3\n"),
@@ -88,12 +90,14 @@ const FORMS: [(&str, u8, &str); 11] = [
     ("show absent.bin", 3, ""),
     ("check p.bin", 2, "script line 1 octet 1 Octet\n"),
     ("check absent.bin", 3, ""),
+    ("agree p.bin 1", 2, "script line 1 octet 1 Octet\n"),
+    ("agree absent.bin 0 1,2", 3, ""),
     ("run p.bin", 2, "script line 1 octet 1 Octet\n"),
     ("run absent.bin -w 16", 3, ""),
 ];
 
 /// Words that are no form.
-const NO_FORMS: [&str; 15] = [
+const NO_FORMS: [&str; 17] = [
     "judge 0 s2 p.bin",
     "judge 016 s2 p.bin",
     "judge 4294967296 s2 p.bin",
@@ -107,6 +111,8 @@ const NO_FORMS: [&str; 15] = [
     "show p.bin p.bin",
     "check -p.bin",
     "check p.bin p.bin",
+    "agree p.bin",
+    "agree p.bin 1 1,",
     "run p.bin -w 17",
     "",
 ];

@@ -9,6 +9,7 @@ ghost use Rattle.call_report.specs.CallEnds.{CallEnds};
 ghost use Rattle.netlabel_run.specs.Commands.{netlabel_says};
 ghost use Rattle.call_report.specs.Printing.{Printed};
 
+use crate::agree::agree;
 use crate::check::check;
 use crate::command::Command;
 use crate::judge::judge;
@@ -27,7 +28,8 @@ use std::thread::Threads;
 /// Carries out what the words ask for, over a folder of named files, and prints to a stream out.
 ///
 /// The words are those of the command line without the program's name. The status is 0 where the command was carried
-/// out, 1 where the words are none of its forms, 2 where a script is wrong, 3 where a read or the making of a file
+/// out, 1 where the words are none of its forms, 2 where a script is wrong, or hasn't the flow
+/// or the versions that the words name, 3 where a read or the making of a file
 /// failed, 4 where a write or an append failed, 5 where a capture is wrong, 6 where memory ran out and 7 where a limit
 /// is passed; the first of these events decides, but that memory may run out while what stands in front of a failed read
 /// or making is printed. The clause says what each of them means, what is printed and what is left as it was. The gate is
@@ -75,6 +77,16 @@ fn carry_out<D: Depot + Send, S: Sink + Send, G: Gate + Sync, R: Threads + Wait 
         Some(Command::Show { file }) => {
             Outcome::without_flows(alloc, show(alloc, file.as_str(), depot, out))
         }
+        Some(
+            Command::Agree {
+                file,
+                flow,
+                versions,
+            },
+        ) => Outcome::without_flows(
+            alloc,
+            agree(alloc, file.as_str(), flow, &versions, depot, out),
+        ),
         Some(Command::Run { file, workers }) => {
             run(rt, alloc, file.as_str(), workers.number(), depot, out, gate)
         }

@@ -5,6 +5,7 @@ ghost use Rattle.mls_label.specs.declared.label.Label.{Label as LabelValue};
 ghost use Rattle.netlabel_run.specs.Words.{texts_of, IsAsked, IsLevel};
 
 use crate::command::{Command, FileName, Level, NamedDoi, Workers};
+use crate::versions::{NamedVersions, read_number};
 use command_values::read_doi;
 use flow_lines::is_file_name;
 use mls_label::Label;
@@ -16,6 +17,7 @@ pub(crate) fn read_words<'a>(words: &'a [String], label: &'a mut Label) -> Optio
 {
     match words {
         [command, file] => read_two(command, file),
+        [command, file, flow] => read_three(command, file, flow),
         [command, doi, level, file] => read_four(command, doi, level, file, label),
         _ => None,
     }
@@ -47,6 +49,24 @@ fn read_two<'a>(command: &str, file: &'a str) -> Option<Command<'a>>
     None
 }
 
+/// Reads three words.
+fn read_three<'a>(command: &str, file: &'a str, flow: &str) -> Option<Command<'a>>
+    ensures { IsAsked (command.now ∷ file.now ∷ flow.now ∷ []) result }
+{
+    if command != "agree" {
+        return None;
+    }
+    let flow = read_number(flow)?;
+    if !is_file_name(file.as_bytes()) {
+        return None;
+    }
+    Some(Command::Agree {
+        file: FileName::new(file),
+        flow,
+        versions: None,
+    })
+}
+
 /// Reads four words.
 fn read_four<'a>(
     command: &str,
@@ -59,6 +79,9 @@ fn read_four<'a>(
 {
     if command == "run" {
         return read_run(second, third, fourth);
+    }
+    if command == "agree" {
+        return read_agree(second, third, fourth);
     }
     if command != "judge" {
         return None;
@@ -80,6 +103,22 @@ fn read_run<'a>(file: &'a str, flag: &str, number: &str) -> Option<Command<'a>>
     Some(Command::Run {
         file: FileName::new(file),
         workers,
+    })
+}
+
+/// Reads the words behind `agree`, where there are three.
+fn read_agree<'a>(file: &'a str, flow: &str, versions: &'a str) -> Option<Command<'a>>
+    ensures { IsAsked (codes "agree" ∷ file.now ∷ flow.now ∷ versions.now ∷ []) result }
+{
+    let flow = read_number(flow)?;
+    let versions = NamedVersions::named(versions)?;
+    if !is_file_name(file.as_bytes()) {
+        return None;
+    }
+    Some(Command::Agree {
+        file: FileName::new(file),
+        flow,
+        versions: Some(versions),
     })
 }
 

@@ -51,7 +51,6 @@ pub record ReadsScript (asked : Option Command) (file : List ℕ) : Type 0 where
   pub knows : (before after : Outside) → IsOnlyRead before.folder after.folder → after.stream.tells ≡ before.stream.tells → Knows (netlabel_says asked) before after (reading_stage file ∷ [])
   pub refused : (held : Folder) (text : List ℕ) (why : ScriptStop) → held file ≡ Some text → script_read file text ≡ Err why → IsRefused (netlabel_says asked) held why
   pub may : (text : List ℕ) (why : ScriptStop) → script_read file text ≡ Err why → (netlabel_says asked).possible (script_stop_status why)
-  pub begins : (held : Folder) → Begins (netlabel_says asked) held []
   pub pauses : (held : Folder) (report : Report) → (netlabel_says asked).report held [] report → Contains report.pauses []
 
 -- The file's text was read, and is a script.

@@ -89,7 +89,7 @@ impl Gate for Held {
 }
 
 /// The worked script of four nodes, with one category, its first flow alone, and those commands behind it.
-fn exchanging(rt: &impl Abort, alloc: Global) -> String {
+pub fn exchanging(rt: &impl Abort, alloc: Global) -> String {
     let (nodes, flows) = CROSSING.split_once("flow ").expect(rt, "a flow");
     let flow = flows.lines().next().expect(rt, "a flow");
     let (front, back) = flow.split_once("s2:c1,c3").expect(rt, "a label");
