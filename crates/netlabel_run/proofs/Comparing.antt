@@ -2,13 +2,14 @@
 use Rattle.std.proofs.Common.{◌≡◌, ◌<◌, ◌≤◌, ℕ, zero, suc, ◌+◌, ◌-◌, List, [], ◌∷◌, ◌++◌, length, drop, Option, Some, None, refl, sym, ap, subst, ◌∙◌, arith}
 use Rattle.std.specs.Prelude.{slice_get, IfSome, IfNone}
 use Rattle.flow_lines.specs.declared.hop.Hop.{Hop}
+use Rattle.flow_lines.specs.Hop.{node_of}
 use Rattle.node_readings.specs.Reading.{NamedMeanings}
 use Rattle.node_tables.specs.Tables.{TableState}
 use Rattle.node_agreement.specs.declared.disagree.Disagree.{Disagree}
 use Rattle.node_agreement.specs.Agreement.{Agree}
 use Rattle.node_agreement.specs.First.{IsFirst}
-use Rattle.shared_tables.specs.Plan.{PlanState}
-use Rattle.packet_walk.specs.Walk.{Rises}
+use Rattle.shared_tables.specs.Plan.{PlanState, network_after}
+use Rattle.packet_walk.specs.Walk.{Rises, tables_of}
 use Rattle.flow_access.specs.Labels.{hop_tables, reading_at}
 use Rattle.netlabel_run.specs.Agree.{IsFound, AreFound}
 
@@ -53,6 +54,13 @@ module _ (plan : PlanState) (readings : List NamedMeanings) where
 
   abbrev pub IsFoundAt : ℕ → Hop → ℕ → Hop → Option Disagree → Type 0
   IsFoundAt v left w right found = IsFound (hop_tables plan v left) (hop_tables plan w right) (reading_at readings left) (reading_at readings right) found
+
+  -- what two hops come to whose nodes have these tables
+  pub found_at : (left right : Hop) (v w : ℕ) (found : Option Disagree) (l r : List TableState) → l ≡ network_after plan v → r ≡ network_after plan w
+      → IsFound (tables_of l (node_of left)) (tables_of r (node_of right)) (reading_at readings left) (reading_at readings right) found → IsFoundAt v left w right found
+  found_at left right v w found l r is_l is_r is =
+      subst (λ (n : List TableState). IsFound (tables_of n (node_of left)) (hop_tables plan w right) (reading_at readings left) (reading_at readings right) found) is_l
+      (subst (λ (n : List TableState). IsFound (tables_of l (node_of left)) (tables_of n (node_of right)) (reading_at readings left) (reading_at readings right) found) is_r is)
 
   -- the two at a place, in front of those behind them
   pub put_in_front : (hops : List Hop) (versions : List ℕ) (k : ℕ) (left right : Hop) (v w : ℕ) (found : Option Disagree) (others : List (Option Disagree))
