@@ -14,7 +14,7 @@ use Rattle.flow_access.specs.Labels.{hop_tables, reading_at}
 use Rattle.netlabel_run.specs.Agree.{IsFound, AreFound}
 
 -- each version is at least the one in front of it, and at most the last bound
-pub rises_at : (low high : ℕ) (versions : List ℕ) (k v w : ℕ) → Rises low high versions → slice_get versions k ≡ Some v → slice_get versions (k + 1) ≡ Some w → (v ≤ w) × (w ≤ high)
+pub rises_at : (low high : ℕ) (versions : List ℕ) (k v w : ℕ) → Rises low high versions → slice_get versions k ≡ Some v → slice_get versions (suc k) ≡ Some w → (v ≤ w) × (w ≤ high)
 rises_at low high [] k v w rises x y = absurd cc
 rises_at low high (a ∷ []) zero v w rises x y = absurd cc
 rises_at low high (a ∷ b ∷ versions) zero v w rises x y =
@@ -64,8 +64,8 @@ module _ (plan : PlanState) (readings : List NamedMeanings) where
 
   -- the two at a place, in front of those behind them
   pub put_in_front : (hops : List Hop) (versions : List ℕ) (k : ℕ) (left right : Hop) (v w : ℕ) (found : Option Disagree) (others : List (Option Disagree))
-      → slice_get hops k ≡ Some left → slice_get hops (k + 1) ≡ Some right → slice_get versions k ≡ Some v → slice_get versions (k + 1) ≡ Some w
-      → IsFoundAt v left w right found → AreFound plan readings (drop (k + 1) hops) (drop (k + 1) versions) others
+      → slice_get hops k ≡ Some left → slice_get hops (suc k) ≡ Some right → slice_get versions k ≡ Some v → slice_get versions (suc k) ≡ Some w
+      → IsFoundAt v left w right found → AreFound plan readings (drop (suc k) hops) (drop (suc k) versions) others
       → AreFound plan readings (drop k hops) (drop k versions) (found ∷ others)
   put_in_front [] versions k left right v w found others a b c d is more = absurd cc
   put_in_front (x ∷ []) versions zero left right v w found others a b c d is more = absurd cc
@@ -88,8 +88,8 @@ module _ (plan : PlanState) (readings : List NamedMeanings) where
 
   -- one more turn
   pub goes_on : (hops : List Hop) (versions : List ℕ) (k : ℕ) (left right : Hop) (v w : ℕ) (found : Option Disagree) (before after : List (Option Disagree))
-      → slice_get hops k ≡ Some left → slice_get hops (k + 1) ≡ Some right → slice_get versions k ≡ Some v → slice_get versions (k + 1) ≡ Some w
-      → IsFoundAt v left w right found → after ≡ before ++ found ∷ [] → GoOn hops versions k before → GoOn hops versions (k + 1) after
+      → slice_get hops k ≡ Some left → slice_get hops (suc k) ≡ Some right → slice_get versions k ≡ Some v → slice_get versions (suc k) ≡ Some w
+      → IsFoundAt v left w right found → after ≡ before ++ found ∷ [] → GoOn hops versions k before → GoOn hops versions (suc k) after
   goes_on hops versions k left right v w found before after a b c d is pushed on others more =
       subst (λ all. AreFound plan readings hops versions all) (sym (ap (λ x. x ++ others) pushed ∙ append_one before found others))
       (on (found ∷ others) (put_in_front hops versions k left right v w found others a b c d is more))

@@ -1,4 +1,4 @@
-use Rattle.std.proofs.Common.{◌≡◌, ◌<◌, ◌+◌, ◌-◌, ℕ, length, get_or, replicate, Some, sym, ap, subst, ◌∙◌, arith}
+use Rattle.std.proofs.Common.{◌≡◌, ◌<◌, ◌+◌, ◌-◌, ℕ, suc, length, get_or, replicate, Some, sym, ap, subst, ◌∙◌, arith}
 use Rattle.std.specs.Prelude.{slice_get}
 use Rattle.std.proofs.lemmas.Option.{slice_get-get_or}
 use Rattle.node_tables.specs.Tables.{fresh}
@@ -22,7 +22,7 @@ pub carry_on-requires-in-loop-place-clause-order : goal.carry_on-requires-in-loo
 carry_on-requires-in-loop-place-clause-order c =
     let versions = c.args.versions.now in
     let place = c.loop-place.place in
-    let back : place ≡ place - 1 + 1 = omega (arith, c.loop-place.invariant.some) in
+    let back : place ≡ suc (place - 1) = omega (arith, c.loop-place.invariant.some) in
     let within : place < length versions = omega (arith, c.loop-place-test.true, c.requires.each) in
     rises_at 0 (length c.args.script.now.steps) versions (place - 1) (get_or versions (place - 1) 0) (get_or versions place 0) c.requires.rises
     (slice_get-get_or versions (place - 1) 0 (omega (arith, within)))
@@ -60,7 +60,7 @@ loop-place-preserved c =
     let place = c.loop-place.place in
     let v = get_or versions (place - 1) 0 in
     let w = get_or versions place 0 in
-    let back : place ≡ place - 1 + 1 = omega (arith, c.loop-place.invariant.some) in
+    let back : place ≡ suc (place - 1) = omega (arith, c.loop-place.invariant.some) in
     let within : place < length versions = omega (arith, c.loop-place-test.true, c.requires.each) in
     let at_v : slice_get versions (place - 1) ≡ Some v = slice_get-get_or versions (place - 1) 0 (omega (arith, within)) in
     let at_w : slice_get versions place ≡ Some w = slice_get-get_or versions place 0 within in
