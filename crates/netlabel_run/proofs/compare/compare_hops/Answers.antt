@@ -40,16 +40,18 @@ compare-requires-clause-left c =
     let script = c.args.script.now in
     let versions = c.args.versions.now in
     let place = c.loop-place.place in
-    let at = slice_get-get_or versions (place - 1) 0 (omega (arith, c.loop-place-test.true, c.requires.each)) in
-    (as_many (length script.nodes) script.steps (get_or versions (place - 1) 0) c.loop-place.left (c.loop-place.invariant.left (get_or versions (place - 1) 0) at),
-      c.requires.nodes (place - 1) _ (omega (arith, c.loop-place-test.true)))
+    let at = slice_get-get_or versions (place - 1) 0 (omega (arith, c.loop-place-test.true, c.requires.each)) in (
+      as_many (length script.nodes) script.steps (get_or versions (place - 1) 0) c.loop-place.left (c.loop-place.invariant.left (get_or versions (place - 1) 0) at),
+      c.requires.nodes (place - 1) _ (omega (arith, c.loop-place-test.true)),
+    )
 
 pub compare-requires-clause-right : goal.compare-requires-clause-right
 compare-requires-clause-right c =
     let script = c.args.script.now in
-    let place = c.loop-place.place in
-    (as_many (length script.nodes) script.steps (get_or c.args.versions.now place 0) c.carry_on-in-loop-place.new.network c.in_ok-carry_on-2.ensures,
-      c.requires.nodes place _ (omega (arith, c.loop-place-test.true)))
+    let place = c.loop-place.place in (
+      as_many (length script.nodes) script.steps (get_or c.args.versions.now place 0) c.carry_on-in-loop-place.new.network c.in_ok-carry_on-2.ensures,
+      c.requires.nodes place _ (omega (arith, c.loop-place-test.true)),
+    )
 
 pub loop-place-preserved : goal.loop-place-preserved
 loop-place-preserved c =
@@ -65,15 +67,17 @@ loop-place-preserved c =
     let at_v : slice_get versions (place - 1) ≡ Some v = slice_get-get_or versions (place - 1) 0 (omega (arith, within)) in
     let at_w : slice_get versions place ≡ Some w = slice_get-get_or versions place 0 within in
     let found = c.compare.result in
+    let ahead : place + 1 - 1 ≡ place = omega arith in
+    let next : suc (place - 1) ≡ place + 1 - 1 = omega (arith, c.loop-place.invariant.some) in
     record {
       some = omega arith;
       within = omega (arith, c.loop-place-test.true);
       left = λ u is.
-          let that : slice_get versions place ≡ Some u = subst (λ (k : ℕ). slice_get versions k ≡ Some u) (omega arith) is in
+          let that : slice_get versions place ≡ Some u = subst (λ (k : ℕ). slice_get versions k ≡ Some u) ahead is in
           let some_same : Some w ≡ Some u = sym at_w ∙ that in
           let same : w ≡ u = cc in
           subst (λ (n : ℕ). c.carry_on-in-loop-place.new.network ≡ network_after plan n) same c.in_ok-carry_on-2.ensures;
-      on = subst (λ (k : ℕ). GoOn plan script.readings hops versions k c.push.new.self.items) (omega (arith, c.loop-place.invariant.some))
+      on = subst (λ (k : ℕ). GoOn plan script.readings hops versions k c.push.new.self.items) next
           (goes_on plan script.readings hops versions (place - 1) _ _ v w found c.loop-place.found.items c.push.new.self.items
           (slice_get-get_or hops (place - 1) _ (omega (arith, c.loop-place-test.true)))
           (subst (λ (k : ℕ). slice_get hops k ≡ Some (get_or hops place _)) back (slice_get-get_or hops place _ (omega (arith, c.loop-place-test.true))))
