@@ -2,18 +2,19 @@
 use Rattle.std.proofs.Common.{◌≡◌, ◌<◌, ◌≤◌, ℕ, zero, suc, ◌+◌, ◌-◌, List, [], ◌∷◌, ◌++◌, length, drop, Option, Some, None, refl, sym, ap, subst, ◌∙◌, arith}
 use Rattle.std.specs.Prelude.{slice_get, IfSome, IfNone}
 use Rattle.flow_lines.specs.declared.hop.Hop.{Hop}
+use Rattle.flow_lines.specs.Hop.{node_of}
 use Rattle.node_readings.specs.Reading.{NamedMeanings}
 use Rattle.node_tables.specs.Tables.{TableState}
 use Rattle.node_agreement.specs.declared.disagree.Disagree.{Disagree}
 use Rattle.node_agreement.specs.Agreement.{Agree}
 use Rattle.node_agreement.specs.First.{IsFirst}
-use Rattle.shared_tables.specs.Plan.{PlanState}
-use Rattle.packet_walk.specs.Walk.{Rises}
+use Rattle.shared_tables.specs.Plan.{PlanState, network_after}
+use Rattle.packet_walk.specs.Walk.{Rises, tables_of}
 use Rattle.flow_access.specs.Labels.{hop_tables, reading_at}
 use Rattle.netlabel_run.specs.Agree.{IsFound, AreFound}
 
 -- each version is at least the one in front of it, and at most the last bound
-pub rises_at : (low high : ℕ) (versions : List ℕ) (k v w : ℕ) → Rises low high versions → slice_get versions k ≡ Some v → slice_get versions (k + 1) ≡ Some w → (v ≤ w) × (w ≤ high)
+pub rises_at : (low high : ℕ) (versions : List ℕ) (k v w : ℕ) → Rises low high versions → slice_get versions k ≡ Some v → slice_get versions (suc k) ≡ Some w → (v ≤ w) × (w ≤ high)
 rises_at low high [] k v w rises x y = absurd cc
 rises_at low high (a ∷ []) zero v w rises x y = absurd cc
 rises_at low high (a ∷ b ∷ versions) zero v w rises x y =
@@ -54,10 +55,17 @@ module _ (plan : PlanState) (readings : List NamedMeanings) where
   abbrev pub IsFoundAt : ℕ → Hop → ℕ → Hop → Option Disagree → Type 0
   IsFoundAt v left w right found = IsFound (hop_tables plan v left) (hop_tables plan w right) (reading_at readings left) (reading_at readings right) found
 
+  -- what two hops come to whose nodes have these tables
+  pub found_at : (left right : Hop) (v w : ℕ) (found : Option Disagree) (l r : List TableState) → l ≡ network_after plan v → r ≡ network_after plan w
+      → IsFound (tables_of l (node_of left)) (tables_of r (node_of right)) (reading_at readings left) (reading_at readings right) found → IsFoundAt v left w right found
+  found_at left right v w found l r is_l is_r is =
+      subst (λ (n : List TableState). IsFound (tables_of n (node_of left)) (hop_tables plan w right) (reading_at readings left) (reading_at readings right) found) is_l
+      (subst (λ (n : List TableState). IsFound (tables_of l (node_of left)) (tables_of n (node_of right)) (reading_at readings left) (reading_at readings right) found) is_r is)
+
   -- the two at a place, in front of those behind them
   pub put_in_front : (hops : List Hop) (versions : List ℕ) (k : ℕ) (left right : Hop) (v w : ℕ) (found : Option Disagree) (others : List (Option Disagree))
-      → slice_get hops k ≡ Some left → slice_get hops (k + 1) ≡ Some right → slice_get versions k ≡ Some v → slice_get versions (k + 1) ≡ Some w
-      → IsFoundAt v left w right found → AreFound plan readings (drop (k + 1) hops) (drop (k + 1) versions) others
+      → slice_get hops k ≡ Some left → slice_get hops (suc k) ≡ Some right → slice_get versions k ≡ Some v → slice_get versions (suc k) ≡ Some w
+      → IsFoundAt v left w right found → AreFound plan readings (drop (suc k) hops) (drop (suc k) versions) others
       → AreFound plan readings (drop k hops) (drop k versions) (found ∷ others)
   put_in_front [] versions k left right v w found others a b c d is more = absurd cc
   put_in_front (x ∷ []) versions zero left right v w found others a b c d is more = absurd cc
@@ -80,8 +88,8 @@ module _ (plan : PlanState) (readings : List NamedMeanings) where
 
   -- one more turn
   pub goes_on : (hops : List Hop) (versions : List ℕ) (k : ℕ) (left right : Hop) (v w : ℕ) (found : Option Disagree) (before after : List (Option Disagree))
-      → slice_get hops k ≡ Some left → slice_get hops (k + 1) ≡ Some right → slice_get versions k ≡ Some v → slice_get versions (k + 1) ≡ Some w
-      → IsFoundAt v left w right found → after ≡ before ++ found ∷ [] → GoOn hops versions k before → GoOn hops versions (k + 1) after
+      → slice_get hops k ≡ Some left → slice_get hops (suc k) ≡ Some right → slice_get versions k ≡ Some v → slice_get versions (suc k) ≡ Some w
+      → IsFoundAt v left w right found → after ≡ before ++ found ∷ [] → GoOn hops versions k before → GoOn hops versions (suc k) after
   goes_on hops versions k left right v w found before after a b c d is pushed on others more =
       subst (λ all. AreFound plan readings hops versions all) (sym (ap (λ x. x ++ others) pushed ∙ append_one before found others))
       (on (found ∷ others) (put_in_front hops versions k left right v w found others a b c d is more))
