@@ -6,3 +6,4 @@ pub mod Packet
 pub mod Capture
 pub mod Script
 pub mod Flow
+pub mod Agreement

@@ -7,6 +7,7 @@
 //! a report may end is a case of `Printed` in `specs/Printing.antt`.
 #![tactic(auto)]
 
+mod agreement;
 mod capture;
 mod denial;
 mod fixed;
@@ -21,6 +22,7 @@ mod seen;
 mod status;
 mod whole;
 
+pub use agreement::{agree_or_disagree, bad_versions, no_flow, write_hops};
 pub use capture::write_capture;
 pub use denial::write_verdict;
 pub use fixed::{done, packet_limit, packets_limit, usage};

@@ -2,15 +2,17 @@
 
 use crate::flow::append_versions;
 use crate::{
-    done, packet_limit, packets_limit, write_capture, write_flow, write_flow_end, write_ok,
-    write_packets_end, write_script_stop, write_verdict, write_walked,
+    agree_or_disagree, bad_versions, done, no_flow, packet_limit, packets_limit, write_capture,
+    write_flow, write_flow_end, write_hops, write_ok, write_packets_end, write_script_stop,
+    write_verdict, write_walked,
 };
 use address_text::{Address, read_name};
 use flow_lines::{Hop, read_file_name};
 use ip_headers::Cause;
 use label_commands::{LimitName, ScriptFault, ScriptKind, ScriptStop};
-use mls_label::Label;
+use mls_label::{Label, Proto};
 use mls_range::read_label_into;
+use node_agreement::Disagree;
 use packet_label::{Carrier, Denial};
 use packet_walk::{End, Versions, Walked};
 use pcap_frames::{CaptureFault, CaptureKind};
@@ -164,5 +166,40 @@ fn prints_flows(rt: HostRuntime) {
     assert_eq!(rt;
         line.as_slice(),
         b"flow 1 one.pcap\npacket 1.1 delivered s2:c7,c8 to 10.0.0.2 versions -\npacket 1.1 sent calipso,9 versions -\npacket 1.1 sent cipsov4,16 versions -\npacket 1.1 sent unlbl versions -\npacket 1.1 denied 22 NotIp hop 0 node - versions -\npacket 1.1 denied 10 NoReceiver hop 1 node r versions -\nend 1 packets 6 passed 4 denied 2\n15,15,16,4294967295".as_slice()
+    );
+}
+
+#[test]
+fn prints_agreement(rt: HostRuntime) {
+    let mut line = Vec::new(rt.alloc());
+    let category = Disagree {
+        proto: Proto::Cipso,
+        doi: 10,
+        level: false,
+        wire: 4,
+        left: 1,
+        right: 3,
+    };
+    let level = Disagree {
+        proto: Proto::Calipso,
+        doi: 4294967295,
+        level: true,
+        wire: 255,
+        left: 4294967295,
+        right: 0,
+    };
+    write_hops(1, None, &mut line).expect(&rt, "there is memory");
+    write_hops(3, Some(category), &mut line).expect(&rt, "there is memory");
+    write_hops(15, Some(level), &mut line).expect(&rt, "there is memory");
+    assert_eq!(rt;
+        line.as_slice(),
+        b"hop 1 2 agree\nhop 3 4 disagree cipsov4 10 category 4 1 3\nhop 15 16 disagree calipso 4294967295 level 255 4294967295 0\n".as_slice()
+    );
+    assert_eq!(rt; agree_or_disagree(true), b"agree\n".as_slice());
+    assert_eq!(rt; agree_or_disagree(false), b"disagree\n".as_slice());
+    assert_eq!(rt; no_flow(), b"script line 0 octet 0 NoFlow\n".as_slice());
+    assert_eq!(rt;
+        bad_versions(),
+        b"script line 0 octet 0 BadVersions\n".as_slice()
     );
 }
