@@ -10,13 +10,13 @@ use Rattle.label_commands.specs.Script.{read_text}
 use Rattle.call_report.specs.Lines.Script.{script_stop_line}
 use Rattle.call_report.specs.declared.status.Status.{Status}
 use Rattle.call_report.specs.Status.{status_number}
-use Rattle.call_report.specs.Report.{Folder, Report, late_report}
+use Rattle.call_report.specs.Report.{Report, late_report}
 use Rattle.call_report.specs.Stages.{reading_stage}
 use Rattle.call_report.specs.Outside.{Outside}
 use Rattle.call_report.specs.CallEnds.{CallEnds}
 use Rattle.netlabel_run.specs.declared.command.Command.{Command}
 use Rattle.netlabel_run.specs.declared.command.Command.TheVariants as command
-use Rattle.netlabel_run.specs.ScriptFile.{script_read, ByAnswer, ByScript, script_stop_status}
+use Rattle.netlabel_run.specs.ScriptFile.{script_read, ByAnswer, script_stop_status}
 use Rattle.netlabel_run.specs.Agree.{AgreeAnswer, no_flow, bad_versions, compared, AgreeReport, AgreeStatus}
 use Rattle.netlabel_run.specs.Commands.{netlabel_says}
 use Rattle.netlabel_run.specs.inside.Ending.{IsOnlyRead, ReadsScript}

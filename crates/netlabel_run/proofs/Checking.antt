@@ -5,7 +5,6 @@ use Rattle.net_io.specs.Faults.{SameCounts}
 use Rattle.script_lines.specs.Form.{with_translations}
 use Rattle.label_commands.specs.declared.script.Script.{Script}
 use Rattle.label_commands.specs.declared.stop.ScriptStop.{ScriptStop}
-use Rattle.label_commands.specs.declared.stop.ScriptStop.TheVariants as stop
 use Rattle.label_commands.specs.Script.{read_text}
 use Rattle.netlabel_run.specs.declared.command.Command.{Command}
 use Rattle.netlabel_run.specs.declared.command.Command.TheVariants.{Check}

@@ -14,7 +14,7 @@ pub no_level : (doi level file : List ℕ) → ((l : Label) → IsLevel level l 
 no_level doi level file none (Check f, asks) = omega (arith, ap length asks.are)
 no_level doi level file none (Show f, asks) = omega (arith, ap length asks.are)
 no_level doi level file none (Agree f n vs, without_versions t are name is) = omega (arith, ap length are)
-no_level doi level file none (Agree f n vs, with_versions t l v are name is lists) = absurd (let no = are in cc)
+no_level doi level file none (Agree f n vs, with_versions t l v are name is lists) = let first : 106 ≡ 97 = ap (λ ws. get_or (get_or ws 0 []) 0 0) are in omega (arith, first)
 no_level doi level file none (Run f n, plainly are name) = omega (arith, ap length are)
 no_level doi level file none (Run f n, with_workers t w are name named) = absurd (let no = are in cc)
 no_level doi level file none (Judge d l f, asks) = none l (subst (λ t. IsLevel t l) (sym (ap (λ ws. get_or ws 2 []) asks.are)) asks.is_level)

@@ -15,7 +15,8 @@ use Rattle.pcap_frames.specs.Capture.{Capture, capture_of}
 use Rattle.netlabel_run.specs.declared.command.Command.{Command}
 use Rattle.netlabel_run.specs.declared.command.Command.TheVariants.{Judge, Check, Show, Agree, Run}
 use Rattle.call_report.specs.Lines.Denial.{verdict_line}
-use Rattle.netlabel_run.specs.Words.{AsksToJudge, AsksToRun, plainly, with_workers, number_named, versions_named, AsksToAgree, without_versions, with_versions, IsAsked}
+use Rattle.netlabel_run.specs.Numbers.{number_named, versions_named}
+use Rattle.netlabel_run.specs.Words.{AsksToJudge, AsksToRun, plainly, with_workers, AsksToAgree, without_versions, with_versions, IsAsked}
 use Rattle.netlabel_run.specs.ScriptFile.{script_read, ByAnswer, ByScript, script_stop_status}
 use Rattle.netlabel_run.specs.Judge.{JudgeReport, absent, too_long, judged, JudgeStatus}
 use Rattle.netlabel_run.specs.Check.{CheckReport, CheckStatus}
@@ -202,6 +203,10 @@ determined (Some (Run file workers)) held seen = record {
       (λ script a b x y. x.2 ∙ ap runs_outputs (runs_are_determined (plan_of script) held 1 packets_limit script.flows seen x.0 y.0 x.1 y.1) ∙ sym y.2);
 }
 
+-- a word that begins with another letter than `agree`
+begins_apart : (word : List ℕ) (letter : ℕ) → get_or word 0 0 ≡ letter → (letter ≡ 97 → ⊥) → word ≡ codes "agree" → ⊥
+begins_apart word letter begins other e = other (sym begins ∙ ap (λ w. get_or w 0 0) e)
+
 -- words ask for one thing at the most
 pub asked_once : (words : List (List ℕ)) → IsOne (IsAsked words)
 asked_once words None None a b = refl
@@ -230,13 +235,13 @@ asked_once words (Some (Run file workers)) (Some (Check file')) a b = absurd (ru
 asked_once words (Some (Check file)) (Some (Run file' workers)) a b = absurd (run_has_no_word words file' workers (codes "check") file b a.are (λ e. cc))
 asked_once words (Some (Run file workers)) (Some (Show file')) a b = absurd (run_has_no_word words file workers (codes "show") file' a b.are (λ e. cc))
 asked_once words (Some (Show file)) (Some (Run file' workers)) a b = absurd (run_has_no_word words file' workers (codes "show") file b a.are (λ e. cc))
-asked_once words (Some (Agree file flow versions)) (Some (Judge doi level file')) a b = absurd (agree_has_no_word words file flow versions (codes "judge") a (ap (λ ws. get_or ws 0 []) b.are) (λ e. cc))
-asked_once words (Some (Judge doi level file)) (Some (Agree file' flow versions)) a b = absurd (agree_has_no_word words file' flow versions (codes "judge") b (ap (λ ws. get_or ws 0 []) a.are) (λ e. cc))
-asked_once words (Some (Agree file flow versions)) (Some (Check file')) a b = absurd (agree_has_no_word words file flow versions (codes "check") a (ap (λ ws. get_or ws 0 []) b.are) (λ e. cc))
-asked_once words (Some (Check file)) (Some (Agree file' flow versions)) a b = absurd (agree_has_no_word words file' flow versions (codes "check") b (ap (λ ws. get_or ws 0 []) a.are) (λ e. cc))
-asked_once words (Some (Agree file flow versions)) (Some (Show file')) a b = absurd (agree_has_no_word words file flow versions (codes "show") a (ap (λ ws. get_or ws 0 []) b.are) (λ e. cc))
-asked_once words (Some (Show file)) (Some (Agree file' flow versions)) a b = absurd (agree_has_no_word words file' flow versions (codes "show") b (ap (λ ws. get_or ws 0 []) a.are) (λ e. cc))
-asked_once words (Some (Agree file flow versions)) (Some (Run file' workers)) a b = absurd (agree_has_no_word words file flow versions (codes "run") a (run_begins words file' workers b) (λ e. cc))
-asked_once words (Some (Run file workers)) (Some (Agree file' flow versions)) a b = absurd (agree_has_no_word words file' flow versions (codes "run") b (run_begins words file workers a) (λ e. cc))
+asked_once words (Some (Agree file flow versions)) (Some (Judge doi level file')) a b = absurd (agree_has_no_word words file flow versions (codes "judge") a (ap (λ ws. get_or ws 0 []) b.are) (begins_apart (codes "judge") 106 refl (λ e. omega (arith, e))))
+asked_once words (Some (Judge doi level file)) (Some (Agree file' flow versions)) a b = absurd (agree_has_no_word words file' flow versions (codes "judge") b (ap (λ ws. get_or ws 0 []) a.are) (begins_apart (codes "judge") 106 refl (λ e. omega (arith, e))))
+asked_once words (Some (Agree file flow versions)) (Some (Check file')) a b = absurd (agree_has_no_word words file flow versions (codes "check") a (ap (λ ws. get_or ws 0 []) b.are) (begins_apart (codes "check") 99 refl (λ e. omega (arith, e))))
+asked_once words (Some (Check file)) (Some (Agree file' flow versions)) a b = absurd (agree_has_no_word words file' flow versions (codes "check") b (ap (λ ws. get_or ws 0 []) a.are) (begins_apart (codes "check") 99 refl (λ e. omega (arith, e))))
+asked_once words (Some (Agree file flow versions)) (Some (Show file')) a b = absurd (agree_has_no_word words file flow versions (codes "show") a (ap (λ ws. get_or ws 0 []) b.are) (begins_apart (codes "show") 115 refl (λ e. omega (arith, e))))
+asked_once words (Some (Show file)) (Some (Agree file' flow versions)) a b = absurd (agree_has_no_word words file' flow versions (codes "show") b (ap (λ ws. get_or ws 0 []) a.are) (begins_apart (codes "show") 115 refl (λ e. omega (arith, e))))
+asked_once words (Some (Agree file flow versions)) (Some (Run file' workers)) a b = absurd (agree_has_no_word words file flow versions (codes "run") a (run_begins words file' workers b) (begins_apart (codes "run") 114 refl (λ e. omega (arith, e))))
+asked_once words (Some (Run file workers)) (Some (Agree file' flow versions)) a b = absurd (agree_has_no_word words file' flow versions (codes "run") b (run_begins words file workers a) (begins_apart (codes "run") 114 refl (λ e. omega (arith, e))))
 asked_once words (Some (Agree file flow versions)) (Some (Agree file' flow' versions')) a b = agree_once words file file' flow flow' versions versions' a b
 asked_once words (Some (Run file workers)) (Some (Run file' workers')) a b = run_once words file file' workers workers' a b

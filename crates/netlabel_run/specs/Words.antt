@@ -5,10 +5,9 @@ use Rattle.std.specs.declared.alloc.Global.{Global}
 use Rattle.mls_label.specs.declared.label.Label.{Label}
 use Rattle.mls_range.specs.LabelText.{IsLabelText}
 use Rattle.mls_range.specs.TextFault.{IsRoomyLabel}
-use Rattle.address_text.specs.Number.{number_of_text}
 use Rattle.command_values.specs.Doi.{doi_of_text}
-use Rattle.command_values.specs.List.{list_of_text}
 use Rattle.flow_lines.specs.FileName.{is_file_name}
+use Rattle.netlabel_run.specs.Numbers.{number_named, versions_named}
 use Rattle.netlabel_run.specs.declared.command.Command.{Command}
 use Rattle.netlabel_run.specs.declared.command.Command.TheVariants.{Judge, Check, Show, Agree, Run}
 
@@ -51,13 +50,6 @@ pub data AsksToRun (words : List (List ℕ)) (file : List ℕ) : ℕ → Type 0 
   plainly : words ≡ codes "run" ∷ file ∷ [] → IsTrue (is_file_name file) → AsksToRun words file 4
   with_workers : (text : List ℕ) (workers : ℕ) → words ≡ codes "run" ∷ file ∷ codes "-w" ∷ text ∷ [] → IsTrue (is_file_name file) → NamesWorkers text workers
       → AsksToRun words file workers
-
--- A number that a word names is below 2^32 and has no leading zero, and so has each of the versions that it lists with commas between.
-abbrev pub number_named : List ℕ → Option ℕ
-number_named text = number_of_text 4294967295 text
-
-abbrev pub versions_named : List ℕ → Option (List ℕ)
-versions_named text = list_of_text number_named text
 
 -- `agree <script> <flow>`, or `agree <script> <flow> <versions>`
 pub data AsksToAgree (words : List (List ℕ)) (file : List ℕ) (flow : ℕ) : Option (List ℕ) → Type 0 where

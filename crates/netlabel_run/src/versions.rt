@@ -2,7 +2,7 @@
 
 ghost use Rattle.std.specs.Prelude.{◌≡◌, ◌<◌, ◌==◌, [], ◌∷◌, length, is_some, option_map, IfOk, IfSome, MatchOption};
 ghost use Rattle.std.specs.List.{slice_split};
-ghost use Rattle.netlabel_run.specs.Words.{number_named, versions_named};
+ghost use Rattle.netlabel_run.specs.Numbers.{number_named, versions_named};
 
 use mls_label::OutOfMemory;
 use octet_grammar::read_decimal;
@@ -17,7 +17,7 @@ pub(crate) struct NamedVersions<'a> {
 
 impl<'a> Model for NamedVersions<'a> {
     ghost use Rattle.std.specs.Prelude.{List, ℕ, [], unwrap_or};
-    ghost use Rattle.netlabel_run.specs.Words.{versions_named};
+    ghost use Rattle.netlabel_run.specs.Numbers.{versions_named};
 
     ghost Value = { List ℕ };
 
@@ -26,7 +26,7 @@ impl<'a> Model for NamedVersions<'a> {
 
 impl<'a> NamedVersions<'a> {
     ghost use Rattle.std.specs.Prelude.{◌≡◌, IfOk};
-    ghost use Rattle.netlabel_run.specs.Words.{versions_named};
+    ghost use Rattle.netlabel_run.specs.Numbers.{versions_named};
 
     /// Those that a word lists.
     pub(crate) fn named(word: &'a str) -> Option<NamedVersions<'a>>

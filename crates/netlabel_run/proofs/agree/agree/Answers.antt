@@ -1,4 +1,4 @@
-use Rattle.std.proofs.Common.{subst, [], Some}
+use Rattle.std.proofs.Common.{subst, Some}
 use Rattle.net_io.specs.Sink.{SinkState}
 use Rattle.script_lines.specs.Form.{with_translations}
 use Rattle.label_commands.proofs.Law.{scripts_are_sound}

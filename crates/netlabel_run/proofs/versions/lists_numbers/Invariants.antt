@@ -2,7 +2,7 @@ use denote.Shadow.{shadow}
 use denote.Text.{Utf8}
 use Rattle.std.proofs.Common.{◌≡◌, length}
 use Rattle.std.specs.Prelude.{is_some}
-use Rattle.netlabel_run.specs.Words.{versions_named}
+use Rattle.netlabel_run.specs.Numbers.{versions_named}
 use Rattle.netlabel_run.proofs.versions.lists_numbers.Given as goal
 
 abbrev pub decreases-loop-number : goal.decreases-loop-number

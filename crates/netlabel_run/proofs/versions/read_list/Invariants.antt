@@ -1,7 +1,7 @@
 use denote.Shadow.{shadow}
 use denote.Text.{Utf8}
 use Rattle.std.proofs.Common.{◌≡◌, length}
-use Rattle.netlabel_run.specs.Words.{versions_named}
+use Rattle.netlabel_run.specs.Numbers.{versions_named}
 use Rattle.netlabel_run.proofs.Splits.{in_front}
 use Rattle.netlabel_run.proofs.versions.read_list.Given as goal
 

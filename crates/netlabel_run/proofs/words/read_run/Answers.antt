@@ -1,4 +1,4 @@
-use Rattle.std.proofs.Common.{◌≡◌, rules, refl, [], ◌∷◌}
+use Rattle.std.proofs.Common.{◌≡◌, rules, refl}
 use Rattle.std.specs.Prelude.{codes, IsTrue}
 use Rattle.flow_lines.specs.FileName.{is_file_name}
 use Rattle.netlabel_run.specs.Words.{with_workers}

@@ -1,7 +1,7 @@
-use Rattle.std.proofs.Common.{◌≡◌, rules, refl, [], ◌∷◌}
+use Rattle.std.proofs.Common.{◌≡◌, rules, refl}
 use Rattle.std.specs.Prelude.{codes, IsTrue}
 use Rattle.flow_lines.specs.FileName.{is_file_name}
-use Rattle.netlabel_run.specs.Words.{AsksToRun, plainly}
+use Rattle.netlabel_run.specs.Words.{plainly}
 use Rattle.netlabel_run.proofs.words.read_two.Goals as goal
 
 pub returns-then-eq-3 : goal.returns-then-eq-3
