@@ -1,11 +1,8 @@
--- A command's numbers are within their bounds where each of its parameters has a value of its form.
+-- A command's numbers and labels are within their bounds where each of its parameters has a value of its form.
 use Rattle.std.proofs.Common.{ℕ, List, Option, Some, None, arith, All}
 use Rattle.std.specs.Prelude.{IfSome}
-use Rattle.mls_range.specs.Range.{LabelRange}
-use Rattle.mls_label.specs.Label.{IsLabel}
 use Rattle.command_values.specs.List.{AreEntries}
 use Rattle.command_values.specs.Pairs.{IsPairWithin}
-use Rattle.command_values.specs.Ranges.{IsMlsRange}
 use Rattle.script_lines.specs.declared.parameter.Parameter.TheVariants.{Doi}
 use Rattle.script_lines.specs.declared.form.Slot.{Slot}
 use Rattle.script_lines.specs.Form.{must}
@@ -13,9 +10,6 @@ use Rattle.script_lines.specs.declared.command.Command.{Command}
 use Rattle.script_lines.specs.declared.command.Command.TheVariants.{CipsoAddPass, CipsoAddTrans, CalipsoAddPass, CalipsoAddTrans, CipsoDel, CalipsoDel, CipsoList, CalipsoList, MapAdd, MapDel, MapList, AcceptOn, AcceptOff, UnlblAdd, UnlblDel, UnlblList, ReceiverAdd, ReceiverDel, RangeAdd, RangeDel, PairAdd, PairDel, MgmtVersion, MgmtProtocols}
 use Rattle.script_lines.specs.Command.{IsCommand}
 use Rattle.script_lines.specs.Bounded.{IsBounded}
-
-high_bounded : (range : LabelRange) → IsMlsRange range → IsLabel range.high
-high_bounded range is = record { level = is.high.level; cats = is.high.cats }
 
 each_pair : (categories : Option (List (ℕ × ℕ))) → IfSome categories (AreEntries (IsPairWithin 65534 65534)) → IfSome categories (All (IsPairWithin 65534 65534))
 each_pair None is = tt
@@ -39,12 +33,12 @@ command_bounded (MapDel domain prefix) is = tt
 command_bounded MapList is = tt
 command_bounded AcceptOn is = tt
 command_bounded AcceptOff is = tt
-command_bounded (UnlblAdd interface prefix range) is = high_bounded range (is 2 spare (omega arith))
+command_bounded (UnlblAdd interface prefix range) is = is 2 spare (omega arith)
 command_bounded (UnlblDel interface prefix) is = tt
 command_bounded UnlblList is = tt
-command_bounded (ReceiverAdd address home range) is = high_bounded range (is 2 spare (omega arith))
+command_bounded (ReceiverAdd address home range) is = is 2 spare (omega arith)
 command_bounded (ReceiverDel address) is = tt
-command_bounded (RangeAdd interface range) is = high_bounded range (is 1 spare (omega arith))
+command_bounded (RangeAdd interface range) is = is 1 spare (omega arith)
 command_bounded (RangeDel interface) is = tt
 command_bounded (PairAdd four six) is = tt
 command_bounded (PairDel four) is = tt
