@@ -20,7 +20,7 @@ IsBoundedStep step = IsBounded step.command
 abbrev pub IsBoundedFlow : FlowLine → Type 0
 IsBoundedFlow flow = All IsBoundedHop flow.hops
 
--- its commands' numbers and its flows' labels are within their bounds, and each node's reading is one
+-- the numbers and labels of its commands and the labels of its flows are within their bounds, and each node's reading is one
 pub record IsBoundedScript (script : Script) : Type 0 where
   pub steps : All IsBoundedStep script.steps
   pub flows : All IsBoundedFlow script.flows

@@ -79,7 +79,7 @@ pub fn scripts_with_ranges_are_kept()
         → IsScript with_ranges own text script → IsScript with_translations own text script }
 {}
 
-/// The numbers of a script's commands and the labels of its flows are within their bounds, and each node's reading is one.
+/// The numbers and labels of a script's commands and the labels of its flows are within their bounds, and each node's reading is one.
 pub fn numbers_of_scripts_are_bounded()
     ensures { (edition : Edition) (own text : List ℕ) (script : Script)
         → IsScript edition own text script

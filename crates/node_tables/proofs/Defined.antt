@@ -52,7 +52,7 @@ refused_map_is : (r : Result Domains MapFault) (new : Domains) → refused_map r
 refused_map_is (Ok domains) new h = let same : domains ≡ new = cc in ap Ok same
 refused_map_is (Err fault) new h = absurd (cc)
 
-entry_added_is : (definitions : Entries) (domains new : Domains) (domain : Domain) (block : Option AddressBlock) (protocol : Protocol) → entry_added definitions domains domain block protocol ≡ Ok new
+pub entry_added_is : (definitions : Entries) (domains new : Domains) (domain : Domain) (block : Option AddressBlock) (protocol : Protocol) → entry_added definitions domains domain block protocol ≡ Ok new
     → (is_defined definitions protocol ≡ true) × (added domains domain block protocol ≡ Ok new)
 entry_added_is definitions domains new domain block protocol made =
     (elim (is_defined definitions protocol) as (λ b. cond b (refused_map (added domains domain block protocol)) (Err DoiUnknown) ≡ Ok new → (b ≡ true) × (added domains domain block protocol ≡ Ok new)) [
@@ -60,7 +60,7 @@ entry_added_is definitions domains new domain block protocol made =
       | false ↦ λ h. absurd (cc)
     ]) made
 
-or_refused_is : {X : Type 0} (o : Option X) (why : Refusal) (new : X) → or_refused o why ≡ Ok new → o ≡ Some new
+pub or_refused_is : {X : Type 0} (o : Option X) (why : Refusal) (new : X) → or_refused o why ≡ Ok new → o ≡ Some new
 or_refused_is (Some x) why new h = cc
 or_refused_is None why new h = absurd (cc)
 
@@ -74,7 +74,7 @@ still_found {K} {X} test (x ∷ es) e h =
       | false ↦ λ g. still_found test es e g
     ]) h
 
-same_proto_is : (a b : Proto) → same_proto a b ≡ true → a ≡ b
+pub same_proto_is : (a b : Proto) → same_proto a b ≡ true → a ≡ b
 same_proto_is Of.Cipso Of.Cipso h = refl
 same_proto_is Of.Cipso Of.Calipso h = absurd (false≢true h)
 same_proto_is Of.Calipso Of.Cipso h = absurd (false≢true h)

@@ -3,12 +3,15 @@ use Rattle.std.proofs.Common.{◌≡◌, ℕ, ◌+◌, List, [], ◌∷◌, take
 use Rattle.std.specs.Prelude.{All, IsTrue, IsSome, fold, length, replicate, option_and_then}
 use Rattle.std.proofs.lemmas.List.Sums.{fold-append}
 use Rattle.mls_label.specs.declared.label.Proto.{Proto}
+use Rattle.mls_label.specs.Label.{IsLabel}
+use Rattle.mls_range.specs.Range.{LabelRange}
 use Rattle.doi_table.specs.declared.plan.DoiPlan.{DoiPlan}
 use Rattle.doi_table.specs.Table.{Entries, definition_of}
 use Rattle.address_text.specs.declared.address.Address.{Address}
 use Rattle.domain_map.specs.declared.protocol.Protocol.{Protocol}
 use Rattle.domain_map.specs.Protocol.{has_doi}
 use Rattle.domain_map.specs.Domains.{Domains, find_of}
+use Rattle.command_values.specs.Ranges.{IsMlsRange}
 use Rattle.script_lines.specs.declared.command.Command.{Command}
 use Rattle.script_lines.specs.declared.command.Step.{Step}
 use Rattle.script_lines.specs.Bounded.{IsBounded}
@@ -65,3 +68,6 @@ tables_are_valid_after_steps nodes steps k are = all_valid nodes k steps are
 
 pub found_definitions_are_valid : (t : TableState) (proto : Proto) (doi : ℕ) (plan : DoiPlan) → AreValid t → definition_of t.definitions proto doi ≡ Some plan → IsDefined ((proto, doi), plan)
 found_definitions_are_valid t proto doi plan valid found = found_valid t.definitions proto doi plan valid.definitions found
+
+pub range_ends_are_labels : (range : LabelRange) → IsMlsRange range → IsLabel range.low × IsLabel range.high
+range_ends_are_labels range is = (record { level = is.low.level; cats = is.low.cats }, record { level = is.high.level; cats = is.high.cats })

@@ -6,5 +6,6 @@ pub mod Listings
 pub mod Names
 pub mod Defined
 pub mod Stepping
+pub mod Once
 pub mod Valid
 pub mod Law

@@ -93,11 +93,11 @@ any_found p q (y ∷ xs) x found h =
 
 -- ---- rules that come and go
 
-map_ok_inverse : {X Y : Type 0} (f : X → Y) (r : Result X MapFault) (y : Y) → map_ok f r ≡ Ok y → (x : X) × (r ≡ Ok x) × (f x ≡ y)
+pub map_ok_inverse : {X Y : Type 0} (f : X → Y) (r : Result X MapFault) (y : Y) → map_ok f r ≡ Ok y → (x : X) × (r ≡ Ok x) × (f x ≡ y)
 map_ok_inverse f (Ok x) y h = (x, refl, cc)
 map_ok_inverse f (Err fault) y h = absurd (cc)
 
-option_map_inverse : {X Y : Type 0} (f : X → Y) (o : Option X) (y : Y) → option_map f o ≡ Some y → (x : X) × (o ≡ Some x) × (f x ≡ y)
+pub option_map_inverse : {X Y : Type 0} (f : X → Y) (o : Option X) (y : Y) → option_map f o ≡ Some y → (x : X) × (o ≡ Some x) × (f x ≡ y)
 option_map_inverse f (Some x) y h = (x, refl, cc)
 option_map_inverse f None y h = absurd (cc)
 

@@ -2,12 +2,15 @@
 
 ghost use Rattle.std.specs.Prelude.{◌≡◌, ℕ, ◌+◌, List, All, Some, length, slice_get, replicate, IsTrue, IsSome};
 ghost use Rattle.mls_label.specs.declared.label.Proto.{Proto};
+ghost use Rattle.mls_label.specs.Label.{IsLabel};
+ghost use Rattle.mls_range.specs.Range.{LabelRange};
 ghost use Rattle.doi_table.specs.declared.plan.DoiPlan.{DoiPlan};
 ghost use Rattle.doi_table.specs.Table.{Entries, definition_of};
 ghost use Rattle.address_text.specs.declared.address.Address.{Address};
 ghost use Rattle.domain_map.specs.declared.protocol.Protocol.{Protocol};
 ghost use Rattle.domain_map.specs.Protocol.{has_doi};
 ghost use Rattle.domain_map.specs.Domains.{Domains, find_of};
+ghost use Rattle.command_values.specs.Ranges.{IsMlsRange};
 ghost use Rattle.script_lines.specs.declared.command.Command.{Command};
 ghost use Rattle.script_lines.specs.declared.command.Step.{Step};
 ghost use Rattle.script_lines.specs.Bounded.{IsBounded};
@@ -57,7 +60,7 @@ pub fn found_protocols_are_defined()
         → IsSome (definition_of definitions proto doi) }
 {}
 
-/// A command whose numbers are within their bounds keeps tables valid.
+/// A command whose numbers and labels are within their bounds keeps tables valid.
 pub fn bounded_commands_keep_tables_valid()
     ensures { (t : TableState) (command : Command) → IsBounded command → AreValid t
         → AreValid (applied t command) }
@@ -74,4 +77,9 @@ pub fn tables_are_valid_after_steps()
 pub fn found_definitions_are_valid()
     ensures { (t : TableState) (proto : Proto) (doi : ℕ) (plan : DoiPlan) → AreValid t
         → definition_of t.definitions proto doi ≡ Some plan → IsDefined ((proto, doi), plan) }
+{}
+
+/// Both ends of a range that tables may have are labels.
+pub fn range_ends_are_labels()
+    ensures { (range : LabelRange) → IsMlsRange range → IsLabel range.low × IsLabel range.high }
 {}

@@ -104,7 +104,7 @@ pub fn written_command_has_its_words()
         (texts_of_said (said_of command)) }
 {}
 
-/// The numbers of a command whose parameters have values of their forms are within their bounds.
+/// The numbers and labels of a command whose parameters have values of their forms are within their bounds.
 pub fn commands_are_bounded()
     ensures { (command : NodeCommand) → IsCommand command → IsBounded command }
 {}
