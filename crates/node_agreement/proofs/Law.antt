@@ -1,5 +1,5 @@
 -- The laws of src/laws.rt under their names, for the crates above.
-use Rattle.std.proofs.Common.{◌≡◌, ◌↔◌, ℕ, ◌<◌, ◌≤◌, Bool, true, false, List, length, Result, Ok, IsTrue, sym, ◌∙◌, ap, refl, arith, inl, inr, Some}
+use Rattle.std.proofs.Common.{◌≡◌, ◌↔◌, ℕ, ◌<◌, ◌≤◌, Bool, true, false, List, length, All, Result, Ok, IsTrue, sym, ◌∙◌, ap, refl, arith, inl, inr, Some}
 use Rattle.std.proofs.lemmas.Bool.{cases_eq}
 use Rattle.mls_label.specs.declared.label.Label.{Label}
 use Rattle.mls_label.specs.declared.label.Proto.{Proto}
@@ -11,15 +11,17 @@ use Rattle.doi_table.specs.Definition.{IsDefinition}
 use Rattle.doi_table.specs.Translation.{wire_label, local_label}
 use Rattle.doi_table.specs.Table.{definition_of}
 use Rattle.doi_table.proofs.Law.{wire_labels_are_labels, wire_labels_go_by_numbers, local_labels_go_by_numbers}
-use Rattle.script_lines.specs.Form.{with_ranges, with_translations}
+use Rattle.script_lines.specs.Form.{Edition, with_ranges, with_translations}
 use Rattle.node_readings.specs.Reading.{NamedMeanings}
 use Rattle.node_readings.specs.Meaning.{meaning_of}
 use Rattle.node_tables.specs.Tables.{TableState}
 use Rattle.node_tables.specs.Steps.{tables_after, reply_at}
+use Rattle.node_tables.specs.Valid.{AreValid}
+use Rattle.node_tables.proofs.Law.{tables_are_valid_after_steps}
 use Rattle.label_commands.specs.declared.script.Script.{Script}
 use Rattle.label_commands.specs.declared.stop.ScriptStop.{ScriptStop}
 use Rattle.label_commands.specs.Script.{read_text, IsScript}
-use Rattle.label_commands.proofs.Law.{scripts_with_ranges_are_kept}
+use Rattle.label_commands.proofs.Law.{scripts_with_ranges_are_kept, numbers_of_scripts_are_bounded}
 use Rattle.node_agreement.specs.declared.disagree.Disagree.{Disagree}
 use Rattle.node_agreement.specs.Meanings.{carried_below, carried_in}
 use Rattle.node_agreement.specs.Agreement.{AgreeBelow, Agree}
@@ -120,3 +122,6 @@ last_edition_keeps_tables = record {
   tables = λ own text old new k x y. ap (λ (s : Script). tables_after (length s.nodes) s.steps k) (one_script own text old new x y);
   replies = λ own text old new k x y. ap (λ (s : Script). reply_at (length s.nodes) s.steps k) (one_script own text old new x y);
 }
+
+pub tables_of_scripts_are_valid : (edition : Edition) (own text : List ℕ) (script : Script) (k : ℕ) → IsScript edition own text script → All AreValid (tables_after (length script.nodes) script.steps k)
+tables_of_scripts_are_valid edition own text script k is = tables_are_valid_after_steps (length script.nodes) script.steps k (numbers_of_scripts_are_bounded edition own text script is).steps

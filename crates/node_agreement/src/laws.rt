@@ -1,6 +1,6 @@
 //! What the definitions are worth, whatever the code does.
 
-ghost use Rattle.std.specs.Prelude.{◌≡◌, ◌↔◌, ℕ, ◌<◌, ◌≤◌, Bool, false, List, length, Some, Ok, IsTrue};
+ghost use Rattle.std.specs.Prelude.{◌≡◌, ◌↔◌, ℕ, ◌<◌, ◌≤◌, Bool, false, List, length, All, Some, Ok, IsTrue};
 ghost use Rattle.mls_label.specs.declared.label.Label.{Label};
 ghost use Rattle.mls_label.specs.declared.label.Proto.{Proto};
 ghost use Rattle.mls_label.specs.declared.label.Proto.TheVariants.{Calipso};
@@ -9,11 +9,12 @@ ghost use Rattle.doi_table.specs.declared.plan.DoiPlan.{DoiPlan};
 ghost use Rattle.doi_table.specs.Definition.{IsDefinition};
 ghost use Rattle.doi_table.specs.Translation.{wire_label, local_label};
 ghost use Rattle.doi_table.specs.Table.{definition_of};
-ghost use Rattle.script_lines.specs.Form.{with_ranges, with_translations};
+ghost use Rattle.script_lines.specs.Form.{Edition, with_ranges, with_translations};
 ghost use Rattle.node_readings.specs.Reading.{NamedMeanings};
 ghost use Rattle.node_readings.specs.Meaning.{meaning_of};
 ghost use Rattle.node_tables.specs.Tables.{TableState};
 ghost use Rattle.node_tables.specs.Steps.{tables_after, reply_at};
+ghost use Rattle.node_tables.specs.Valid.{AreValid};
 ghost use Rattle.label_commands.specs.declared.script.Script.{Script};
 ghost use Rattle.label_commands.specs.Script.{IsScript};
 ghost use Rattle.node_agreement.specs.declared.disagree.Disagree.{Disagree};
@@ -102,4 +103,12 @@ pub fn last_edition_keeps_tables()
     ensures replies { (own text : List ℕ) (old new : Script) (k : ℕ)
         → IsScript with_ranges own text old → IsScript with_translations own text new
         → reply_at (length old.nodes) old.steps k ≡ reply_at (length new.nodes) new.steps k }
+{}
+
+/// The tables of every script that is read are valid after any of its steps: each DOI is defined once and by a definition, the map names
+/// only DOIs that are defined, each range is one of labels with its ends in order, and no key has two entries, nor an address two pairs.
+pub fn tables_of_scripts_are_valid()
+    ensures { (edition : Edition) (own text : List ℕ) (script : Script) (k : ℕ)
+        → IsScript edition own text script
+        → All AreValid (tables_after (length script.nodes) script.steps k) }
 {}
