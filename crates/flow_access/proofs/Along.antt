@@ -20,9 +20,11 @@ use Rattle.flow_lines.specs.Hop.{is_send}
 use Rattle.node_readings.specs.Reading.{NamedMeanings, IsReading}
 use Rattle.node_readings.specs.Meaning.{Meaning, meaning_of, MeansDominates}
 use Rattle.node_readings.proofs.Law.{meaning_follows_dominance}
+use Rattle.command_values.specs.Ranges.{IsMlsRange}
 use Rattle.node_tables.specs.declared.receiver.Receiver.{Receiver}
 use Rattle.node_tables.specs.Tables.{TableState, find_receiver_of}
 use Rattle.node_tables.specs.Valid.{AreValid}
+use Rattle.node_tables.proofs.Law.{range_ends_are_labels}
 use Rattle.label_commands.specs.Bounded.{IsBoundedHop}
 use Rattle.label_receive.specs.declared.receiving.Delivered.{Delivered}
 use Rattle.shared_tables.specs.Plan.{PlanState, network_after}
@@ -63,6 +65,10 @@ ArrivesWell plan readings May hops octets versions (the_end.Delivered label addr
 ArrivesWell plan readings May hops octets versions (the_end.Sent carrier) = Unit {0}
 ArrivesWell plan readings May hops octets versions (the_end.Denied hop why) = Unit {0}
 
+-- a receiver's range is one
+abbrev InOrder : Receiver → Type 0
+InOrder receiver = IsMlsRange (record { low = receiver.low; high = receiver.level })
+
 -- what follows a hop's verdict
 abbrev Going : PlanState → ℕ → List Hop → Coming → List ℕ → End → List ℕ → HopVerdict → Type 0
 Going plan k hops coming versions end out verdict = Follows k (octets_in coming) (λ next. IsWalk plan (k + 1) hops next versions end out) versions end out verdict
@@ -73,7 +79,8 @@ module _ (plan : PlanState) (readings : List NamedMeanings) (tables : (version :
   level_is : (version : ℕ) (hop : Hop) (address : Address) (receiver : Receiver) → find_receiver_of (hop_tables plan version hop).receivers address ≡ Some receiver → IsLabel receiver.level
   level_is version hop address receiver found =
       let t = hop_tables plan version hop in
-      subst (λ (o : Option Receiver). IfSome o (λ r. IsLabel r.level)) found (All-lookup (λ (r : Receiver). IsLabel r.level) (same_address address) t.receivers (tables version hop).receivers)
+      let range = subst (λ (o : Option Receiver). IfSome o InOrder) found (All-lookup InOrder (same_address address) t.receivers (tables version hop).receivers) in
+      (range_ends_are_labels (record { low = receiver.low; high = receiver.level }) range).1
 
   -- ---- the induction
 

@@ -1,7 +1,7 @@
 -- The label under which a flow's first hop judges a packet is a label.
 use Rattle.std.proofs.Common.{◌≡◌, ℕ, Bool, true, false, List, [], ◌∷◌, length, cond, Option, Some, None, Result, Ok, Err, refl, sym, subst}
 use Rattle.std.specs.Prelude.{All, not, nat_eq, find, option_map, if◌then◌else◌}
-use Rattle.std.proofs.lemmas.List.Elements.{All-head, All-tail, All-filter}
+use Rattle.std.proofs.lemmas.List.Elements.{All-head, All-tail, All-filter, All-weaker}
 use Rattle.octet_grammar.specs.Octets.{IsOctets}
 use Rattle.mls_label.specs.declared.label.Label.{Label}
 use Rattle.mls_label.specs.declared.label.Proto.TheVariants as Of
@@ -38,7 +38,8 @@ use Rattle.packet_label.specs.Written.{IsReadAs}
 use Rattle.flow_lines.specs.declared.hop.Hop.{Hop}
 use Rattle.flow_lines.specs.declared.hop.Hop.TheVariants.{Send, Forward, Receive}
 use Rattle.node_tables.specs.Tables.{TableState}
-use Rattle.node_tables.specs.Valid.{HasBounds, AreValid}
+use Rattle.node_tables.specs.Valid.{IsBoundedStatic, AreValid}
+use Rattle.node_tables.proofs.Law.{range_ends_are_labels}
 use Rattle.label_commands.specs.Bounded.{IsBoundedHop}
 use Rattle.label_receive.specs.Incoming.{Incoming, address_in, static_labels, option_labels, label_of}
 use Rattle.flow_access.specs.Labels.{high_of, taken_at, hop_label}
@@ -81,12 +82,12 @@ module _ {X : Type 0} (P : X → Type 0) (test : X → Bool) where
   found_holds [] y all e = absurd (cc)
   found_holds (x ∷ xs) y all e = one_found (test x) x y (find test xs) (All-head P x xs all) (λ h. found_holds xs y (All-tail P x xs all) h) e
 
-entries_hold : (statics : Statics) (interface : List ℕ) → All HasBounds statics → All HasBounds (candidates statics interface)
+entries_hold : (statics : Statics) (interface : List ℕ) → All IsBoundedStatic statics → All IsBoundedStatic (candidates statics interface)
 entries_hold statics interface all = by_test (nat_eq (length (entries_of statics (Some interface))) 0)
   where
-    by_test : (b : Bool) → All HasBounds (if b then entries_of statics None else entries_of statics (Some interface))
-    by_test true = All-filter (λ (entry : StaticEntry). same_domain None entry.interface) HasBounds statics all
-    by_test false = All-filter (λ (entry : StaticEntry). same_domain (Some interface) entry.interface) HasBounds statics all
+    by_test : (b : Bool) → All IsBoundedStatic (if b then entries_of statics None else entries_of statics (Some interface))
+    by_test true = All-filter (λ (entry : StaticEntry). same_domain None entry.interface) IsBoundedStatic statics all
+    by_test false = All-filter (λ (entry : StaticEntry). same_domain (Some interface) entry.interface) IsBoundedStatic statics all
 
 -- what is found is of one of the entries that count for the interface, so its high label keeps to what all of these keep to
 pub high_found : (P : Label → Type 0) (statics : Statics) (interface : List ℕ) (address : Address) (labels : Label × Label) → All (λ (entry : StaticEntry). P entry.high) (candidates statics interface)
@@ -100,8 +101,9 @@ high_found P statics interface address labels all e = by_entry (longest (λ (ent
         let same : (entry.low, entry.high) ≡ labels = cc in
         subst (λ (ls : Label × Label). P ls.1) same (found_holds (λ (entry : StaticEntry). P entry.high) _ (candidates statics interface) entry all f)
 
-static_found : (statics : Statics) (interface : List ℕ) (address : Address) (labels : Label × Label) → All HasBounds statics → find_static_of statics interface address ≡ Some labels → IsLabel labels.1
-static_found statics interface address labels all e = high_found IsLabel statics interface address labels (entries_hold statics interface all) e
+static_found : (statics : Statics) (interface : List ℕ) (address : Address) (labels : Label × Label) → All IsBoundedStatic statics → find_static_of statics interface address ≡ Some labels → IsLabel labels.1
+static_found statics interface address labels all e =
+    high_found IsLabel statics interface address labels (All-weaker IsBoundedStatic (λ (entry : StaticEntry). IsLabel entry.high) (λ entry is. (range_ends_are_labels (record { low = entry.low; high = entry.high }) is).1) (candidates statics interface) (entries_hold statics interface all)) e
 
 module _ (t : TableState) (valid : AreValid t) (incoming : Incoming) where
   static_label : (interface : List ℕ) (source : Address) → static_labels t interface source ≡ Ok incoming → IsLabel incoming.high

@@ -15,6 +15,7 @@ use Rattle.label_commands.specs.declared.script.Script.{Script}
 use Rattle.label_commands.specs.Script.{no_meanings, IsScript}
 use Rattle.label_commands.specs.Bounded.{IsBoundedStep, IsBoundedFlow, IsBoundedScript}
 use Rattle.label_commands.proofs.Law.{scripts_are_sound, numbers_of_scripts_are_bounded, no_meanings_are_a_reading}
+use Rattle.node_agreement.proofs.Law.{tables_of_scripts_are_valid}
 use Rattle.shared_tables.specs.Plan.{PlanState, network_after}
 use Rattle.flow_access.specs.Labels.{hop_tables}
 use Rattle.flow_access.specs.Valid.{IsValidFlow}
@@ -34,10 +35,12 @@ one_or {X} P xs i other all is = by_place (slice_get xs i) refl where
 fresh_valid : AreValid fresh
 fresh_valid = All-head AreValid fresh [] (subst (All AreValid) (nodes_begin_fresh 1 []) (tables_are_valid_after_steps 1 [] 0 (All-nil IsBoundedStep)))
 
-module _ (script : Script) (bounded : IsBoundedScript script) where
+module _ (edition : Edition) (own text : List ℕ) (script : Script) (is : IsScript edition own text script) where
+  bounded : IsBoundedScript script
+  bounded = numbers_of_scripts_are_bounded edition own text script is
+
   tables_valid : (version : ℕ) (hop : Hop) → AreValid (hop_tables (its_plan script) version hop)
-  tables_valid version hop =
-      one_or AreValid (network_after (its_plan script) version) (node_of hop) fresh (tables_are_valid_after_steps (length script.nodes) script.steps version bounded.steps) fresh_valid
+  tables_valid version hop = one_or AreValid (network_after (its_plan script) version) (node_of hop) fresh (tables_of_scripts_are_valid edition own text script version is) fresh_valid
 
   flow_valid : (flow : FlowLine) → IsBoundedFlow flow → IsRoute flow.hops → IsValidFlow (its_plan script) script.readings flow.hops
   flow_valid flow labels route = record {
@@ -47,8 +50,7 @@ module _ (script : Script) (bounded : IsBoundedScript script) where
     ordered = route.ordered;
   }
 
-pub script_flows_valid : (edition : Edition) (own text : List ℕ) (script : Script) → IsScript edition own text script → All (λ flow. IsValidFlow (its_plan script) script.readings flow.hops) script.flows
-script_flows_valid edition own text script e =
-    let bounded = numbers_of_scripts_are_bounded edition own text script e in
-    let sound = scripts_are_sound edition own text script e in
-    λ i d lt. flow_valid script bounded (get_or script.flows i d) (bounded.flows i d lt) (sound.routes i d lt)
+  pub script_flows_valid : All (λ flow. IsValidFlow (its_plan script) script.readings flow.hops) script.flows
+  script_flows_valid =
+      let sound = scripts_are_sound edition own text script is in
+      λ i d lt. flow_valid (get_or script.flows i d) (bounded.flows i d lt) (sound.routes i d lt)

@@ -3,7 +3,7 @@ use Rattle.std.proofs.Common.{◌≡◌, ◌⊎◌, inl, inr, ℕ, Bool, true, f
 use Rattle.std.specs.Prelude.{All, not, ◌&&◌, if◌then◌else◌, option_map}
 use Rattle.std.proofs.lemmas.Bool.{and_parts, false≢true}
 use Rattle.std.proofs.lemmas.Map.Entries.{All-lookup}
-use Rattle.std.proofs.lemmas.List.Elements.{All-nil, All-filter}
+use Rattle.std.proofs.lemmas.List.Elements.{All-nil, All-filter, All-weaker}
 use Rattle.mls_label.specs.declared.label.Label.{Label}
 use Rattle.mls_label.specs.Label.{Dominates, IsLabel}
 use Rattle.mls_range.specs.Range.{LabelRange}
@@ -26,8 +26,10 @@ use Rattle.flow_lines.specs.Hop.{is_send}
 use Rattle.node_readings.specs.Reading.{NamedMeanings, IsReading}
 use Rattle.node_readings.specs.Meaning.{meaning_of, MeansDominates}
 use Rattle.node_readings.proofs.Law.{meaning_follows_dominance, dominance_of_meanings_goes_on}
+use Rattle.command_values.specs.Ranges.{IsMlsRange}
 use Rattle.node_tables.specs.Tables.{Ranges, TableState, range_at, find_range_of}
-use Rattle.node_tables.specs.Valid.{IsBoundedRange, HasBounds, AreValid}
+use Rattle.node_tables.specs.Valid.{IsBoundedRange, IsBoundedStatic, AreValid}
+use Rattle.node_tables.proofs.Law.{range_ends_are_labels}
 use Rattle.label_receive.specs.Incoming.{Incoming, address_in, static_labels, option_labels, label_of}
 use Rattle.label_receive.specs.Range.{in_range, is_outside}
 use Rattle.flow_access.specs.Labels.{high_of, hop_label}
@@ -78,14 +80,14 @@ hop_takes_static t p y (Receive node interface) never is e = takes_static t inte
 
 -- ---- what goes out is below the range
 
-range_is : (ranges : Ranges) (interface : Domain) (o : Option LabelRange) → range_at ranges interface ≡ o → All IsBoundedRange ranges → IfSome o (λ range. IsLabel range.high)
-range_is ranges interface o is all = subst (λ (o : Option LabelRange). IfSome o (λ range. IsLabel range.high)) is (All-lookup (λ (range : LabelRange). IsLabel range.high) (same_domain interface) ranges all)
+range_is : (ranges : Ranges) (interface : Domain) (o : Option LabelRange) → range_at ranges interface ≡ o → All IsBoundedRange ranges → IfSome o IsMlsRange
+range_is ranges interface o is all = subst (λ (o : Option LabelRange). IfSome o IsMlsRange) is (All-lookup IsMlsRange (same_domain interface) ranges all)
 
 found_is : (ranges : Ranges) (interface : List ℕ) (range : LabelRange) → find_range_of ranges interface ≡ Some range → All IsBoundedRange ranges → IsLabel range.high
-found_is ranges interface range found all = by_own (range_at ranges (Some interface)) refl found
+found_is ranges interface range found all = (range_ends_are_labels range (by_own (range_at ranges (Some interface)) refl found)).1
   where
-    by_own : (o : Option LabelRange) → range_at ranges (Some interface) ≡ o → ◌≡◌ {A = Option LabelRange} (elim o as (λ _. Option LabelRange) [ Some own ↦ Some own | None ↦ range_at ranges None ]) (Some range) → IsLabel range.high
-    by_own (Some own) is e = let same : own ≡ range = cc in subst (λ (r : LabelRange). IsLabel r.high) same (range_is ranges (Some interface) (Some own) is all)
+    by_own : (o : Option LabelRange) → range_at ranges (Some interface) ≡ o → ◌≡◌ {A = Option LabelRange} (elim o as (λ _. Option LabelRange) [ Some own ↦ Some own | None ↦ range_at ranges None ]) (Some range) → IsMlsRange range
+    by_own (Some own) is e = let same : own ≡ range = cc in subst IsMlsRange same (range_is ranges (Some interface) (Some own) is all)
     by_own None is e = range_is ranges None (Some range) e all
 
 held : (range : LabelRange) (low x : Label) → not (in_range range low && in_range range x) ≡ false → Dominates range.high x
@@ -121,8 +123,10 @@ module _ (a b : TableState) (out into : List ℕ) (a_named b_named : NamedMeanin
   no_entry : candidates b.statics into ≡ [] → ⊥
   no_entry none = taken (λ l. ⊥) (subst (All (λ (entry : StaticEntry). ⊥)) (sym none) (All-nil (λ (entry : StaticEntry). ⊥)))
 
-  are_labels : All HasBounds (candidates b.statics into)
-  are_labels = subst (All HasBounds) (sym (candidates_are b.statics into)) (All-filter (λ (e : StaticEntry). same_domain (counting b.statics into) e.interface) HasBounds b.statics valid_b.statics)
+  are_labels : All (λ (entry : StaticEntry). IsLabel entry.high) (candidates b.statics into)
+  are_labels =
+      let bounded = subst (All IsBoundedStatic) (sym (candidates_are b.statics into)) (All-filter (λ (e : StaticEntry). same_domain (counting b.statics into) e.interface) IsBoundedStatic b.statics valid_b.statics) in
+      All-weaker IsBoundedStatic (λ (entry : StaticEntry). IsLabel entry.high) (λ entry is. (range_ends_are_labels (record { low = entry.low; high = entry.high }) is).1) (candidates b.statics into) bounded
 
   pub climbs_over : Covered a out b into a_named b_named → MeansDominates (meaning_of b_named y) (meaning_of a_named x) × IsLabel y
   climbs_over covered = (by_way covered.unlabelled, taken IsLabel are_labels)
