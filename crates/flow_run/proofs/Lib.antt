@@ -7,4 +7,5 @@ pub mod Beginnings
 pub mod Flown
 pub mod Ending
 pub mod NoFrame
+pub mod Withheld
 pub mod Law

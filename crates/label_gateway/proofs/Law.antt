@@ -14,6 +14,7 @@ use Rattle.version_cross.specs.Checksum.{checksum_sum}
 use Rattle.version_cross.specs.Cross.{crossed}
 use Rattle.version_cross.specs.Laws.{CanCross}
 use Rattle.version_cross.proofs.Law.{crossing_keeps_the_sum}
+use Rattle.node_tables.specs.Coherence.{NamesDefined}
 use Rattle.node_tables.specs.Tables.{TableState}
 use Rattle.label_send.specs.Outgoing.{outgoing}
 use Rattle.label_send.specs.Laws.{AreDefinitions, IsInRoom}
@@ -21,6 +22,7 @@ use Rattle.label_gateway.specs.Forward.{Forwarded, forward_of, onward}
 use Rattle.label_gateway.specs.Laws.{ArePairs, GoesOn}
 use Rattle.label_gateway.specs.NoOption.{HasNoWayOn, before_forwarding}
 use Rattle.label_gateway.proofs.NoOption.{not_forwarded}
+use Rattle.label_gateway.proofs.Told.{told_so}
 use Rattle.label_gateway.proofs.Going.{goes_on, gone_on, says_label, keeps_protocol, takes_a_hop}
 use Rattle.label_gateway.proofs.Written.{can_go_on, in_room, forwarded_sum}
 use Rattle.label_gateway.proofs.Versions.{never_wrong_version}
@@ -41,6 +43,10 @@ packets_that_go_on_keep_their_protocol = keeps_protocol
 pub packets_without_an_option_are_not_forwarded : (t : TableState) (from to domain : List ℕ) (p : ParsedPacket Wire) (lacks : HasNoWayOn t from domain p)
     → forward_of t from to domain p ≡ Err (unwrap_or (before_forwarding t from to lacks.incoming lacks.none.protocol p) Inexpressible)
 packets_without_an_option_are_not_forwarded = not_forwarded
+
+pub inexpressible_packets_have_no_way_on : (t : TableState) (from to domain : List ℕ) (p : ParsedPacket Wire) → NamesDefined t.definitions t.domains → forward_of t from to domain p ≡ Err Inexpressible
+    → (lacks : HasNoWayOn t from domain p) × (before_forwarding t from to lacks.incoming lacks.none.protocol p ≡ None)
+inexpressible_packets_have_no_way_on = told_so
 
 pub forwarding_takes_a_hop : (t : TableState) (from to domain : List ℕ) (p : ParsedPacket Wire) (f : Forwarded) → forward_of t from to domain p ≡ Ok f → f.packet.hops + 1 ≡ p.hops
 forwarding_takes_a_hop = takes_a_hop

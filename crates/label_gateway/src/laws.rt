@@ -13,6 +13,7 @@ ghost use Rattle.version_cross.specs.Cause.{cross_cause};
 ghost use Rattle.version_cross.specs.Checksum.{checksum_sum};
 ghost use Rattle.version_cross.specs.Cross.{crossed};
 ghost use Rattle.version_cross.specs.Laws.{CanCross};
+ghost use Rattle.node_tables.specs.Coherence.{NamesDefined};
 ghost use Rattle.node_tables.specs.Tables.{TableState};
 ghost use Rattle.label_send.specs.Outgoing.{outgoing};
 ghost use Rattle.label_send.specs.Laws.{AreDefinitions, IsInRoom};
@@ -57,6 +58,16 @@ pub fn packets_without_an_option_are_not_forwarded()
         ≡ Err
         (unwrap_or
         (before_forwarding t from to lacks.incoming lacks.none.protocol p) Inexpressible) }
+{}
+
+/// Inexpressible is told of no other packet, where the map names defined DOIs alone: one that forwarding denies so, in its own version or
+/// where it would cross, has no option for its label where it would go, and no earlier case holds.
+pub fn inexpressible_packets_have_no_way_on()
+    ensures { (t : TableState) (from to domain : List ℕ) (p : ParsedPacket Wire)
+        → NamesDefined t.definitions t.domains
+        → forward_of t from to domain p ≡ Err Inexpressible
+        → (lacks : HasNoWayOn t from domain p)
+        × (before_forwarding t from to lacks.incoming lacks.none.protocol p ≡ None) }
 {}
 
 /// A packet that is forwarded has one hop less.

@@ -95,16 +95,16 @@ label_so t interface p why h = labels_so t interface p p.label why h
 is_above : (label : Label) → dominates label (record { level = 0; cats = [] }) ≡ true
 is_above label = (dominance_computes label (record { level = 0; cats = [] })).1 (record { level = omega arith; cats = λ c h. absurd (false≢true h) })
 
-unless_below : (o : Option Denial) (address : Address) (label : Label) → delivered_unless o address label ≡ Err BelowRange → o ≡ Some BelowRange
-unless_below None address label h = absurd (cc)
-unless_below (Some why) address label h = let same : why ≡ BelowRange = cc in ap Some same
+pub unless_so : (o : Option Denial) (address : Address) (label : Label) (why : Denial) → delivered_unless o address label ≡ Err why → o ≡ Some why
+unless_so None address label why h = absurd (cc)
+unless_so (Some other) address label why h = let same : other ≡ why = cc in ap Some same
 
 by_receiver_other : (domains : Domains) (source destination : Address) (incoming : Incoming) (o : Option Receiver) → IfSome o (λ r. r.low ≡ record { level = 0; cats = [] })
     → by_receiver domains source destination incoming o ≡ Err BelowRange → ⊥
 by_receiver_other domains source destination incoming None lowest h = absurd (cc)
 by_receiver_other domains source destination incoming (Some receiver) lowest h =
     let low = below (map_refuses domains receiver.domain source incoming.carrier) (dominates receiver.level incoming.high) (dominates incoming.low receiver.low)
-    (unless_below (refusal_of domains receiver source incoming) destination incoming.high h) in
+    (unless_so (refusal_of domains receiver source incoming) destination incoming.high BelowRange h) in
     true≢false (sym (is_above incoming.low) ∙ ap (dominates incoming.low) (sym lowest) ∙ low)
 
 inside_other : (t : TableState) (b : Bool) (source destination : Address) (incoming : Incoming) → HaveLowestEnds t.receivers

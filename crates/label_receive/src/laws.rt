@@ -4,7 +4,7 @@ ghost use Rattle.std.specs.Prelude.{◌≡◌, ℕ, List, Result, Ok, Err, IsTru
 ghost use Rattle.ip_headers.specs.Packet.{ParsedPacket};
 ghost use Rattle.packet_label.specs.declared.packet.Wire.{Wire};
 ghost use Rattle.packet_label.specs.declared.denial.Denial.{Denial};
-ghost use Rattle.packet_label.specs.declared.denial.Denial.TheVariants.{BelowRange};
+ghost use Rattle.packet_label.specs.declared.denial.Denial.TheVariants.{BelowRange, Inexpressible};
 ghost use Rattle.node_tables.specs.Tables.{TableState};
 ghost use Rattle.label_receive.specs.declared.receiving.Delivered.{Delivered};
 ghost use Rattle.label_receive.specs.Incoming.{label_of};
@@ -49,4 +49,12 @@ pub fn due_packets_are_delivered()
 pub fn missing_labels_have_six_reasons()
     ensures { (t : TableState) (interface : List ℕ) (p : ParsedPacket Wire) (why : Denial)
         → label_of t interface p ≡ Err why → IsTrue (is_of_labels why) }
+{}
+
+/// No packet is denied as Inexpressible for its labels, nor where it is received.
+pub fn receiving_never_tells_inexpressible()
+    ensures labels { (t : TableState) (interface : List ℕ) (p : ParsedPacket Wire)
+        → label_of t interface p ≡ Err Inexpressible → ⊥ }
+    ensures received { (t : TableState) (interface : List ℕ) (p : ParsedPacket Wire)
+        → receive_of t interface p ≡ Err Inexpressible → ⊥ }
 {}

@@ -13,6 +13,7 @@ use Rattle.ip_headers.specs.Written.{IsParsed, rewritten}
 use Rattle.packet_label.specs.declared.packet.Wire.{Wire}
 use Rattle.packet_label.specs.declared.denial.Denial.{Denial}
 use Rattle.packet_label.specs.declared.denial.Denial.TheVariants.{Inexpressible}
+use Rattle.packet_label.specs.Choice.{front_in}
 use Rattle.node_tables.specs.Coherence.{NamesDefined}
 use Rattle.node_tables.specs.Tables.{TableState}
 use Rattle.label_send.specs.Outgoing.{CanGoOut, outgoing, suits}
@@ -23,6 +24,7 @@ use Rattle.label_send.specs.NoOption.{HasNoOption, before_sending}
 use Rattle.label_send.proofs.NoOption.{inexpressible_stays, not_sent}
 use Rattle.label_send.proofs.Outward.{is_sent}
 use Rattle.label_send.proofs.Stays.{stays}
+use Rattle.label_send.proofs.Told.{told_so}
 use Rattle.label_send.proofs.Writable.{can_go_out, may_be_written}
 
 pub sent_packets_may_go_out : (t : TableState) (domain interface : List ℕ) (label : Label) (octets : List ℕ) (sent : Sent) → send_octets t domain interface label octets ≡ Ok sent → IsSent t domain interface label octets sent
@@ -38,6 +40,11 @@ inexpressible_labels_stay = inexpressible_stays
 pub packets_without_an_option_are_not_sent : (t : TableState) (domain interface : List ℕ) (label : Label) (h : Headers) (lacks : HasNoOption t domain label h)
     → send_of t domain interface label h ≡ Err (unwrap_or (before_sending t interface lacks.protocol label h) Inexpressible)
 packets_without_an_option_are_not_sent = not_sent
+
+pub inexpressible_packets_have_no_option : (t : TableState) (domain interface : List ℕ) (label : Label) (octets : List ℕ) → NamesDefined t.definitions t.domains
+    → send_octets t domain interface label octets ≡ Err Inexpressible
+    → (h : Headers) × (front_in octets ≡ Ok h) × ((lacks : HasNoOption t domain label h) × (before_sending t interface lacks.protocol label h ≡ None))
+inexpressible_packets_have_no_option = told_so
 
 pub outgoing_labels_can_be_said : (definitions : Entries) (protocol : Protocol) (label : Label) (version : Version) → AreDefinitions definitions → IsLabel label → IsTrue (suits version protocol)
     → CanGoOut version (outgoing definitions protocol label)

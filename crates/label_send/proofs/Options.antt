@@ -15,8 +15,6 @@ use Rattle.doi_table.specs.declared.plan.DoiPlan.{DoiPlan}
 use Rattle.doi_table.specs.declared.unmapped.Unmapped.{Unmapped}
 use Rattle.doi_table.specs.Table.{Entries, definition_of}
 use Rattle.doi_table.specs.Translation.{wire_label}
-use Rattle.domain_map.specs.Domains.{Domains}
-use Rattle.node_tables.specs.Coherence.{IsCoherent}
 use Rattle.packet_label.specs.declared.packet.Wire.TheVariants as wire
 use Rattle.packet_label.specs.declared.denial.Denial.TheVariants.{Inexpressible}
 use Rattle.label_send.specs.Outgoing.{is_in_words, calipso_said}

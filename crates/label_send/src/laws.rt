@@ -13,6 +13,7 @@ ghost use Rattle.ip_headers.specs.Written.{IsParsed, rewritten};
 ghost use Rattle.packet_label.specs.declared.packet.Wire.{Wire};
 ghost use Rattle.packet_label.specs.declared.denial.Denial.{Denial};
 ghost use Rattle.packet_label.specs.declared.denial.Denial.TheVariants.{Inexpressible};
+ghost use Rattle.packet_label.specs.Choice.{front_in};
 ghost use Rattle.node_tables.specs.Coherence.{NamesDefined};
 ghost use Rattle.node_tables.specs.Tables.{TableState};
 ghost use Rattle.label_send.specs.Outgoing.{CanGoOut, outgoing, suits};
@@ -55,6 +56,17 @@ pub fn packets_without_an_option_are_not_sent()
         (lacks : HasNoOption t domain label h)
         → send_of t domain interface label h
         ≡ Err (unwrap_or (before_sending t interface lacks.protocol label h) Inexpressible) }
+{}
+
+/// Inexpressible is told of no other packet, where the map names defined DOIs alone: one that sending denies so has no option for its
+/// label, and no earlier case holds.
+pub fn inexpressible_packets_have_no_option()
+    ensures { (t : TableState) (domain interface : List ℕ) (label : Label) (octets : List ℕ)
+        → NamesDefined t.definitions t.domains
+        → send_octets t domain interface label octets ≡ Err Inexpressible
+        → (h : Headers) × (front_in octets ≡ Ok h)
+        × ((lacks : HasNoOption t domain label h)
+        × (before_sending t interface lacks.protocol label h ≡ None)) }
 {}
 
 /// What goes out under a protocol that suits a version can be said in an option of this version.

@@ -2,17 +2,19 @@
 use Rattle.std.proofs.Common.{◌≡◌, ℕ, ◌≤◌, List, ◌++◌, [], take, All, Result}
 use Rattle.ip_headers.specs.Packet.{ParsedPacket}
 use Rattle.packet_label.specs.declared.denial.Denial.{Denial}
+use Rattle.packet_label.specs.declared.denial.Denial.TheVariants.{Inexpressible}
 use Rattle.packet_label.specs.declared.fault.CarryFault.{CarryFault}
 use Rattle.packet_label.specs.declared.packet.Wire.{Wire}
 use Rattle.flow_lines.specs.declared.hop.Hop.{Hop}
 use Rattle.node_tables.specs.Tables.{TableState}
-use Rattle.shared_tables.specs.Plan.{PlanState}
+use Rattle.shared_tables.specs.Plan.{PlanState, network_after}
 use Rattle.packet_walk.specs.declared.packet.PacketIn.{PacketIn}
 use Rattle.packet_walk.specs.declared.walked.End.{End}
 use Rattle.packet_walk.specs.declared.walked.End.TheVariants as the_end
 use Rattle.packet_walk.specs.Walk.{Coming, IsReadFrom, IsWalkOf, denied, hop_verdict}
 use Rattle.packet_walk.specs.NoOption.{HopHasNoOption, MeetsNoOption}
 use Rattle.packet_walk.proofs.NoOption.{denies, ends_denied}
+use Rattle.packet_walk.proofs.Told.{hop_told, walk_told}
 use Rattle.packet_walk.proofs.OneWay.{read_once, one_way, over_beginning, one_cut}
 
 pub walks_end_in_one_way : (plan : PlanState) (hops : List Hop) (packet : PacketIn) (versions : List ℕ) (end end' : End) (out out' : List ℕ) → IsWalkOf plan hops packet versions end out
@@ -37,3 +39,11 @@ hops_without_an_option_deny = denies
 pub walks_without_an_option_end_denied : (plan : PlanState) (hops : List Hop) (packet : PacketIn) (versions : List ℕ) (end : End) (out : List ℕ) (at : ℕ) (why : Denial) → IsWalkOf plan hops packet versions end out
     → MeetsNoOption plan hops packet versions at why → (end ≡ the_end.Denied at why) × (out ≡ [])
 walks_without_an_option_end_denied = ends_denied
+
+pub hops_that_tell_inexpressible_have_no_option : (plan : PlanState) (version : ℕ) (hop : Hop) (octets : List ℕ) (read : Result (ParsedPacket Wire) CarryFault)
+    → hop_verdict (network_after plan version) hop octets read ≡ denied Inexpressible → HopHasNoOption (network_after plan version) hop octets read Inexpressible
+hops_that_tell_inexpressible_have_no_option = hop_told
+
+pub walks_that_tell_inexpressible_meet_no_option : (plan : PlanState) (hops : List Hop) (packet : PacketIn) (versions : List ℕ) (out : List ℕ) (at : ℕ)
+    → IsWalkOf plan hops packet versions (the_end.Denied at Inexpressible) out → MeetsNoOption plan hops packet versions at Inexpressible
+walks_that_tell_inexpressible_meet_no_option = walk_told

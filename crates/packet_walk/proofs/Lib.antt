@@ -2,4 +2,5 @@ pub mod Lengths
 pub mod Walks
 pub mod OneWay
 pub mod NoOption
+pub mod Told
 pub mod Law

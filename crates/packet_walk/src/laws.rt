@@ -3,11 +3,12 @@
 ghost use Rattle.std.specs.Prelude.{◌≡◌, ℕ, ◌≤◌, ◌++◌, List, [], take, All, Result};
 ghost use Rattle.ip_headers.specs.Packet.{ParsedPacket};
 ghost use Rattle.packet_label.specs.declared.denial.Denial.{Denial};
+ghost use Rattle.packet_label.specs.declared.denial.Denial.TheVariants.{Inexpressible};
 ghost use Rattle.packet_label.specs.declared.fault.CarryFault.{CarryFault};
 ghost use Rattle.packet_label.specs.declared.packet.Wire.{Wire};
 ghost use Rattle.flow_lines.specs.declared.hop.Hop.{Hop};
 ghost use Rattle.node_tables.specs.Tables.{TableState};
-ghost use Rattle.shared_tables.specs.Plan.{PlanState};
+ghost use Rattle.shared_tables.specs.Plan.{PlanState, network_after};
 ghost use Rattle.packet_walk.specs.declared.packet.PacketIn.{PacketIn};
 ghost use Rattle.packet_walk.specs.declared.walked.End.{End};
 ghost use Rattle.packet_walk.specs.declared.walked.End.TheVariants as the_end;
@@ -53,6 +54,22 @@ pub fn walks_without_an_option_end_denied()
         → IsWalkOf plan hops packet versions end out
         → MeetsNoOption plan hops packet versions at why
         → (end ≡ the_end.Denied at why) × (out ≡ []) }
+{}
+
+/// Inexpressible is told of no other packet: after any steps of a plan, a hop that denies a packet so has no option for its label.
+pub fn hops_that_tell_inexpressible_have_no_option()
+    ensures { (plan : PlanState) (version : ℕ) (hop : Hop) (octets : List ℕ)
+        (read : Result (ParsedPacket Wire) CarryFault)
+        → hop_verdict (network_after plan version) hop octets read ≡ denied Inexpressible
+        → HopHasNoOption (network_after plan version) hop octets read Inexpressible }
+{}
+
+/// So a packet whose walk ends so comes to such a hop, which is the one that its end names.
+pub fn walks_that_tell_inexpressible_meet_no_option()
+    ensures { (plan : PlanState) (hops : List Hop) (packet : PacketIn)
+        (versions : List ℕ) (out : List ℕ) (at : ℕ)
+        → IsWalkOf plan hops packet versions (the_end.Denied at Inexpressible) out
+        → MeetsNoOption plan hops packet versions at Inexpressible }
 {}
 
 /// A walk's versions don't begin those of another walk of the packet.
