@@ -32,10 +32,10 @@ use Rattle.flow_access.specs.Access.{HaveAccess}
 use Rattle.flow_access.specs.Labels.{hop_label}
 use Rattle.flow_access.specs.Kept.{LabelIsKept}
 use Rattle.flow_access.specs.Sound.{IsSound}
-use Rattle.flow_access.specs.Valid.{IsValidFlow}
+use Rattle.flow_access.specs.Valid.{plan_of, IsValidFlow}
 use Rattle.flow_access.proofs.Hops.{says_label}
 use Rattle.flow_access.proofs.Links.{labelled}
-use Rattle.flow_access.proofs.Scripts.{its_plan, script_flows_valid}
+use Rattle.flow_access.proofs.Scripts.{script_flows_valid}
 use Rattle.flow_access.proofs.Walks.{sound}
 -- terms over any relation between meanings, or any property of labels, which no clause can state
 pub use Rattle.flow_access.proofs.Origins.{high_found}
@@ -62,11 +62,11 @@ walked_packets_have_access plan readings hops [] (pair ∷ pairs) valid walked =
 walked_packets_have_access plan readings hops (packet ∷ packets) (pair ∷ pairs) valid walked =
     (sound plan readings hops packet pair.walked.versions pair.walked.end pair.octets valid walked.0, walked_packets_have_access plan readings hops packets pairs valid walked.1)
 
-pub flows_of_scripts_are_valid : (edition : Edition) (own text : List ℕ) (script : Script) → IsScript edition own text script → All (λ (flow : FlowLine). IsValidFlow (its_plan script) script.readings flow.hops) script.flows
+pub flows_of_scripts_are_valid : (edition : Edition) (own text : List ℕ) (script : Script) → IsScript edition own text script → All (λ (flow : FlowLine). IsValidFlow (plan_of script) script.readings flow.hops) script.flows
 flows_of_scripts_are_valid = script_flows_valid
 
 pub packets_of_scripts_have_access : (edition : Edition) (own text : List ℕ) (script : Script) (packets : List PacketIn) (pairs : List PairState) → IsScript edition own text script
-    → All (λ (flow : FlowLine). AreWalked (its_plan script) flow.hops packets pairs → HaveAccess (its_plan script) script.readings flow.hops packets pairs) script.flows
+    → All (λ (flow : FlowLine). AreWalked (plan_of script) flow.hops packets pairs → HaveAccess (plan_of script) script.readings flow.hops packets pairs) script.flows
 packets_of_scripts_have_access edition own text script packets pairs is =
-    All-weaker (λ (flow : FlowLine). IsValidFlow (its_plan script) script.readings flow.hops) (λ (flow : FlowLine). AreWalked (its_plan script) flow.hops packets pairs → HaveAccess (its_plan script) script.readings flow.hops packets pairs)
-    (λ flow valid. walked_packets_have_access (its_plan script) script.readings flow.hops packets pairs valid) script.flows (script_flows_valid edition own text script is)
+    All-weaker (λ (flow : FlowLine). IsValidFlow (plan_of script) script.readings flow.hops) (λ (flow : FlowLine). AreWalked (plan_of script) flow.hops packets pairs → HaveAccess (plan_of script) script.readings flow.hops packets pairs)
+    (λ flow valid. walked_packets_have_access (plan_of script) script.readings flow.hops packets pairs valid) script.flows (script_flows_valid edition own text script is)

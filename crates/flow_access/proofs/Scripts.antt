@@ -16,13 +16,9 @@ use Rattle.label_commands.specs.Script.{no_meanings, IsScript}
 use Rattle.label_commands.specs.Bounded.{IsBoundedStep, IsBoundedFlow, IsBoundedScript}
 use Rattle.label_commands.proofs.Law.{scripts_are_sound, numbers_of_scripts_are_bounded, no_meanings_are_a_reading}
 use Rattle.node_agreement.proofs.Law.{tables_of_scripts_are_valid}
-use Rattle.shared_tables.specs.Plan.{PlanState, network_after}
+use Rattle.shared_tables.specs.Plan.{network_after}
 use Rattle.flow_access.specs.Labels.{hop_tables}
-use Rattle.flow_access.specs.Valid.{IsValidFlow}
-
--- its nodes, and its steps in order
-abbrev pub its_plan : Script → PlanState
-its_plan script = record { nodes = length script.nodes; steps = script.steps }
+use Rattle.flow_access.specs.Valid.{plan_of, IsValidFlow}
 
 -- that of a place, or the one that stands for what isn't there
 one_or : {X : Type 0} (P : X → Type 0) (xs : List X) (i : ℕ) (other : X) → All P xs → P other → P (unwrap_or (slice_get xs i) other)
@@ -39,10 +35,10 @@ module _ (edition : Edition) (own text : List ℕ) (script : Script) (is : IsScr
   bounded : IsBoundedScript script
   bounded = numbers_of_scripts_are_bounded edition own text script is
 
-  tables_valid : (version : ℕ) (hop : Hop) → AreValid (hop_tables (its_plan script) version hop)
-  tables_valid version hop = one_or AreValid (network_after (its_plan script) version) (node_of hop) fresh (tables_of_scripts_are_valid edition own text script version is) fresh_valid
+  tables_valid : (version : ℕ) (hop : Hop) → AreValid (hop_tables (plan_of script) version hop)
+  tables_valid version hop = one_or AreValid (network_after (plan_of script) version) (node_of hop) fresh (tables_of_scripts_are_valid edition own text script version is) fresh_valid
 
-  flow_valid : (flow : FlowLine) → IsBoundedFlow flow → IsRoute flow.hops → IsValidFlow (its_plan script) script.readings flow.hops
+  flow_valid : (flow : FlowLine) → IsBoundedFlow flow → IsRoute flow.hops → IsValidFlow (plan_of script) script.readings flow.hops
   flow_valid flow labels route = record {
     tables = tables_valid;
     named = λ hop. one_or IsReading script.readings (node_of hop) no_meanings bounded.readings no_meanings_are_a_reading;
@@ -50,7 +46,7 @@ module _ (edition : Edition) (own text : List ℕ) (script : Script) (is : IsScr
     ordered = route.ordered;
   }
 
-  pub script_flows_valid : All (λ flow. IsValidFlow (its_plan script) script.readings flow.hops) script.flows
+  pub script_flows_valid : All (λ flow. IsValidFlow (plan_of script) script.readings flow.hops) script.flows
   script_flows_valid =
       let sound = scripts_are_sound edition own text script is in
       λ i d lt. flow_valid (get_or script.flows i d) (bounded.flows i d lt) (sound.routes i d lt)

@@ -1,6 +1,6 @@
 //! What the definitions are worth, whatever the code does.
 
-ghost use Rattle.std.specs.Prelude.{◌≡◌, ℕ, false, List, length, All, Result, Ok, IsSome};
+ghost use Rattle.std.specs.Prelude.{◌≡◌, ℕ, false, List, All, Result, Ok, IsSome};
 ghost use Rattle.mls_label.specs.declared.label.Label.{Label};
 ghost use Rattle.mls_label.specs.Label.{IsLabel};
 ghost use Rattle.ip_headers.specs.Packet.{ParsedPacket};
@@ -31,7 +31,7 @@ ghost use Rattle.flow_access.specs.Access.{HaveAccess};
 ghost use Rattle.flow_access.specs.Kept.{LabelIsKept};
 ghost use Rattle.flow_access.specs.Labels.{hop_label};
 ghost use Rattle.flow_access.specs.Sound.{IsSound};
-ghost use Rattle.flow_access.specs.Valid.{IsValidFlow};
+ghost use Rattle.flow_access.specs.Valid.{plan_of, IsValidFlow};
 
 /// What a hop lets go on has the option by which some protocol says the label under which the hop judged it, or none, as under `unlbl`.
 pub fn hops_say_their_label()
@@ -77,7 +77,7 @@ pub fn flows_of_scripts_are_valid()
     ensures { (edition : Edition) (own text : List ℕ) (script : Script)
         → IsScript edition own text script
         → All (λ (flow : FlowLine). IsValidFlow
-        (record { nodes = length script.nodes; steps = script.steps })
+        (plan_of script)
         script.readings flow.hops) script.flows }
 {}
 
@@ -87,8 +87,8 @@ pub fn packets_of_scripts_have_access()
         (pairs : List PairState)
         → IsScript edition own text script
         → All (λ (flow : FlowLine). AreWalked
-        (record { nodes = length script.nodes; steps = script.steps }) flow.hops packets pairs
+        (plan_of script) flow.hops packets pairs
         → HaveAccess
-        (record { nodes = length script.nodes; steps = script.steps })
+        (plan_of script)
         script.readings flow.hops packets pairs) script.flows }
 {}

@@ -8,11 +8,11 @@ use Rattle.label_commands.specs.declared.stop.ScriptStop.{ScriptStop}
 use Rattle.flow_lines.specs.declared.flow.FlowLine.{FlowLine}
 use Rattle.call_report.specs.Report.{Folder, Versions}
 use Rattle.call_report.specs.Event.{packets_limit}
-use Rattle.flow_access.specs.Valid.{IsValidFlow}
+use Rattle.flow_access.specs.Valid.{IsValidFlow, plan_of}
 use Rattle.flow_access.proofs.Law.{walked_packets_have_access, flows_of_scripts_are_valid}
 use Rattle.flow_run.specs.Input.{packets_in}
 use Rattle.flow_run.specs.Run.{FlowRun}
-use Rattle.script_run.specs.Runs.{plan_of, AreRuns}
+use Rattle.script_run.specs.Runs.{AreRuns}
 use Rattle.netlabel_run.specs.declared.command.Command.{Command}
 use Rattle.netlabel_run.specs.declared.command.Command.TheVariants.{Judge, Check, Show, Agree, Run}
 use Rattle.netlabel_run.specs.ScriptFile.{script_read, ByAnswer, ByScript}

@@ -15,7 +15,7 @@ use Rattle.node_agreement.proofs.Law.{nodes_agree_without_a_difference, one_diff
 use Rattle.shared_tables.specs.Plan.{PlanState}
 use Rattle.flow_access.specs.Kept.{NeighboursAgree}
 use Rattle.flow_access.specs.Labels.{hop_tables, reading_at}
-use Rattle.script_run.specs.Runs.{plan_of}
+use Rattle.flow_access.specs.Valid.{plan_of}
 use Rattle.call_report.specs.Report.{Report, late_report}
 use Rattle.netlabel_run.specs.Agree.{flow_numbered, versions_for, AreVersionsOf, IsFound, AreFound, agree_text, AgreeAnswer, no_flow, bad_versions, compared}
 

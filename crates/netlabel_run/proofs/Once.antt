@@ -29,7 +29,8 @@ use Rattle.call_report.specs.Stages.{reading_stage}
 use Rattle.call_report.specs.Lines.Script.{script_stop_line}
 use Rattle.flow_run.specs.Input.{flow_input}
 use Rattle.flow_run.specs.Run.{FlowRun}
-use Rattle.script_run.specs.Runs.{plan_of, StatusOr, FlowsStatus}
+use Rattle.flow_access.specs.Valid.{plan_of}
+use Rattle.script_run.specs.Runs.{StatusOr, FlowsStatus}
 use Rattle.script_run.specs.Report.{runs_report, runs_outputs}
 use Rattle.script_run.proofs.Law.{runs_are_determined}
 use Rattle.call_report.specs.Report.{Folder, Versions, Report, late_report}

@@ -9,7 +9,8 @@ use Rattle.call_report.specs.Report.{Folder, Versions, Report, late_report}
 use Rattle.call_report.specs.Output.{Output}
 use Rattle.call_report.specs.Event.{packets_limit}
 use Rattle.flow_run.specs.Run.{FlowRun}
-use Rattle.script_run.specs.Runs.{plan_of, AreWholeRuns, IsLawfulRun}
+use Rattle.flow_access.specs.Valid.{plan_of}
+use Rattle.script_run.specs.Runs.{AreWholeRuns, IsLawfulRun}
 use Rattle.script_run.specs.Report.{runs_report, runs_outputs}
 use Rattle.script_run.proofs.Law.{runs_know_their_inputs_alone}
 use Rattle.netlabel_run.specs.declared.command.Command.TheVariants.{Run}

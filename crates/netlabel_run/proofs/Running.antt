@@ -22,7 +22,8 @@ use Rattle.call_report.specs.Stages.{Stage, reading_stage}
 use Rattle.call_report.proofs.Law.{a_whole_text_is_a_front, a_part_of_a_text_is_a_front}
 use Rattle.flow_run.specs.Run.{FlowRun}
 use Rattle.shared_tables.specs.Plan.{PlanState}
-use Rattle.script_run.specs.Runs.{plan_of, AreRuns, AreWholeRuns, IsLawfulRun, FlowsStatus, last_event}
+use Rattle.flow_access.specs.Valid.{plan_of}
+use Rattle.script_run.specs.Runs.{AreRuns, AreWholeRuns, IsLawfulRun, FlowsStatus, last_event}
 use Rattle.script_run.specs.Report.{pause_text, runs_report, runs_outputs}
 use Rattle.script_run.specs.Ends.{flow_in_hand, last_of, InputRose, OutputRose, EndsBy, IsDue, IsCauseOf, IsPrintedSo, HasRuns, HasFinished, ScriptEnds, due_body, due_line}
 use Rattle.script_run.proofs.Law.{runs_are_determined, done_flows_have_status_0, events_have_their_status}

@@ -14,7 +14,8 @@ use Rattle.call_report.specs.Stages.{Stage, input_in_hand, output_in_hand}
 use Rattle.call_report.specs.Lines.Fixed.{done_line}
 use Rattle.flow_run.specs.Input.{flow_input}
 use Rattle.flow_run.specs.Run.{FlowRun, is_judged, goes_on, run_text, run_end, run_output, output_capture}
-use Rattle.script_run.specs.Runs.{plan_of, AreRuns, AreWholeRuns, is_done, last_event}
+use Rattle.flow_access.specs.Valid.{plan_of}
+use Rattle.script_run.specs.Runs.{AreRuns, AreWholeRuns, is_done, last_event}
 use Rattle.script_run.specs.Report.{first_replies, replies_behind, turn_text, text_so_far, pause_text, runs_report, runs_outputs}
 use Rattle.script_run.specs.Ends.{last_of, due_body, due_line}
 use Rattle.call_report.specs.declared.status.Status.{Status}

@@ -14,7 +14,7 @@ use Rattle.node_agreement.specs.First.{IsFirst}
 use Rattle.shared_tables.specs.Plan.{PlanState}
 use Rattle.packet_walk.specs.Walk.{Rises}
 use Rattle.flow_access.specs.Labels.{hop_tables, reading_at}
-use Rattle.script_run.specs.Runs.{plan_of}
+use Rattle.flow_access.specs.Valid.{plan_of}
 use Rattle.call_report.specs.Lines.Script.{script_stop_line}
 use Rattle.call_report.specs.Lines.Agreement.{hops_line, agreement_line, no_flow_line, bad_versions_line}
 use Rattle.call_report.specs.Report.{Report, late_report}

@@ -11,7 +11,8 @@ use Rattle.call_report.specs.Lines.Script.{script_stop_line}
 use Rattle.flow_access.specs.Access.{HaveAccess}
 use Rattle.flow_run.specs.Input.{packets_in}
 use Rattle.flow_run.specs.Run.{FlowRun}
-use Rattle.script_run.specs.Runs.{plan_of, AreRuns, AreWholeRuns, IsLawfulRun, FlowsStatus}
+use Rattle.flow_access.specs.Valid.{plan_of}
+use Rattle.script_run.specs.Runs.{AreRuns, AreWholeRuns, IsLawfulRun, FlowsStatus}
 use Rattle.script_run.specs.Report.{runs_report, runs_outputs}
 use Rattle.call_report.specs.Says.{Says}
 use Rattle.netlabel_run.specs.ScriptFile.{script_read, ByScript, script_stop_status}

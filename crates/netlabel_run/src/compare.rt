@@ -8,7 +8,7 @@ ghost use Rattle.label_commands.specs.Sound.{IsSoundScript};
 ghost use Rattle.node_tables.specs.Steps.{tables_after};
 ghost use Rattle.packet_walk.specs.Walk.{Rises, tables_of};
 ghost use Rattle.flow_access.specs.Labels.{reading_at};
-ghost use Rattle.script_run.specs.Runs.{plan_of};
+ghost use Rattle.flow_access.specs.Valid.{plan_of};
 ghost use Rattle.netlabel_run.specs.Agree.{IsFound, AreFound};
 
 use flow_lines::Hop;

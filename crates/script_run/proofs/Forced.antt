@@ -14,7 +14,8 @@ use Rattle.call_report.specs.Report.{Folder, Versions}
 use Rattle.call_report.specs.Event.{Event, packets_limit}
 use Rattle.flow_run.specs.Input.{FlowInput, packets_in}
 use Rattle.flow_run.specs.Run.{FlowRun, IsRun, is_judged, goes_on}
-use Rattle.script_run.specs.Runs.{plan_of, AreRuns, AreWholeRuns, IsLawfulRun, HasNoneBeside, last_event}
+use Rattle.flow_access.specs.Valid.{plan_of}
+use Rattle.script_run.specs.Runs.{AreRuns, AreWholeRuns, IsLawfulRun, HasNoneBeside, last_event}
 use Rattle.script_run.proofs.Runs.{event_stops}
 use Rattle.script_run.proofs.Starting.{above_is}
 use Rattle.script_run.proofs.Statuses.{one_run, judged_event}

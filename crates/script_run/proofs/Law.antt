@@ -9,7 +9,8 @@ use Rattle.shared_tables.specs.Plan.{PlanState}
 use Rattle.call_report.specs.Report.{Folder, Versions}
 use Rattle.call_report.specs.Event.{Event, packets_limit}
 use Rattle.flow_run.specs.Run.{FlowRun, goes_on}
-use Rattle.script_run.specs.Runs.{plan_of, AreRuns, AreWholeRuns, IsLawfulRun, HasNoneBeside, is_done, last_event, FlowsStatus}
+use Rattle.flow_access.specs.Valid.{plan_of}
+use Rattle.script_run.specs.Runs.{AreRuns, AreWholeRuns, IsLawfulRun, HasNoneBeside, is_done, last_event, FlowsStatus}
 use Rattle.script_run.proofs.Forced.{forced}
 use Rattle.script_run.proofs.Inputs.{in_another}
 use Rattle.script_run.proofs.Statuses.{one_way, event_status, done_status}

@@ -18,7 +18,8 @@ use Rattle.call_report.specs.Output.{Output, IsBegun, IsMade}
 use Rattle.call_report.specs.Outside.{Outside, NoneFailed}
 use Rattle.call_report.specs.Printing.{Printed}
 use Rattle.flow_run.specs.Run.{FlowRun, goes_on}
-use Rattle.script_run.specs.Runs.{plan_of, IsLawfulRun, is_done}
+use Rattle.flow_access.specs.Valid.{plan_of}
+use Rattle.script_run.specs.Runs.{IsLawfulRun, is_done}
 use Rattle.script_run.specs.Report.{first_replies, runs_outputs}
 use Rattle.script_run.specs.Ends.{flow_in_hand, IsCauseOf, ScriptEnds}
 use Rattle.script_run.proofs.Handing.{printed_more, printed_on_the_way, ends_done}

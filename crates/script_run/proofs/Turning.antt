@@ -37,7 +37,8 @@ use Rattle.flow_run.specs.Run.{FlowRun, is_judged, goes_on, run_text, run_end}
 use Rattle.flow_run.specs.Ends.{FlowEnds, IsRunOf, HasSteps}
 use Rattle.shared_tables.specs.Plan.{PlanState}
 use Rattle.script_run.specs.declared.turn.Next.{Next}
-use Rattle.script_run.specs.Runs.{plan_of, is_done, last_event}
+use Rattle.flow_access.specs.Valid.{plan_of}
+use Rattle.script_run.specs.Runs.{is_done, last_event}
 use Rattle.script_run.specs.Report.{first_replies, replies_behind, turn_text, runs_report}
 use Rattle.script_run.specs.Ends.{IsCauseOf, InputRose, OutputRose, ScriptEnds}
 use Rattle.script_run.specs.inside.Turn.{IsTurnEnd}

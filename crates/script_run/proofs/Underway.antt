@@ -24,7 +24,8 @@ use Rattle.flow_run.specs.declared.end.FlowEnd.{FlowEnd}
 use Rattle.flow_run.specs.Input.{flow_input, packets_in}
 use Rattle.flow_run.specs.Run.{FlowRun, goes_on, run_output}
 use Rattle.flow_run.specs.Ends.{FlowEnds, IsRunOf, HasEnded}
-use Rattle.script_run.specs.Runs.{plan_of, AreRuns, IsLawfulRun}
+use Rattle.flow_access.specs.Valid.{plan_of}
+use Rattle.script_run.specs.Runs.{AreRuns, IsLawfulRun}
 use Rattle.script_run.specs.Report.{first_replies, turn_text, runs_outputs}
 use Rattle.script_run.specs.Ends.{last_of, flow_in_hand, IsCauseOf, IsDue, due_body, due_line, IsPrintedSo, HasFinished, ScriptEnds}
 use Rattle.script_run.proofs.Handing.{ways_join}

@@ -12,7 +12,8 @@ use Rattle.call_report.specs.Outside.{Outside, NoneFailed, NoWriteFailed}
 use Rattle.call_report.specs.Output.{IsBegun, IsMade}
 use Rattle.call_report.specs.Printing.{Printed}
 use Rattle.flow_run.specs.Run.{FlowRun}
-use Rattle.script_run.specs.Runs.{plan_of, AreRuns, IsLawfulRun, is_done, last_event}
+use Rattle.flow_access.specs.Valid.{plan_of}
+use Rattle.script_run.specs.Runs.{AreRuns, IsLawfulRun, is_done, last_event}
 use Rattle.script_run.specs.Report.{runs_report, pause_text, runs_outputs}
 
 -- the last of the flows that were begun

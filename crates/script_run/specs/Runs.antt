@@ -9,12 +9,9 @@ use Rattle.shared_tables.specs.Plan.{PlanState}
 use Rattle.label_flow.specs.Schedule.{AreLawful, versions_in}
 use Rattle.call_report.specs.Report.{Folder, Versions}
 use Rattle.call_report.specs.Event.{Event}
+use Rattle.flow_access.specs.Valid.{plan_of}
 use Rattle.flow_run.specs.Input.{flow_input, packets_in}
 use Rattle.flow_run.specs.Run.{FlowRun, IsRun, is_judged, goes_on}
-
--- all steps of a script, on its nodes
-abbrev pub plan_of : Script → PlanState
-plan_of script = record { nodes = length script.nodes; steps = script.steps }
 
 -- The first of these flows have run so, numbered from here on, where so many packets may be read: each that has versions, and no other, and each
 -- but the last one up to its end, so that the next one came.

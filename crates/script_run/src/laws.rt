@@ -7,7 +7,8 @@ ghost use Rattle.shared_tables.specs.Plan.{PlanState};
 ghost use Rattle.call_report.specs.Report.{Folder, Versions};
 ghost use Rattle.call_report.specs.Event.{Event, packets_limit};
 ghost use Rattle.flow_run.specs.Run.{FlowRun};
-ghost use Rattle.script_run.specs.Runs.{plan_of, AreRuns, AreWholeRuns, IsLawfulRun, HasNoneBeside, is_done, last_event, FlowsStatus};
+ghost use Rattle.flow_access.specs.Valid.{plan_of};
+ghost use Rattle.script_run.specs.Runs.{AreRuns, AreWholeRuns, IsLawfulRun, HasNoneBeside, is_done, last_event, FlowsStatus};
 
 /// Under given versions flows run in one way, and so print one report and make the same files.
 pub fn runs_are_determined()

@@ -6,7 +6,7 @@ use Rattle.flow_lines.specs.Hop.{node_of}
 use Rattle.node_tables.specs.Tables.{fresh}
 use Rattle.node_tables.proofs.Law.{nodes_begin_fresh}
 use Rattle.shared_tables.specs.Plan.{network_after}
-use Rattle.script_run.specs.Runs.{plan_of}
+use Rattle.flow_access.specs.Valid.{plan_of}
 use Rattle.netlabel_run.proofs.Comparing.{rises_first, rises_at, GoOn, found_at, goes_on, all_found}
 use Rattle.netlabel_run.proofs.Flows.{at_place, as_many}
 use Rattle.netlabel_run.proofs.compare.compare_hops.Goals as goal

@@ -1,7 +1,7 @@
 use Rattle.std.proofs.Common.{◌≡◌, ◌≤◌, ◌-◌, ℕ, length, Some}
 use Rattle.std.specs.Prelude.{slice_get}
 use Rattle.shared_tables.specs.Plan.{network_after}
-use Rattle.script_run.specs.Runs.{plan_of}
+use Rattle.flow_access.specs.Valid.{plan_of}
 use Rattle.netlabel_run.proofs.Comparing.{GoOn}
 use Rattle.netlabel_run.proofs.compare.compare_hops.Given as goal
 

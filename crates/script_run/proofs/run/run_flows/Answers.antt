@@ -6,7 +6,7 @@ use Rattle.flow_lines.specs.Hop.{node_of}
 use Rattle.std.specs.Prelude.{All}
 use Rattle.label_commands.specs.Script.{before}
 use Rattle.call_report.specs.Outside.{Outside}
-use Rattle.script_run.specs.Runs.{plan_of}
+use Rattle.flow_access.specs.Valid.{plan_of}
 use Rattle.script_run.proofs.Names.{input_is_kept}
 use Rattle.script_run.proofs.Answering.{at_place}
 use Rattle.script_run.proofs.Underway.{under_way_at_first}
