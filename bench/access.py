@@ -2,10 +2,11 @@
 
     python3 bench/access.py [--networks N] [--control N] [--seed S] [--jobs N] [--keep FOLDER] [--program PROGRAM]
 
-What a label means is computed here from the script alone: from its `reading` lines, its DOI definitions as they stand after so many commands, the labels that flows send, and the options
-of packets. Where the neighbours agree under the versions of a packet's line, the delivered label has to mean what the label meant where the flow began, and the receiver's level at
-least as much; `netlabel agree` has to say of these versions what was computed. Flows that are cut behind a hop have to put each packet that goes on, with the same meaning, into
-their output with an option, and none that was denied. In the networks of the control two numbers of one translation are swapped: some have to deliver too low, or nothing was tested.
+What a label means is computed here from the script alone: from its `reading` lines, its DOI definitions as they stand after so many commands, the labels
+that flows send, and the options of packets. Where the neighbours agree under the versions of a packet's line, the delivered label has to mean what the label
+meant where the flow began, and the receiver's level at least as much; `netlabel agree` has to say of these versions what was computed. Flows that are cut
+behind a hop have to put each packet that goes on, with the same meaning, into their output with an option, and none that was denied. In the networks of the
+control two numbers of one translation are swapped: some have to deliver too low, or nothing was tested.
 
 Prints one line of totals. At the first network that breaks a rule it says which, keeps the network's files in the folder, and ends with status 1.
 """
@@ -374,10 +375,13 @@ def totals(counts, control):
     denied = {name[len("denied "):]: count for name, count in counts.items() if name.startswith("denied ")}
     causes = ", ".join(f"{name} {denied[name]:,}" for name in sorted(denied, key=lambda name: int(name.split()[0])))
     options = ", ".join(f"{counts[f'options behind hop {hop}']:,}" for hop in range(1, 5))
-    return (f"{counts['networks']:,} networks of {counts['nodes']:,} nodes; {counts['packets']:,} packets over {counts['hops']:,} hops: delivered {counts['delivered']:,}, "
-            f"sent {counts['sent']:,}, denied {sum(denied.values()):,} ({causes}); with an option behind hops 1 to 4: {options}; "
-            f"too low: none of {counts['delivered where all agree']:,} where all agree, {counts['too low between numbers']:,} of {counts['delivered between numbers']:,} between old and new numbers; "
-            f"control: of {control['networks']:,} networks with two numbers swapped {control['told']:,} are told by agree, {control['too low']:,} deliver too low")
+    return (
+        f"{counts['networks']:,} networks of {counts['nodes']:,} nodes; {counts['packets']:,} packets over {counts['hops']:,} hops: "
+        f"delivered {counts['delivered']:,}, sent {counts['sent']:,}, denied {sum(denied.values()):,} ({causes}); "
+        f"with an option behind hops 1 to 4: {options}; too low: none of {counts['delivered where all agree']:,} where all agree, "
+        f"{counts['too low between numbers']:,} of {counts['delivered between numbers']:,} between old and new numbers; "
+        f"control: of {control['networks']:,} networks with two numbers swapped {control['told']:,} are told by agree, {control['too low']:,} deliver too low"
+    )
 
 
 def main():

@@ -1,8 +1,8 @@
 """Random networks for bench/access.py: 2 to 5 nodes in a row, each with numbers of its own, whose neighbours agree by construction.
 
-A network speaks of some meanings. Each node has a number of its own for each of them, and says so by a `reading` line. What two neighbours share is a DOI of CIPSO for packets of
-IPv4, one of CALIPSO for packets of IPv6, or both, with a number on the wire for each meaning. A node passes a DOI's numbers where they are its own, and else translates them.
-Commands between the flows give receivers other levels, and DOIs other numbers on both of their sides, one side after the other.
+A network speaks of some meanings. Each node has a number of its own for each of them, and says so by a `reading` line. What two neighbours share is a DOI of
+CIPSO for packets of IPv4, one of CALIPSO for packets of IPv6, or both, with a number on the wire for each meaning. A node passes a DOI's numbers where they are
+its own, and else translates them. Commands between the flows give receivers other levels, and DOIs other numbers on both of their sides, one side after the other.
 """
 import dataclasses
 from typing import Dict, List, NamedTuple, Optional
@@ -252,8 +252,8 @@ def option_of(chance, shared, level, categories):
 def labelled(chance, shared):
     """A packet with a label on the wire, of some of the numbers that the first node knows."""
     wire = shared.wire
-    known = list(wire.categories.values())
-    return packet(chance, shared.version, option_of(chance, shared, chance.choice(list(wire.levels.values())), chance.sample(known, chance.randrange(len(known) + 1))))
+    level, known = chance.choice(list(wire.levels.values())), list(wire.categories.values())
+    return packet(chance, shared.version, option_of(chance, shared, level, chance.sample(known, chance.randrange(len(known) + 1))))
 
 
 def capture(packets):
