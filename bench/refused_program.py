@@ -2,8 +2,8 @@
 
     python3 bench/refused_program.py [--times N]
 
-The calls are the examples of `judge`, `show`, `check` and `agree`, the one that crosses from version to version and back, and a script with a command
-between its flows. Of each call every allocation is refused in turn, those of its threads too, by bench/refused.c, which is loaded before the
+The calls are the examples of `judge`, `show`, `check`, `agree` and `make`, the one that crosses from version to version and back, and a script with a
+command between its flows. Of each call every allocation is refused in turn, those of its threads too, by bench/refused.c, which is loaded before the
 program. The status has to be 6 with a beginning of the report, and of each output; or the report and the outputs have to be whole, with their
 status. Where commands run beside packets, each of the reports that are lawful will do. Each call has to have an allocation that was refused, and one
 of them to end with 6.
@@ -20,7 +20,7 @@ import scratch
 
 PROGRAM = scratch.TOP / "crates/netlabel_cmd/out/netlabel_cmd"
 NO_MEMORY = 6
-EXAMPLES = ["first-packet", "show", "check", "disagree", "crossing"]
+EXAMPLES = ["first-packet", "show", "check", "disagree", "make", "crossing"]
 
 SCRIPT = """node r
 unlbl accept on

@@ -76,8 +76,8 @@ pub record Leaves (says : Says) (before after : Outside) (status : ℕ) (seen : 
   pub outputs : List Output
   pub are : says.outputs before.folder.held seen outputs
   pub begun : All (λ output. IsBegun output before.folder.held after.folder.held) outputs
-  -- with every status the flows in front of the one in hand have made all of theirs
-  pub earlier : (outputs : List Output) × says.outputs before.folder.held (take (length seen - 1) seen) outputs
+  -- with every status the flows in front of the one in hand, if one is, have made all of theirs
+  pub earlier : 0 < length seen → (outputs : List Output) × says.outputs before.folder.held (take (length seen - 1) seen) outputs
       × All (λ output. IsMade output before.folder.held after.folder.held) outputs
   pub whole : IsClean stages before after status → All (λ output. IsMade output before.folder.held after.folder.held) outputs
   pub others : (name : List ℕ) → All (λ output. output.name ≢ name) outputs → after.folder.held name ≡ before.folder.held name
@@ -93,6 +93,8 @@ pub record CallEnds {C : Type 0} (says : Option C → Says) (request : Option C)
   pub whole : IsTrue before.folder.tells → IsClean stages before after status → (says request).whole before.folder.held seen
   -- no receiver is given what its level doesn't dominate, where the label was kept
   pub access : IsTrue before.folder.tells → (says request).access before.folder.held seen
+  -- and no hop lets a packet go on whose label it has no option for
+  pub withheld : IsTrue before.folder.tells → (says request).withheld before.folder.held seen
   -- where nothing is printed in front of a read, nothing stands there with status 3, whether or not the folder tells what it holds
   pub silent : IsTrue before.stream.tells → status ≡ 3 → (says request).late seen → after.stream.written ≡ before.stream.written
   -- a call without an output makes nothing and appends nothing

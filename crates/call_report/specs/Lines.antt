@@ -7,3 +7,4 @@ pub mod Capture
 pub mod Script
 pub mod Flow
 pub mod Agreement
+pub mod Made

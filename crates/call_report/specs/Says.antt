@@ -20,8 +20,10 @@ pub record Says : Type 1 where
   pub lawful : Folder → Versions → Type 0
   -- where nothing was refused: nothing is left out, up to the event that ends the call
   pub whole : Folder → Versions → Type 0
-  -- with every status: where a packet's label was kept along its way under these versions, what was delivered is sound
+  -- with every status, of the packets that the printed lines tell of, under the versions that these name: where a packet's label was kept along its way, what was delivered is sound
   pub access : Folder → Versions → Type 0
+  -- of the same packets: one that comes to a hop which has no option for its label is denied there and is in no output, and Inexpressible is told of no other
+  pub withheld : Folder → Versions → Type 0
   -- nothing is printed in front of the last read that was begun
   pub late : Versions → Type 0
 
@@ -36,5 +38,6 @@ reading_says file prints ends quiet = record {
   lawful = λ held seen. seen ≡ [];
   whole = λ held seen. seen ≡ [];
   access = λ held seen. Unit {0};
+  withheld = λ held seen. Unit {0};
   late = λ seen. quiet;
 }

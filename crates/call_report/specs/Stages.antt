@@ -1,4 +1,4 @@
--- The files that a call reads and makes, stage by stage. The first stage reads the file that the words name; behind it each flow has one. The last stage that was begun is in hand.
+-- The files that a call reads and makes, stage by stage. The first stage reads or makes the file that the words name; behind it each flow has one. The last stage that was begun is in hand.
 use Rattle.std.specs.Prelude.{ℕ, List, [], ◌∷◌, Option, Some, None}
 
 -- the names of the file that is read and of the one that is made
@@ -10,7 +10,11 @@ pub record Stage : Type 0 where
 abbrev pub reading_stage : List ℕ → Stage
 reading_stage file = record { input = Some file; output = None }
 
--- the file that the command line names
+-- a stage that makes this file and reads none
+abbrev pub making_stage : List ℕ → Stage
+making_stage file = record { input = None; output = Some file }
+
+-- the file that is read first, if one is
 abbrev pub named_input : List Stage → Option (List ℕ)
 named_input [] = None
 named_input (stage ∷ stages) = stage.input

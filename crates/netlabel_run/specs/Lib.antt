@@ -6,6 +6,7 @@ pub mod Judge
 pub mod Check
 pub mod Show
 pub mod Agree
+pub mod Make
 pub mod Run
 pub mod Commands
 pub mod Laws

@@ -11,6 +11,7 @@ use Rattle.call_report.specs.Lines.Script.{script_stop_line}
 use Rattle.flow_access.specs.Access.{HaveAccess}
 use Rattle.flow_run.specs.Input.{packets_in}
 use Rattle.flow_run.specs.Run.{FlowRun}
+use Rattle.flow_run.specs.Withheld.{WithholdsUnsaid}
 use Rattle.flow_access.specs.Valid.{plan_of}
 use Rattle.script_run.specs.Runs.{AreRuns, AreWholeRuns, IsLawfulRun, FlowsStatus}
 use Rattle.script_run.specs.Report.{runs_report, runs_outputs}
@@ -77,12 +78,16 @@ RunWhole file held seen = ByScript file (held file)
 abbrev pub HasRunAccess : Script → FlowRun → Type 0
 HasRunAccess script run = HaveAccess (plan_of script) script.readings run.flow.hops (packets_in run.input) run.pairs
 
--- Of whatever runs the versions give, so of those that the report is of, those that the outputs are made of, and those that are lawful and whole.
-abbrev pub RunAccess : List ℕ → Folder → Versions → Type 0
-RunAccess file held seen = ByScript file (held file)
+-- a packet whose label no option can say stays where it is
+abbrev pub RunWithholds : Script → FlowRun → Type 0
+RunWithholds script run = WithholdsUnsaid (plan_of script) run
+
+-- So it is of each run, of whatever runs the versions give: so of those that the report is of, those that the outputs are made of, and those that are lawful and whole.
+abbrev pub OfEachRun : (Script → FlowRun → Type 0) → List ℕ → Folder → Versions → Type 0
+OfEachRun P file held seen = ByScript file (held file)
     (Unit {0})
     (λ stop. Unit {0})
-    (λ script. (runs : List FlowRun) → AreItsRuns script held seen runs → All (HasRunAccess script) runs)
+    (λ script. (runs : List FlowRun) → AreItsRuns script held seen runs → All (P script) runs)
 
 -- a status is possible by what its script may hold; nothing is printed in front of its reads where it has begun no flow
 abbrev pub run_says : List ℕ → ℕ → Says
@@ -94,6 +99,7 @@ run_says file workers = record {
   outputs = RunOutputs file;
   lawful = RunLawful file workers;
   whole = RunWhole file;
-  access = RunAccess file;
+  access = OfEachRun HasRunAccess file;
+  withheld = OfEachRun RunWithholds file;
   late = λ seen. seen ≡ [];
 }

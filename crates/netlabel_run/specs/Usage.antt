@@ -15,5 +15,6 @@ usage_says = record {
   lawful = λ held seen. seen ≡ [];
   whole = λ held seen. seen ≡ [];
   access = λ held seen. Unit {0};
+  withheld = λ held seen. Unit {0};
   late = λ seen. Unit {0};
 }

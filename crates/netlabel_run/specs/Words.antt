@@ -1,5 +1,5 @@
 -- The forms of the command line: what the words, without the program's name, ask for.
-use Rattle.std.specs.Prelude.{ℕ, ◌≡◌, ◌<◌, ◌≤◌, IsTrue, List, [], ◌∷◌, map, codes, string_bytes, String, Option, Some, None}
+use Rattle.std.specs.Prelude.{ℕ, ◌≡◌, ◌<◌, ◌≤◌, ◌^◌, IsTrue, List, [], ◌∷◌, map, codes, string_bytes, String, Option, Some, None}
 use Rattle.std.specs.Fmt.{decimal}
 use Rattle.std.specs.declared.alloc.Global.{Global}
 use Rattle.mls_label.specs.declared.label.Label.{Label}
@@ -9,7 +9,7 @@ use Rattle.command_values.specs.Doi.{doi_of_text}
 use Rattle.flow_lines.specs.FileName.{is_file_name}
 use Rattle.netlabel_run.specs.Numbers.{number_named, versions_named}
 use Rattle.netlabel_run.specs.declared.command.Command.{Command}
-use Rattle.netlabel_run.specs.declared.command.Command.TheVariants.{Judge, Check, Show, Agree, Run}
+use Rattle.netlabel_run.specs.declared.command.Command.TheVariants.{Judge, Check, Show, Agree, Make, Run}
 
 -- the octets of each word
 abbrev pub texts_of : List (String Global) → List (List ℕ)
@@ -57,12 +57,20 @@ pub data AsksToAgree (words : List (List ℕ)) (file : List ℕ) (flow : ℕ) : 
   with_versions : (text list : List ℕ) (versions : List ℕ) → words ≡ codes "agree" ∷ file ∷ text ∷ list ∷ [] → IsTrue (is_file_name file) → number_named text ≡ Some flow
       → versions_named list ≡ Some versions → AsksToAgree words file flow (Some versions)
 
+-- `make <number> <count> <capture>`: the number is below 2^64, and both are without leading zeros
+pub record AsksToMake (words : List (List ℕ)) (seed count : ℕ) (file : List ℕ) : Type 0 where
+  pub are : words ≡ codes "make" ∷ decimal seed ∷ decimal count ∷ file ∷ []
+  pub below : seed < 2 ^ 64
+  pub few : count ≤ 1048576
+  pub is_name : IsTrue (is_file_name file)
+
 -- the words are of the command's form
 abbrev pub Asks : List (List ℕ) → Command → Type 0
 Asks words (Judge doi level file) = AsksToJudge words doi level file
 Asks words (Check file) = AsksToCheck words file
 Asks words (Show file) = AsksToShow words file
 Asks words (Agree file flow versions) = AsksToAgree words file flow versions
+Asks words (Make seed count file) = AsksToMake words seed count file
 Asks words (Run file workers) = AsksToRun words file workers
 
 -- the words are of one of the forms

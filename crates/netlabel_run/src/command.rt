@@ -29,6 +29,12 @@ pub(crate) enum Command<'a> {
         flow: u32,
         versions: Option<NamedVersions<'a>>,
     },
+    /// `make`: the capture of so many packets that is made from a number, and what becomes of them.
+    Make {
+        seed: u64,
+        count: u32,
+        file: FileName<'a>,
+    },
     /// `run`: the flows of a script, with so many workers.
     Run {
         file: FileName<'a>,

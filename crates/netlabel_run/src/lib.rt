@@ -7,6 +7,7 @@ mod check;
 mod command;
 mod compare;
 mod judge;
+mod make;
 pub mod laws;
 mod outcome;
 mod run;

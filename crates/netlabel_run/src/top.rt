@@ -13,6 +13,7 @@ use crate::agree::agree;
 use crate::check::check;
 use crate::command::Command;
 use crate::judge::judge;
+use crate::make::{MadeFile, make};
 use crate::outcome::Outcome;
 use crate::run::run;
 use crate::show::show;
@@ -86,6 +87,10 @@ fn carry_out<D: Depot + Send, S: Sink + Send, G: Gate + Sync, R: Threads + Wait 
         ) => Outcome::without_flows(
             alloc,
             agree(alloc, file.as_str(), flow, &versions, depot, out),
+        ),
+        Some(Command::Make { seed, count, file }) => Outcome::without_flows(
+            alloc,
+            make(rt, alloc, MadeFile { seed, count, name: file.as_str() }, depot, out, gate),
         ),
         Some(Command::Run { file, workers }) => {
             run(rt, alloc, file.as_str(), workers.number(), depot, out, gate)

@@ -1,0 +1,10 @@
+//! A capture that is made from a number, and judged while it is made: its packets go to one node in one round of four workers, beside which
+//! no command comes, by a feed that makes and appends each packet and reads no file.
+#![tactic(auto)]
+
+pub mod laws;
+mod run;
+mod stop;
+
+pub use run::{Verdicts, make_capture};
+pub use stop::MadeStop;
