@@ -150,7 +150,7 @@ fn takes_the_greatest_numbers(rt: HostRuntime) {
 fn is_a_beginning(rt: &impl Abort, alloc: Global, ran: &Ran) -> bool {
     let three = octets_of(alloc, THREE).expect(rt, "there is memory");
     let held = ran.depot.get("m.pcap").unwrap_or(b"absent");
-    held == b"old" || three.starts_with(held)
+    held == b"old".as_slice() || three.starts_with(held)
 }
 
 #[test]
