@@ -1,5 +1,5 @@
-"""Calls of the program with what each has to print, its status, and what it has to leave: the examples, captures that a Linux kernel labelled, and
-what is promised of names of files.
+"""Calls of the program with what each has to print, its status, and what it has to leave: the examples, captures that a Linux kernel labelled, captures
+that are made, and what is promised of names of files.
 
 Each call is made in a folder of its own. `.ci/checks.py` makes the examples' calls by the built program, and `.ci/tests.py` all of them before any proof.
 """
@@ -10,6 +10,7 @@ import struct
 from typing import Callable, Dict, List, NamedTuple, Optional
 
 import kernel
+import made_captures
 
 TOP = pathlib.Path(__file__).resolve().parent.parent
 # The call has no answer before a proof, and leaves each file as it was: `netlabel` ends with this status.
@@ -191,6 +192,40 @@ PRINTED = "printed"
 OF_REPORT = [
     names("the report's file", ["b.pcap printed"], status=3, report=BEGUN),
     names("standard output", ["b.pcap /dev/stdout"], status=3, report=BEGUN),
+    names("the report's file as a capture to be made", [], words=[b"make", b"7", b"3", b"printed"], status=3, report=b""),
 ]
 # What `rt try` can't answer.
 UNANSWERED = [names("a report of more than 1 MiB", ["b.pcap o.pcap"], status=NO_ANSWER, report=b"", more=many)]
+
+# --- captures that are made -------------------------------------------------------------------------------------------------------------------
+
+
+def making(name, seed=7, count=3, *, output="o.pcap", more=lambda folder: None, left={}):
+    """A call of `make` which leaves and prints what another program says."""
+    words = [b"make", b"%d" % seed, b"%d" % count, output.encode()]
+    return names(name, [], words=words, status=0, report=made_captures.line(seed, count), more=more, left={output: made_captures.capture(seed, count), **left})
+
+
+def not_making(name, output, *, words=None, status=3, report=b"", more=lambda folder: None):
+    return names(name, [], words=words or [b"make", b"7", b"3", output.encode()], status=status, report=report, more=more)
+
+
+MAKING = [
+    making("a capture made from a number"),
+    making("a capture made without a packet", count=0),
+    making("a capture made of 100,000 packets", count=100000),
+    making("a capture made in a folder", seed=2**64 - 1, output="folder/o.pcap"),
+    making("a capture made over another one, with its second name", left={"h": made_captures.capture(7, 3)},
+           more=lambda at: ((at / "o.pcap").write_bytes(b"old"), os.link(at / "o.pcap", at / "h"))),
+    not_making("a folder as a capture to be made", "folder"),
+    not_making("a pipe as a capture to be made", "pipe", more=lambda at: os.mkfifo(at / "pipe")),
+    not_making("a device as a capture to be made", "null", more=lambda at: (at / "null").symlink_to("/dev/null")),
+    not_making("a capture to be made in a folder that isn't there", "no/o.pcap"),
+    not_making("a capture to be made of a packet too many", "", words=[b"make", b"7", b"1048577", b"o.pcap"], status=1, report=None),
+    not_making("a capture to be made from a number too great", "", words=[b"make", b"18446744073709551616", b"3", b"o.pcap"], status=1, report=None),
+]
+# The report is too long for `rt try`.
+SHOWN = [
+    names("a capture made of 100,000 packets, shown", [], words=[b"show", b"m.pcap"], status=0, report=b"".join(made_captures.shown(7, 100000)),
+          more=lambda at: (at / "m.pcap").write_bytes(made_captures.capture(7, 100000))),
+]

@@ -110,7 +110,7 @@ for path in sorted(set(re.findall(r"`(\w+/(?:src|proofs|specs)/[\w/]+\.(?:rt|ant
         failures.append(f"a page names crates/{path}, which isn't there")
 
 
-# The examples, and what is promised of names of files, each in a folder of its own, by the proved program.
+# The examples, captures that are made, and what is promised of names of files, each in a folder of its own, by the proved program.
 def proved(call):
     """What is wrong with what a call gives."""
     with tempfile.TemporaryDirectory() as made:
@@ -131,7 +131,7 @@ if "--pages" not in sys.argv:
     if subprocess.run([top / "prove"]).returncode:
         failures.append("the program isn't proved and built, so none of its calls was made")
     else:
-        failures += [fault for call in [*calls.examples(), *calls.kernel_captures(), *calls.NAMES, *calls.OF_REPORT] for fault in proved(call)]
+        failures += [fault for call in [*calls.examples(), *calls.kernel_captures(), *calls.NAMES, *calls.OF_REPORT, *calls.MAKING, *calls.SHOWN] for fault in proved(call)]
 
 print("\n".join(failures) or "the repository's own checks passed")
 sys.exit(1 if failures else 0)

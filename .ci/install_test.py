@@ -13,9 +13,9 @@ INSTALLED = ["bin/netlabel", "share/man/man1/netlabel.1", "share/bash-completion
 # What stands on the line, and the words that complete it, in a folder with the files below.
 FILES = ["site", "site.pcap", "with blank", "-dash", "sub/one.pcap"]
 COMPLETED = {
-    "netlabel ": "agree check judge run show", "netlabel s": "show", "netlabel show s": "site site.pcap sub", "netlabel run site": "site site.pcap",
+    "netlabel ": "agree check judge make run show", "netlabel s": "show", "netlabel show s": "site site.pcap sub", "netlabel run site": "site site.pcap",
     "netlabel run site ": "-w", "netlabel run site -w 1": "1 10 11 12 13 14 15 16", "netlabel judge ": "", "netlabel judge 16 s2:c0.c5 si": "site site.pcap",
-    "netlabel agree si": "site site.pcap", "netlabel agree site ": "", "netlabel show sub/": "sub/one.pcap", "netlabel show w": "", "netlabel show site ": "", "netlabel frob s": "",
+    "netlabel make 7 ": "", "netlabel make 7 3 si": "site site.pcap", "netlabel agree si": "site site.pcap", "netlabel agree site ": "", "netlabel show sub/": "sub/one.pcap", "netlabel show w": "", "netlabel show site ": "", "netlabel frob s": "",
 }
 BASH = r"""
 . "$1"; complete -p netlabel >/dev/null || exit 9

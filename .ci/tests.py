@@ -96,7 +96,7 @@ def crate_tests(name, environment):
 def all_calls():
     """Each call in a folder of its own; the program is compiled once for all of them."""
     unproved.say = lambda text: None
-    made = [*calls.examples(), *calls.kernel_captures(), *calls.NAMES, *calls.UNANSWERED]
+    made = [*calls.examples(), *calls.kernel_captures(), *calls.NAMES, *calls.MAKING, *calls.UNANSWERED]
     with unproved.private_folder() as folder:
         trial = unproved.Trial(pathlib.Path(folder) / "cases", SECONDS)
         trial.folder.mkdir()
@@ -173,7 +173,7 @@ def checks(with_proved, environment):
     """What takes long comes first."""
     if with_proved:
         yield Check("calls of the proved program", lambda: script(["checks.py"]))
-    yield Check("examples, captures of a kernel, names of files", all_calls)
+    yield Check("examples, captures of a kernel, captures that are made, names of files", all_calls)
     yield Check("netlabel by a link", through_a_link)
     for name in reversed(crates_with_tests()):
         yield Check(name, lambda name=name: crate_tests(name, environment))

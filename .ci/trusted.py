@@ -29,7 +29,7 @@ from house import ANTT_NOISE, RT_NOISE, Crate, line_at, tokens_of, without
 
 SHARED_LEMMAS = {"octet_grammar"}
 # The commands in the order in which they are read best; one that isn't here comes last.
-READING = ["show", "judge", "check", "agree", "run"]
+READING = ["show", "judge", "check", "agree", "run", "make"]
 FRAME = "frame"
 
 

@@ -18,8 +18,8 @@ _netlabel() {
     [[ $line == *[[:blank:]] ]] && words+=("")
     COMPREPLY=()
     case ${words[1]},$((${#words[@]} - 1)) in
-    *,1) mapfile -t COMPREPLY < <(compgen -W 'run judge check show agree' -- "$current") ;;
-    run,2 | check,2 | show,2 | agree,2 | judge,4) _netlabel_files "$current" ;;
+    *,1) mapfile -t COMPREPLY < <(compgen -W 'run judge check show agree make' -- "$current") ;;
+    run,2 | check,2 | show,2 | agree,2 | judge,4 | make,4) _netlabel_files "$current" ;;
     run,3) mapfile -t COMPREPLY < <(compgen -W '-w' -- "$current") ;;
     run,4) [[ ${words[3]} != -w ]] || mapfile -t COMPREPLY < <(compgen -W '{1..16}' -- "$current") ;;
     esac

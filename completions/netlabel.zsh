@@ -9,6 +9,7 @@ _netlabel() {
         'check:carry out the commands of a script'
         'show:print what each packet of a capture carries'
         'agree:compare the neighbouring hops of a flow'
+        'make:make a capture from a number and judge its packets'
     )
     case $CURRENT,$words[2] in
     2,*) _describe -t commands command commands ;;
@@ -16,6 +17,9 @@ _netlabel() {
     3,judge) _message 'DOI, 1 to 4294967295' ;;
     4,judge) _message 'level of the receiver, as s2:c0.c5' ;;
     5,judge) _files ;;
+    3,make) _message 'number, below 2^64' ;;
+    4,make) _message 'number of packets, at most 1048576' ;;
+    5,make) _files ;;
     4,agree) _message 'number of a flow, from 1' ;;
     5,agree) _message 'a version for each hop, as 7,7,9' ;;
     4,run) compadd -- -w ;;

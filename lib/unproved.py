@@ -249,14 +249,11 @@ class Script:
         return Answer(answer.status, self.with_own_names(answer.text))
 
     def bring_captures(self, folder):
-        """Brings what the program made to the caller's names. A file that is there stays the same file, with its other names and its rights."""
+        """Brings what the program made to the caller's names."""
         for number, flow in enumerate(self.flows, 1):
             made = folder / f"output-{number}"
             if made.exists():
-                try:
-                    shutil.copyfile(made, flow.output)
-                except OSError as error:
-                    raise NoAnswer(f"{os.fsdecode(flow.output)} couldn't be written whole: {error.strerror}") from error
+                bring(made, flow.output)
 
     def with_own_names(self, text):
         """A report of `run` with the inputs' names as the script has them: nothing else in it is the name of a file."""
@@ -270,7 +267,7 @@ class Script:
         flow, refusal = self.flows[begun[-1] - 1], refusals[begun[-1] - 1]
         say_unread(flow.input)
         if refusal:
-            say(f"{os.fsdecode(flow.output)} can't be made: {refusal}")
+            say_unmade(flow.output, refusal)
 
 
 @contextlib.contextmanager
@@ -281,6 +278,18 @@ def signals_held_back():
         yield
     finally:
         signal.pthread_sigmask(signal.SIG_SETMASK, before)
+
+
+def bring(made, name):
+    """Brings what the program made to the caller's name. A file that is there stays the same file, with its other names and its rights."""
+    try:
+        shutil.copyfile(made, name)
+    except OSError as error:
+        raise NoAnswer(f"{os.fsdecode(name)} couldn't be written whole: {error.strerror}") from error
+
+
+def say_unmade(name, refusal):
+    say(f"{os.fsdecode(name)} can't be made: {refusal}")
 
 
 def say_unread(name):
@@ -310,6 +319,29 @@ def said_unread(answer, name):
     return answer
 
 
+def asking_make(trial, folder, words):
+    """Of `make`, whose last word is the one file that it makes. Where that is refused, it lies in a folder that isn't there."""
+    *front, name = words
+    refusal = Guard([]).refusal(name)
+    made = folder / ("refused" if refusal else ".") / "output"
+    asked = trial.ask([*front, os.fsencode(made)])
+
+    def finish():
+        answer = asked()
+        if answer.status == 3 and refusal:
+            say_unmade(name, refusal)
+        elif answer.status in (3, UNWRITTEN):
+            raise NoAnswer(f"what the program made couldn't be written to {folder}")
+        elif answer.status == 0:
+            if Guard([]).refusal(name):
+                raise NoAnswer("another program exchanged files meanwhile, so that the output would be refused; no file was changed")
+            with signals_held_back():
+                bring(made, name)
+        return answer
+
+    return finish
+
+
 def asking_run(trial, folder, name, behind):
     script = Script(name)
     refusals = script.refusals()
@@ -329,11 +361,13 @@ def asking_run(trial, folder, name, behind):
 
 
 def asking(trial, folder, words):
-    """What gives the answer to the words of a call, once the trial was run. `folder` is empty, and the call's own. Words that name no file that is
-    read are handed on as they are: the program says that they are in no form."""
+    """What gives the answer to the words of a call, once the trial was run. `folder` is empty, and the call's own. Words that name no file are handed on
+    as they are: the program says that they are in no form."""
     command = words[0] if words else b""
     if len(words) == READ_ONE.get(command) and FILE_NAME.fullmatch(words[-1]):
         return asking_file(trial, folder, words)
+    if command == b"make" and len(words) == 4 and FILE_NAME.fullmatch(words[-1]):
+        return asking_make(trial, folder, words)
     if len(words) > 1 and FILE_NAME.fullmatch(words[1]):
         if (command == b"check" and len(words) == 2) or (command == b"agree" and len(words) in (3, 4)):
             return asking_script(trial, folder, command, words[1], words[2:])

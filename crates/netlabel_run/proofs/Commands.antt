@@ -1,12 +1,13 @@
 -- The words of the command line, one by one.
-use Rattle.std.proofs.Common.{◌≡◌, ◌≢◌, ◌<◌, ◌^◌, ◌⊎◌, inl, inr, ℕ, List, [], ◌∷◌, length, get_or, sym, ap, subst, ◌∙◌, arith}
-use Rattle.std.specs.Prelude.{codes, string_bytes, String}
+use Rattle.std.proofs.Common.{◌≡◌, ◌≢◌, ◌<◌, ◌≤◌, ◌^◌, ◌⊎◌, inl, inr, ℕ, List, [], ◌∷◌, length, get_or, sym, ap, subst, ◌∙◌, arith}
+use Rattle.std.specs.Prelude.{codes, string_bytes, String, IsTrue}
 use Rattle.std.specs.Fmt.{decimal}
 use Rattle.std.specs.declared.alloc.Global.{Global}
 use Rattle.std.proofs.lemmas.Fmt.{decimal_injective}
 use Rattle.std.proofs.lemmas.List.{length-map}
 use Rattle.mls_label.specs.declared.label.Label.{Label}
-use Rattle.netlabel_run.specs.declared.command.Command.TheVariants.{Judge, Check, Show, Agree, Run}
+use Rattle.flow_lines.specs.FileName.{is_file_name}
+use Rattle.netlabel_run.specs.declared.command.Command.TheVariants.{Judge, Check, Show, Agree, Make, Run}
 use Rattle.netlabel_run.specs.Words.{texts_of, IsLevel, NamesWorkers, plainly, with_workers, without_versions, with_versions, IsForm}
 
 -- words whose level is none ask for nothing
@@ -15,6 +16,7 @@ no_level doi level file none (Check f, asks) = omega (arith, ap length asks.are)
 no_level doi level file none (Show f, asks) = omega (arith, ap length asks.are)
 no_level doi level file none (Agree f n vs, without_versions t are name is) = omega (arith, ap length are)
 no_level doi level file none (Agree f n vs, with_versions t l v are name is lists) = let first : 106 ≡ 97 = ap (λ ws. get_or (get_or ws 0 []) 0 0) are in omega (arith, first)
+no_level doi level file none (Make s n f, asks) = let first : 106 ≡ 109 = ap (λ ws. get_or (get_or ws 0 []) 0 0) asks.are in omega (arith, first)
 no_level doi level file none (Run f n, plainly are name) = omega (arith, ap length are)
 no_level doi level file none (Run f n, with_workers t w are name named) = absurd (let no = are in cc)
 no_level doi level file none (Judge d l f, asks) = none l (subst (λ t. IsLevel t l) (sym (ap (λ ws. get_or ws 2 []) asks.are)) asks.is_level)
@@ -26,6 +28,7 @@ no_words words two three four (Check f, asks) = two (sym (length-map words strin
 no_words words two three four (Show f, asks) = two (sym (length-map words string_bytes) ∙ ap length asks.are)
 no_words words two three four (Agree f n vs, without_versions t are name is) = three (sym (length-map words string_bytes) ∙ ap length are)
 no_words words two three four (Agree f n vs, with_versions t l v are name is lists) = four (sym (length-map words string_bytes) ∙ ap length are)
+no_words words two three four (Make s n f, asks) = four (sym (length-map words string_bytes) ∙ ap length asks.are)
 no_words words two three four (Run f n, plainly are name) = two (sym (length-map words string_bytes) ∙ ap length are)
 no_words words two three four (Run f n, with_workers t w are name named) = four (sym (length-map words string_bytes) ∙ ap length are)
 
@@ -34,3 +37,38 @@ pub no_workers : (text : List ℕ) (n : ℕ) → text ≡ decimal n → n < 2 ^ 
 no_workers text n is small other workers named =
     let same : n ≡ workers = decimal_injective n workers small (omega (arith, named.few)) (sym is ∙ named.is) in
     elim other [ inl zero ↦ omega (arith, zero, same, named.some) | inr many ↦ omega (arith, many.1, same, named.few) ]
+
+-- what words behind `make` are, where they are its form
+pub record IsMakeForm (number count file : List ℕ) : Type 0 where
+  pub seed : ℕ
+  pub seed_is : number ≡ decimal seed
+  pub below : seed < 2 ^ 64
+  pub many : ℕ
+  pub many_is : count ≡ decimal many
+  pub few : many ≤ 1048576
+  pub is_name : IsTrue (is_file_name file)
+
+-- other forms begin with another letter
+pub make_form : (number count file : List ℕ) → IsForm (codes "make" ∷ number ∷ count ∷ file ∷ []) → IsMakeForm number count file
+make_form number count file (Judge d l f, asks) = absurd (let first : 109 ≡ 106 = ap (λ ws. get_or (get_or ws 0 []) 0 0) asks.are in omega (arith, first))
+make_form number count file (Check f, asks) = absurd (omega (arith, ap length asks.are))
+make_form number count file (Show f, asks) = absurd (omega (arith, ap length asks.are))
+make_form number count file (Agree f n vs, without_versions t are name is) = absurd (omega (arith, ap length are))
+make_form number count file (Agree f n vs, with_versions t l v are name is lists) = absurd (let first : 109 ≡ 97 = ap (λ ws. get_or (get_or ws 0 []) 0 0) are in omega (arith, first))
+make_form number count file (Run f n, plainly are name) = absurd (omega (arith, ap length are))
+make_form number count file (Run f n, with_workers t w are name named) = absurd (let first : 109 ≡ 114 = ap (λ ws. get_or (get_or ws 0 []) 0 0) are in omega (arith, first))
+make_form number count file (Make s n f, asks) = record {
+  seed = s;
+  seed_is = ap (λ ws. get_or ws 1 []) asks.are;
+  below = asks.below;
+  many = n;
+  many_is = ap (λ ws. get_or ws 2 []) asks.are;
+  few = asks.few;
+  is_name = subst (λ f. IsTrue (is_file_name f)) (sym (ap (λ ws. get_or ws 3 []) asks.are)) asks.is_name;
+}
+
+-- a text of a greater number is that of no number of packets
+pub too_many : (text : List ℕ) (n : ℕ) → text ≡ decimal n → n < 2 ^ 64 → 1048576 < n → (count : ℕ) → count ≤ 1048576 → text ≡ decimal count → ⊥
+too_many text n is small many count few is_count =
+    let same : n ≡ count = decimal_injective n count small (omega (arith, few)) (sym is ∙ is_count) in
+    omega (arith, same, many, few)

@@ -1,4 +1,4 @@
--- How a call ends that makes no file, over plain values.
+-- How a call ends that has no flows, and has made what it makes, over plain values.
 use Rattle.std.proofs.Common.{◌≡◌, ◌≢◌, ◌<◌, ℕ, ◌+◌, List, [], ◌++◌, length, take, refl, sym, ap, subst, ◌∙◌, arith, append_assoc, inl, inr, ◌⊎◌, Option, None}
 use Rattle.std.specs.Prelude.{IsTrue, Contains}
 use Rattle.std.proofs.Math.Seq.{take-append-add}
@@ -18,7 +18,7 @@ use Rattle.netlabel_run.specs.inside.Ending.{Knows, Begins}
 use Rattle.call_report.specs.Status.{status_number}
 use Rattle.call_report.specs.Printing.{Printed, EndsInLine, Breaks}
 use Rattle.call_report.proofs.Law.{a_whole_text_is_a_front, a_part_of_a_text_is_a_front, less_of_a_text_is_less_of_more}
-use Rattle.netlabel_run.proofs.Access.{has_access}
+use Rattle.netlabel_run.proofs.Access.{has_access, withholds}
 
 -- ---- a body, and a line behind it
 
@@ -94,17 +94,13 @@ module _ (request : Option Command) (before after : Outside) (stages : List Stag
     begun = knows.begun;
     ends = with_status;
     prints = prints;
-    leaves = λ told. record {
-      outputs = [];
-      are = knows.outputs;
-      begun = λ k d within. absurd (omega (arith, within));
-      earlier = ([], knows.outputs, λ k d within. absurd (omega (arith, within)));
-      whole = λ clean k d within. absurd (omega (arith, within));
-      others = λ name not_it. knows.kept told name;
-    };
+    leaves = λ told.
+        let made = knows.made told in
+        record { outputs = made.outputs; are = made.are; begun = made.begun; earlier = λ some. absurd (omega (arith, some)); whole = λ clean. made.made; others = made.others };
     lawful = λ told. knows.lawful;
     whole = whole;
     access = λ told. has_access request before.folder.held [];
+    withheld = λ told. withholds request before.folder.held [];
     silent = silent;
     still = λ none. (knows.creates, knows.appends);
     folder_told = knows.folder_told;

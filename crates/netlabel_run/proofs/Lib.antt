@@ -1,6 +1,7 @@
 pub mod Access
 pub mod Answer
 pub mod Judging
+pub mod Making
 pub mod Granted
 pub mod Scripts
 pub mod Checking

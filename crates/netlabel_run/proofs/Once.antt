@@ -13,10 +13,10 @@ use Rattle.pcap_frames.specs.declared.header.CaptureHeader.{CaptureHeader}
 use Rattle.pcap_frames.specs.declared.fault.CaptureFault.{CaptureFault}
 use Rattle.pcap_frames.specs.Capture.{Capture, capture_of}
 use Rattle.netlabel_run.specs.declared.command.Command.{Command}
-use Rattle.netlabel_run.specs.declared.command.Command.TheVariants.{Judge, Check, Show, Agree, Run}
+use Rattle.netlabel_run.specs.declared.command.Command.TheVariants.{Judge, Check, Show, Agree, Make, Run}
 use Rattle.call_report.specs.Lines.Denial.{verdict_line}
 use Rattle.netlabel_run.specs.Numbers.{number_named, versions_named}
-use Rattle.netlabel_run.specs.Words.{AsksToJudge, AsksToRun, plainly, with_workers, AsksToAgree, without_versions, with_versions, IsAsked}
+use Rattle.netlabel_run.specs.Words.{AsksToJudge, AsksToRun, plainly, with_workers, AsksToAgree, without_versions, with_versions, AsksToMake, IsAsked}
 use Rattle.netlabel_run.specs.ScriptFile.{script_read, ByAnswer, ByScript, script_stop_status}
 use Rattle.netlabel_run.specs.Judge.{JudgeReport, absent, too_long, judged, JudgeStatus}
 use Rattle.netlabel_run.specs.Check.{CheckReport, CheckStatus}
@@ -157,6 +157,22 @@ agree_once words file file' flow flow' versions versions' (with_versions t l v a
     let versions_same : Some v ≡ Some v' = sym lists ∙ ap versions_named m ∙ lists' in
     cc
 
+make_begins : (words : List (List ℕ)) (seed count : ℕ) (file : List ℕ) → AsksToMake words seed count file → get_or words 0 [] ≡ codes "make"
+make_begins words seed count file asks = ap (λ ws. get_or ws 0 []) asks.are
+
+-- words that ask for `make` ask for nothing else
+make_alone : (words : List (List ℕ)) (seed count : ℕ) (file command : List ℕ) → AsksToMake words seed count file → get_or words 0 [] ≡ command → (codes "make" ≡ command → ⊥) → ⊥
+make_alone words seed count file command asks begins other = other (sym (make_begins words seed count file asks) ∙ begins)
+
+make_once : (words : List (List ℕ)) (seed seed' count count' : ℕ) (file file' : List ℕ) → AsksToMake words seed count file → AsksToMake words seed' count' file'
+    → Some (Make seed count file) ≡ Some (Make seed' count' file')
+make_once words seed seed' count count' file file' a b =
+    let same = sym a.are ∙ b.are in
+    let s : seed ≡ seed' = decimal_injective seed seed' a.below b.below (ap (λ ws. get_or ws 1 []) same) in
+    let n : count ≡ count' = decimal_injective count count' (omega (arith, a.few)) (omega (arith, b.few)) (ap (λ ws. get_or ws 2 []) same) in
+    let f : file ≡ file' = ap (λ ws. get_or ws 3 []) same in
+    cc
+
 pub determined : (request : Option Command) (held : Folder) (seen : Versions) → IsDetermined (netlabel_says request) held seen
 determined None held seen = record {
   status = λ a b x y. x ∙ sym y;
@@ -185,6 +201,12 @@ determined (Some (Show file)) held seen = record {
 determined (Some (Agree file flow versions)) held seen = record {
   status = agree_status_once file flow versions (held file);
   report = agree_report_once file flow versions (held file);
+  stages = λ a b x y. x ∙ sym y;
+  outputs = λ a b x y. x ∙ sym y;
+}
+determined (Some (Make seed count file)) held seen = record {
+  status = λ a b x y. x ∙ sym y;
+  report = λ a b x y. x ∙ sym y;
   stages = λ a b x y. x ∙ sym y;
   outputs = λ a b x y. x ∙ sym y;
 }
@@ -246,3 +268,14 @@ asked_once words (Some (Agree file flow versions)) (Some (Run file' workers)) a 
 asked_once words (Some (Run file workers)) (Some (Agree file' flow versions)) a b = absurd (agree_has_no_word words file' flow versions (codes "run") b (run_begins words file workers a) (begins_apart (codes "run") 114 refl (λ e. omega (arith, e))))
 asked_once words (Some (Agree file flow versions)) (Some (Agree file' flow' versions')) a b = agree_once words file file' flow flow' versions versions' a b
 asked_once words (Some (Run file workers)) (Some (Run file' workers')) a b = run_once words file file' workers workers' a b
+asked_once words (Some (Make seed count file)) (Some (Make seed' count' file')) a b = make_once words seed seed' count count' file file' a b
+asked_once words (Some (Make seed count file)) (Some (Judge doi level file')) a b = absurd (make_alone words seed count file (codes "judge") a (ap (λ ws. get_or ws 0 []) b.are) (λ e. cc))
+asked_once words (Some (Judge doi level file)) (Some (Make seed count file')) a b = absurd (make_alone words seed count file' (codes "judge") b (ap (λ ws. get_or ws 0 []) a.are) (λ e. cc))
+asked_once words (Some (Make seed count file)) (Some (Check file')) a b = absurd (make_alone words seed count file (codes "check") a (ap (λ ws. get_or ws 0 []) b.are) (λ e. cc))
+asked_once words (Some (Check file)) (Some (Make seed count file')) a b = absurd (make_alone words seed count file' (codes "check") b (ap (λ ws. get_or ws 0 []) a.are) (λ e. cc))
+asked_once words (Some (Make seed count file)) (Some (Show file')) a b = absurd (make_alone words seed count file (codes "show") a (ap (λ ws. get_or ws 0 []) b.are) (λ e. cc))
+asked_once words (Some (Show file)) (Some (Make seed count file')) a b = absurd (make_alone words seed count file' (codes "show") b (ap (λ ws. get_or ws 0 []) a.are) (λ e. cc))
+asked_once words (Some (Make seed count file)) (Some (Run file' workers)) a b = absurd (make_alone words seed count file (codes "run") a (run_begins words file' workers b) (λ e. cc))
+asked_once words (Some (Run file workers)) (Some (Make seed count file')) a b = absurd (make_alone words seed count file' (codes "run") b (run_begins words file workers a) (λ e. cc))
+asked_once words (Some (Make seed count file)) (Some (Agree file' flow versions)) a b = absurd (agree_has_no_word words file' flow versions (codes "make") b (make_begins words seed count file a) (begins_apart (codes "make") 109 refl (λ e. omega (arith, e))))
+asked_once words (Some (Agree file flow versions)) (Some (Make seed count file')) a b = absurd (agree_has_no_word words file flow versions (codes "make") a (make_begins words seed count file' b) (begins_apart (codes "make") 109 refl (λ e. omega (arith, e))))

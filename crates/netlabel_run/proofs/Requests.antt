@@ -3,7 +3,7 @@ use Rattle.std.proofs.Common.{◌≡◌, ◌<◌, ◌≤◌, ℕ, replicate, Lis
 use Rattle.std.specs.Prelude.{IsTrue}
 use Rattle.std.proofs.lemmas.List.{length-replicate}
 use Rattle.mls_label.specs.declared.label.Label.{Label}
-use Rattle.net_io.specs.Depot.{DepotState, octets_of, OnlyReads}
+use Rattle.net_io.specs.Depot.{DepotState, SameHeld, octets_of, OnlyReads}
 use Rattle.netlabel_run.specs.declared.command.Command.TheVariants.{Judge}
 use Rattle.call_report.specs.declared.status.Status.TheVariants.{Done, NoForm, Limit}
 use Rattle.netlabel_run.specs.Judge.{IsVerdict, JudgeReport, absent, too_long, judged, JudgeStatus, packet_limit}
@@ -14,7 +14,7 @@ use Rattle.call_report.specs.Report.{Report, late_report}
 use Rattle.call_report.specs.Lines.Fixed.{packet_limit_line, usage_line}
 use Rattle.call_report.specs.Stages.{reading_stage}
 use Rattle.call_report.specs.Outside.{Outside}
-use Rattle.netlabel_run.specs.inside.Ending.{IsOnlyRead, Knows}
+use Rattle.netlabel_run.specs.inside.Ending.{IsOnlyRead, HasMade, Knows}
 use Rattle.netlabel_run.proofs.Endings.{IsDue}
 
 -- a file with more octets than none is there
@@ -25,12 +25,21 @@ is_there (Some octets) long = refl
 pub only_read : {T E : Type 0} (failed : E) (result : Result T E) (file : List ℕ) (old new : DepotState) → OnlyReads {T = T} {E = E} failed result file old new → IsOnlyRead old new
 only_read failed result file old new reads = record { told = reads.told; kept = reads.kept; creates = reads.creates; appends = reads.appends }
 
+-- a call that makes no file
+makes_nothing : (says : Says) (before after : Outside) → says.outputs before.folder.held [] [] → SameHeld before.folder.held after.folder.held → HasMade says before after
+makes_nothing says before after outputs kept = record {
+  outputs = [];
+  are = outputs;
+  begun = λ k d within. absurd (omega (arith, within));
+  made = λ k d within. absurd (omega (arith, within));
+  others = λ name none. kept name;
+}
+
 pub knows_usage : (before after : Outside) → after.folder ≡ before.folder → after.stream.tells ≡ before.stream.tells → Knows (netlabel_says None) before after []
 knows_usage before after same told = record {
   begun = record { content = before.folder.held; told = λ _ name. refl; are = refl; flows = refl };
-  outputs = refl;
+  made = λ _. makes_nothing (netlabel_says None) before after refl (λ name. ap (λ folder. folder.held name) same);
   lawful = refl;
-  kept = λ _ name. ap (λ folder. folder.held name) same;
   creates = λ name. ap (λ folder. folder.creates name) same;
   appends = λ name. ap (λ folder. folder.appends name) same;
   folder_told = ap (λ folder. folder.tells) same;
@@ -43,9 +52,8 @@ pub knows_reading : (says : Says) (file : List ℕ) (before after : Outside) →
     → Knows says before after (reading_stage file ∷ [])
 knows_reading says file before after stages outputs lawful reads told = record {
   begun = record { content = before.folder.held; told = λ _ name. refl; are = stages; flows = refl };
-  outputs = outputs;
+  made = λ told. makes_nothing says before after outputs (reads.kept told);
   lawful = lawful;
-  kept = reads.kept;
   creates = reads.creates;
   appends = reads.appends;
   folder_told = reads.told;

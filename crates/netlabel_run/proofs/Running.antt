@@ -36,7 +36,7 @@ use Rattle.netlabel_run.specs.Run.{AreItsRuns, RunMay, flow_stage}
 use Rattle.netlabel_run.specs.Commands.{netlabel_says}
 use Rattle.call_report.specs.Lines.Script.{script_stop_line}
 use Rattle.netlabel_run.specs.inside.Ending.{IsOnlyRead, ReadsScript}
-use Rattle.netlabel_run.proofs.Access.{has_access}
+use Rattle.netlabel_run.proofs.Access.{has_access, withholds}
 use Rattle.netlabel_run.proofs.Endings.{front_behind, part_of_line, printed_body}
 use Rattle.netlabel_run.proofs.Requests.{knows_reading}
 use Rattle.netlabel_run.proofs.Runs.{runs_same, runs_front, body_begins, line_begins, report_begins, done_has_no_event, done_is_whole, event_is_whole, input_of_last, output_of_last, none_of_theirs}
@@ -427,7 +427,7 @@ module _ (file : List ℕ) (workers : ℕ) (before : Outside) (folder : DepotSta
       outputs = runs_outputs has.runs;
       are = as_script file (before.folder.held file) text script (holds told) is _ _ _ (has.runs, are, refl);
       begun = λ k d within. begun_here _ (has.begun k d within);
-      earlier = (
+      earlier = λ some. (
         runs_outputs (take (length seen - 1) has.runs),
         as_script file (before.folder.held file) text script (holds told) is _ _ _ (take (length seen - 1) has.runs, runs_front (plan_of script) before.folder.held (length seen - 1) 1 packets_limit script.flows seen has.runs are, refl),
         λ k d within. made_here _ (has.earlier k d within),
@@ -479,6 +479,7 @@ module _ (file : List ℕ) (workers : ℕ) (before : Outside) (folder : DepotSta
     lawful = lawful;
     whole = whole;
     access = λ told. has_access asked before.folder.held seen;
+    withheld = λ told. withholds asked before.folder.held seen;
     silent = λ out e none. absurd (none_rose none (cause_of ReadFault (is_by status ReadFault e)).1);
     still = λ none.
         let same = ends.still (no_outputs (take (length seen) script.flows) (λ k d less. none (suc k) d (omega (arith, less)))) in

@@ -29,19 +29,18 @@ pub(crate) struct MadeFile<'a> {
 pub(crate) fn make<D: Depot + Send, S: Sink, G: Gate + Sync, R: Threads + Wait + Sync>(
     rt: &R,
     alloc: Global,
-    file: MadeFile<'_>,
+    file: &MadeFile<'_>,
     depot: &mut D,
     out: &mut S,
     gate: &G,
 ) -> Status
-    ensures { CallEnds netlabel_says (Some (Make file.seed file.count file.name.now))
+    ensures { CallEnds netlabel_says (Some (Make file.now.seed file.now.count file.now.name.now))
         (record { folder = D.state depot.old; stream = S.state out.old })
         (record { folder = D.state depot.new; stream = S.state out.new })
         (status_number result) [] }
 {
-    let MadeFile { seed, count, name } = file;
-    match make_capture(rt, alloc, gate, seed, count, name, depot) {
-        Ok(verdicts) => match verdicts_report(alloc, count, verdicts) {
+    match make_capture(rt, alloc, gate, file.seed, file.count, file.name, depot) {
+        Ok(verdicts) => match verdicts_report(alloc, file.count, verdicts) {
             Ok(report) => report.end(out, b"", Status::Done),
             Err(OutOfMemory) => Status::OutOfMemory,
         },

@@ -1,11 +1,12 @@
 //! Worked words and failing calls, over a folder and a stream in memory; packets stand in `packets`, captures in
-//! `captures`, scripts in `scripts`, hops that are compared in
+//! `captures`, those that are made in `making`, scripts in `scripts`, hops that are compared in
 //! `agreement`, flows that run in `flows` and `gates`.
 
 mod agreement;
 mod captures;
 mod flows;
 mod gates;
+mod making;
 mod packets;
 mod scripts;
 

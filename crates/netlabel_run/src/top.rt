@@ -90,7 +90,7 @@ fn carry_out<D: Depot + Send, S: Sink + Send, G: Gate + Sync, R: Threads + Wait 
         ),
         Some(Command::Make { seed, count, file }) => Outcome::without_flows(
             alloc,
-            make(rt, alloc, MadeFile { seed, count, name: file.as_str() }, depot, out, gate),
+            make(rt, alloc, &MadeFile { seed, count, name: file.as_str() }, depot, out, gate),
         ),
         Some(Command::Run { file, workers }) => {
             run(rt, alloc, file.as_str(), workers.number(), depot, out, gate)

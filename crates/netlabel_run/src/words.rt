@@ -1,6 +1,7 @@
 //! The words of the command line.
 
-ghost use Rattle.std.specs.Prelude.{[], ◌∷◌, codes, IsTrue};
+ghost use Rattle.std.specs.Prelude.{◌≡◌, ◌≤◌, ℕ, [], ◌∷◌, codes, IsTrue, IfSome, IfNone};
+ghost use Rattle.std.specs.Fmt.{decimal};
 ghost use Rattle.mls_label.specs.declared.label.Label.{Label as LabelValue};
 ghost use Rattle.netlabel_run.specs.Words.{texts_of, IsAsked, IsLevel};
 
@@ -10,6 +11,10 @@ use command_values::read_doi;
 use flow_lines::is_file_name;
 use mls_label::Label;
 use mls_range::read_label_into;
+use octet_grammar::read_decimal;
+
+/// As many packets as `make` makes at the most.
+const MADE_LIMIT: u64 = 1_048_576;
 
 /// Reads the words, without the program's name. The label that is lent takes the level, where they have one.
 pub(crate) fn read_words<'a>(words: &'a [String], label: &'a mut Label) -> Option<Command<'a>>
@@ -83,6 +88,9 @@ fn read_four<'a>(
     if command == "agree" {
         return read_agree(second, third, fourth);
     }
+    if command == "make" {
+        return read_make(second, third, fourth);
+    }
     if command != "judge" {
         return None;
     }
@@ -120,6 +128,35 @@ fn read_agree<'a>(file: &'a str, flow: &str, versions: &'a str) -> Option<Comman
         flow,
         versions: Some(versions),
     })
+}
+
+/// Reads the words behind `make`.
+fn read_make<'a>(number: &str, count: &str, file: &'a str) -> Option<Command<'a>>
+    ensures { IsAsked (codes "make" ∷ number.now ∷ count.now ∷ file.now ∷ []) result }
+{
+    let seed = read_decimal(number.as_bytes())?;
+    let count = read_count(count)?;
+    if !is_file_name(file.as_bytes()) {
+        return None;
+    }
+    Some(Command::Make {
+        seed,
+        count,
+        file: FileName::new(file),
+    })
+}
+
+/// Reads how many packets are to be made.
+fn read_count(word: &str) -> Option<u32>
+    ensures some { IfSome result (λ count. (word.now ≡ decimal count) × (count ≤ 1048576)) }
+    ensures none { IfNone result
+        ((count : ℕ) → count ≤ 1048576 → word.now ≡ decimal count → ⊥) }
+{
+    let count = read_decimal(word.as_bytes())?;
+    if count > MADE_LIMIT {
+        return None;
+    }
+    Some(count as u32)
 }
 
 /// Reads the words behind `judge`.

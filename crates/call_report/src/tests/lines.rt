@@ -3,8 +3,8 @@
 use crate::flow::append_versions;
 use crate::{
     agree_or_disagree, bad_versions, done, no_flow, packet_limit, packets_limit, write_capture,
-    write_flow, write_flow_end, write_hops, write_ok, write_packets_end, write_script_stop,
-    write_verdict, write_walked,
+    write_flow, write_flow_end, write_hops, write_made, write_ok, write_packets_end,
+    write_script_stop, write_verdict, write_walked,
 };
 use address_text::{Address, read_name};
 use flow_lines::{Hop, read_file_name};
@@ -202,4 +202,25 @@ fn prints_agreement(rt: HostRuntime) {
         bad_versions(),
         b"script line 0 octet 0 BadVersions\n".as_slice()
     );
+}
+
+/// How many packets were made, delivered and denied, and what is printed of them.
+const MADE: [(u64, u64, u64, &str); 3] = [
+    (0, 0, 0, "made 0 delivered 0 denied 0\n"),
+    (1, 0, 1, "made 1 delivered 0 denied 1\n"),
+    (
+        1048576,
+        196608,
+        851968,
+        "made 1048576 delivered 196608 denied 851968\n",
+    ),
+];
+
+#[test]
+fn prints_made_captures(rt: HostRuntime) {
+    for (count, delivered, denied, text) in MADE {
+        let mut line = Vec::new(rt.alloc());
+        write_made(count, delivered, denied, &mut line).expect(&rt, "there is memory");
+        assert_eq!(rt; line.as_slice(), text.as_bytes());
+    }
 }

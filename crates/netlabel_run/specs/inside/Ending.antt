@@ -1,5 +1,5 @@
--- What is known at the end of a call that makes no file, and of one that reads a script.
-use Rattle.std.specs.Prelude.{◌≡◌, ◌++◌, IsTrue, ℕ, List, [], ◌∷◌, Contains, Option, Some, None, Ok, Err}
+-- What is known at the end of a call without flows, and of one that reads a script.
+use Rattle.std.specs.Prelude.{◌≡◌, ◌≢◌, ◌++◌, IsTrue, ℕ, List, [], ◌∷◌, All, Contains, Option, Some, None, Ok, Err}
 use Rattle.net_io.specs.Depot.{DepotState, SameHeld}
 use Rattle.net_io.specs.Faults.{SameCounts}
 use Rattle.label_commands.specs.declared.script.Script.{Script}
@@ -7,6 +7,7 @@ use Rattle.label_commands.specs.declared.stop.ScriptStop.{ScriptStop}
 use Rattle.call_report.specs.Lines.Script.{script_stop_line}
 use Rattle.call_report.specs.Report.{Folder, Report, late_report}
 use Rattle.call_report.specs.Stages.{Stage, reading_stage}
+use Rattle.call_report.specs.Output.{Output, IsBegun, IsMade}
 use Rattle.call_report.specs.Outside.{Outside}
 use Rattle.call_report.specs.Says.{Says}
 use Rattle.call_report.specs.CallEnds.{HasBegun}
@@ -21,12 +22,19 @@ pub record IsOnlyRead (old new : DepotState) : Type 0 where
   pub creates : SameCounts old.creates new.creates
   pub appends : SameCounts old.appends new.appends
 
--- What such a call knows at its end: what it has begun, and what it has left as it was.
+-- All that is to be made was made, and each other name holds what it held.
+pub record HasMade (says : Says) (before after : Outside) : Type 0 where
+  pub outputs : List Output
+  pub are : says.outputs before.folder.held [] outputs
+  pub begun : All (λ output. IsBegun output before.folder.held after.folder.held) outputs
+  pub made : All (λ output. IsMade output before.folder.held after.folder.held) outputs
+  pub others : (name : List ℕ) → All (λ output. output.name ≢ name) outputs → after.folder.held name ≡ before.folder.held name
+
+-- What such a call knows at its end: what it has begun, what it has made, and that no making and no append has failed.
 pub record Knows (says : Says) (before after : Outside) (stages : List Stage) : Type 0 where
   pub begun : HasBegun says before.folder [] stages
-  pub outputs : says.outputs before.folder.held [] []
+  pub made : IsTrue before.folder.tells → HasMade says before after
   pub lawful : says.lawful before.folder.held []
-  pub kept : IsTrue before.folder.tells → SameHeld before.folder.held after.folder.held
   pub creates : SameCounts before.folder.creates after.folder.creates
   pub appends : SameCounts before.folder.appends after.folder.appends
   pub folder_told : after.folder.tells ≡ before.folder.tells
