@@ -6,7 +6,7 @@ use Rattle.std.specs.List.{All, flat_map, join_with_byte, slice_split}
 use Rattle.std.specs.Str.{bytes_eq}
 use Rattle.std.proofs.lemmas.Bool.{and_parts, and_from, cond-true, leb-true, le-leb, ltb-true, lt-ltb}
 use Rattle.std.proofs.lemmas.Bool.Decides.{Decides-and, Decides-by_and, Decides-ltb}
-use Rattle.std.proofs.lemmas.List.{append-nil}
+use Rattle.std.proofs.lemmas.List.{append-nil, take_all}
 use Rattle.std.proofs.lemmas.List.Splits.{slice_split_none, slice_split_at, join_with_byte-slice_split}
 use Rattle.std.proofs.lemmas.Option.{none-some, cond_some, option_and_then_some}
 use Rattle.std.proofs.lemmas.Slice.Eq.{bytes_eq-Decides}
@@ -18,6 +18,7 @@ use Rattle.mls_label.specs.Runs.{runs_of}
 use Rattle.mls_label.proofs.Law.{dominance_is_reflexive}
 use Rattle.mls_range.specs.LabelText.{IsTerm, terms_text, terms_of_run, IsLabelText, label_text}
 use Rattle.mls_range.specs.TextFault.{IsRoomyLabel}
+use Rattle.mls_range.specs.Crowd.{run_count}
 use Rattle.mls_range.specs.Range.{LabelRange}
 use Rattle.mls_range.specs.RangeText.{IsRangeText, IsRoomyRange, range_text, same_label}
 use Rattle.mls_range.specs.Computed.{LabelTerms, label_of_terms, said_by_parts, are_terms, is_roomy, is_said_by, terms_of_text, label_of_text, dominates_by_terms, lone_range, range_of_terms, range_of_parts, range_of_text}
@@ -216,6 +217,31 @@ by_parts text range (one ∷ two ∷ three ∷ parts) cut e = absurd (none-some 
 pub range_is : (text : List ℕ) (range : LabelRange) → range_of_text text ≡ Some range → IsRangeOf text range
 unfolding range_of_text
 range_is text range e = by_parts text range (slice_split is_dash text) refl e
+
+-- ---- how many runs
+
+few_said : (text : List ℕ) (said : LabelTerms) → Says text said → length (runs_of (label_of_terms said).cats) ≤ 1952
+few_said text said s = subst (λ (terms : List (ℕ × ℕ)). run_count terms ≤ 1952) (take_all (length said.terms) said.terms (omega arith)) (s.few (length said.terms))
+
+pub few_of_label : (text : List ℕ) (label : Label) → label_of_text text ≡ Some label → length (runs_of label.cats) ≤ 1952
+few_of_label text label e = let f = label_found text label e in subst (λ (l : Label). length (runs_of l.cats) ≤ 1952) f.2 (few_said text f.0 f.1)
+
+abbrev AreFew : LabelRange → Type 0
+AreFew range = (length (runs_of range.low.cats) ≤ 1952) × (length (runs_of range.high.cats) ≤ 1952)
+
+few_by_parts : (range : LabelRange) (parts : List (List ℕ)) → range_of_parts parts ≡ Some range → AreFew range
+few_by_parts range [] e = absurd (none-some range e)
+few_by_parts range (one ∷ []) e = map_some lone_range (label_of_text one) range e (λ label found is. let few = few_of_label one label found in subst AreFew is (few, few))
+few_by_parts range (low_text ∷ high_text ∷ []) e =
+    option_and_then_some (λ l. option_and_then (range_of_terms l) (terms_of_text high_text)) (terms_of_text low_text) range e (λ low found_low later.
+    option_and_then_some (range_of_terms low) (terms_of_text high_text) range later (λ high found_high taken.
+    let f = cond_some (dominates_by_terms high low) (record { low = label_of_terms low; high = label_of_terms high }) range taken in
+    subst AreFew f.1 (few_said low_text low (terms_found low_text low found_low), few_said high_text high (terms_found high_text high found_high))))
+few_by_parts range (one ∷ two ∷ three ∷ parts) e = absurd (none-some range e)
+
+pub few_of_range : (text : List ℕ) (range : LabelRange) → range_of_text text ≡ Some range → (length (runs_of range.low.cats) ≤ 1952) × (length (runs_of range.high.cats) ≤ 1952)
+unfolding range_of_text
+few_of_range text range e = few_by_parts range (slice_split is_dash text) e
 
 -- ---- the written form
 

@@ -23,7 +23,7 @@ use Rattle.mls_range.proofs.ReadBack.{reads_back}
 use Rattle.mls_range.proofs.RangeTexts.{one_range, range_reads_back}
 use Rattle.mls_range.proofs.Orders.{dominance}
 use Rattle.mls_range.proofs.Octets.{label_octets, one_colon}
-use Rattle.mls_range.proofs.Computes.{label_computes, label_is, written_label, range_computes, range_is, written_range, lone_computed, pair_computed}
+use Rattle.mls_range.proofs.Computes.{label_computes, label_is, written_label, range_computes, range_is, few_of_label, few_of_range, written_range, lone_computed, pair_computed}
 
 pub written_label_reads_back : (label : Label) → label.level < 256 → IsCats label.cats → IsLabelText (label_text label) label
 written_label_reads_back = reads_back
@@ -62,6 +62,13 @@ label_texts_compute = label_computes
 
 pub computed_labels_are_of_the_text : (text : List ℕ) (label : Label) → label_of_text text ≡ Some label → IsLabelText text label × IsRoomyLabel text
 computed_labels_are_of_the_text = label_is
+
+pub record FewRuns : Type 0 where
+  pub label : (text : List ℕ) (label : Label) → label_of_text text ≡ Some label → length (runs_of label.cats) ≤ MOST_RUNS
+  pub range : (text : List ℕ) (range : LabelRange) → range_of_text text ≡ Some range → (length (runs_of range.low.cats) ≤ MOST_RUNS) × (length (runs_of range.high.cats) ≤ MOST_RUNS)
+
+pub computed_labels_have_few_runs : FewRuns
+computed_labels_have_few_runs = record { label = few_of_label; range = few_of_range }
 
 pub written_label_computes : (label : Label) → label.level < 256 → IsCats label.cats → length (runs_of label.cats) ≤ MOST_RUNS → label_of_text (label_text label) ≡ Some label
 written_label_computes = written_label

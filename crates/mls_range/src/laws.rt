@@ -61,6 +61,15 @@ pub fn computed_labels_are_of_the_text()
         → IsLabelText text label × IsRoomyLabel text }
 {}
 
+/// What is computed of a text as a label or a range has no more runs than a set of categories may have.
+pub fn computed_labels_have_few_runs()
+    ensures label { (text : List ℕ) (label : Label) → label_of_text text ≡ Some label
+        → length (runs_of label.cats) ≤ MOST_RUNS }
+    ensures range { (text : List ℕ) (range : LabelRange) → range_of_text text ≡ Some range
+        → (length (runs_of range.low.cats) ≤ MOST_RUNS)
+        × (length (runs_of range.high.cats) ≤ MOST_RUNS) }
+{}
+
 /// Of a label's written form, that label is what is computed.
 pub fn written_label_computes()
     ensures { (label : Label) → label.level < 256 → IsCats label.cats
