@@ -14,6 +14,7 @@ use Rattle.node_readings.specs.declared.fault.ReadingFault.TheVariants.{NotIncre
 use Rattle.node_readings.specs.Reading.{NamedMeanings, is_increasing, names_once, is_distinct, reading_fault, IsReading}
 use Rattle.command_values.specs.Doi.{is_doi}
 use Rattle.command_values.specs.Pairs.{pair_of_text, IsPairWithin}
+use Rattle.command_values.specs.Ranges.{IsMlsRange}
 use Rattle.script_lines.specs.declared.row.Row.{Row}
 use Rattle.script_lines.specs.declared.row.Row.TheVariants as In
 use Rattle.script_lines.specs.declared.parameter.Parameter.{Parameter}
@@ -30,7 +31,7 @@ use Rattle.script_lines.specs.Command.{command_of}
 use Rattle.script_lines.specs.Bounded.{IsBounded}
 use Rattle.label_commands.specs.Line.{named_by, reading_stop, read_meanings, behind_tool, read_led}
 use Rattle.label_commands.proofs.Results.{same_ok, not_ok, went, ok_or_went}
-use Rattle.label_commands.proofs.Values.{doi_within, pair_within, list_within, IsBoundedHigh, range_within, static_within, receiver_within, if_said, said_is}
+use Rattle.label_commands.proofs.Values.{doi_within, pair_within, list_within, range_within, static_within, receiver_within, if_said, said_is}
 
 -- ---- the parameters
 
@@ -38,9 +39,9 @@ pub record AreWithin (doi : Option ℕ) (levels categories : Option (List (ℕ �
   pub doi_is : IfSome doi (λ d. is_doi d ≡ true)
   pub levels_are : IfSome levels (All (IsPairWithin 255 255))
   pub categories_are : IfSome categories (All (IsPairWithin 65534 65534))
-  pub label_is : IfSome label IsBoundedHigh
-  pub level_is : IfSome level IsBoundedHigh
-  pub range_is : IfSome range IsBoundedHigh
+  pub label_is : IfSome label IsMlsRange
+  pub level_is : IfSome level IsMlsRange
+  pub range_is : IfSome range IsMlsRange
   pub named_are : IfSome named (All (IsPairWithin 65534 4294967295))
 
 -- each value that there is is within its bounds
@@ -59,11 +60,11 @@ field_within edition Domain key text f is = is
 field_within edition Interface key text f is = is
 field_within edition Prefix key text f is = is
 field_within edition Protocol key text f is = is
-field_within edition Label key text f is = record { doi_is = is.doi_is; levels_are = is.levels_are; categories_are = is.categories_are; label_is = if_said IsBoundedHigh _ (static_within edition text); level_is = is.level_is; range_is = is.range_is; named_are = is.named_are }
+field_within edition Label key text f is = record { doi_is = is.doi_is; levels_are = is.levels_are; categories_are = is.categories_are; label_is = if_said IsMlsRange _ (static_within edition text); level_is = is.level_is; range_is = is.range_is; named_are = is.named_are }
 field_within edition Address key text f is = is
 field_within edition Home key text f is = is
-field_within edition Level key text f is = record { doi_is = is.doi_is; levels_are = is.levels_are; categories_are = is.categories_are; label_is = is.label_is; level_is = if_said IsBoundedHigh _ (receiver_within edition text); range_is = is.range_is; named_are = is.named_are }
-field_within edition Range key text f is = record { doi_is = is.doi_is; levels_are = is.levels_are; categories_are = is.categories_are; label_is = is.label_is; level_is = is.level_is; range_is = if_said IsBoundedHigh _ (range_within text); named_are = is.named_are }
+field_within edition Level key text f is = record { doi_is = is.doi_is; levels_are = is.levels_are; categories_are = is.categories_are; label_is = is.label_is; level_is = if_said IsMlsRange _ (receiver_within edition text); range_is = is.range_is; named_are = is.named_are }
+field_within edition Range key text f is = record { doi_is = is.doi_is; levels_are = is.levels_are; categories_are = is.categories_are; label_is = is.label_is; level_is = is.level_is; range_is = if_said IsMlsRange _ (range_within text); named_are = is.named_are }
 field_within edition Four key text f is = is
 field_within edition Six key text f is = is
 field_within edition ReadingLevels key text f is = is
@@ -146,15 +147,15 @@ command_within In.AcceptOn f command is e = made _ command tt e
 command_within In.AcceptOff f command is e = made _ command tt e
 command_within In.UnlblAdd f command is e =
     option_and_then_some _ f.interface command e (λ interface i h. option_and_then_some _ f.prefix command h (λ prefix p k. option_and_then_some _ f.label command k (λ range r m.
-    made (UnlblAdd interface prefix range) command (said_is IsBoundedHigh f.label range is.label_is r) m)))
+    made (UnlblAdd interface prefix range) command (said_is IsMlsRange f.label range is.label_is r) m)))
 command_within In.UnlblDel f command is e = option_and_then_some _ f.interface command e (λ interface i h. option_and_then_some _ f.prefix command h (λ prefix p k. made _ command tt k))
 command_within In.UnlblList f command is e = made _ command tt e
 command_within In.ReceiverAdd f command is e =
     option_and_then_some _ f.address command e (λ address a h. option_and_then_some _ f.home command h (λ home o k. option_and_then_some _ f.level command k (λ range r m.
-    made (ReceiverAdd address home range) command (said_is IsBoundedHigh f.level range is.level_is r) m)))
+    made (ReceiverAdd address home range) command (said_is IsMlsRange f.level range is.level_is r) m)))
 command_within In.ReceiverDel f command is e = option_and_then_some _ f.address command e (λ address a h. made _ command tt h)
 command_within In.RangeAdd f command is e = option_and_then_some _ f.interface command e (λ interface i h. option_and_then_some _ f.range command h (λ range r k.
-    made (RangeAdd interface range) command (said_is IsBoundedHigh f.range range is.range_is r) k))
+    made (RangeAdd interface range) command (said_is IsMlsRange f.range range is.range_is r) k))
 command_within In.RangeDel f command is e = option_and_then_some _ f.interface command e (λ interface i h. made _ command tt h)
 command_within In.PairAdd f command is e = option_and_then_some _ f.four command e (λ four o h. option_and_then_some _ f.six command h (λ six s k. made _ command tt k))
 command_within In.PairDel f command is e = option_and_then_some _ f.four command e (λ four o h. made _ command tt h)

@@ -1,28 +1,30 @@
 -- What texts say is within its bounds.
-use Rattle.std.proofs.Common.{◌≡◌, ℕ, ◌≤◌, true, List, [], ◌∷◌, map, Option, Some, None, refl, sym, subst, ◌∙◌, All, inl, inr}
+use Rattle.std.proofs.Common.{◌≡◌, ℕ, ◌≤◌, true, List, [], ◌∷◌, length, map, Option, Some, None, refl, sym, subst, ◌∙◌, All, inl, inr, arith}
 use Rattle.std.specs.Prelude.{◌==◌, ◌&&◌, IfSome, nat_le, option_map, option_and_then, if◌then◌else◌}
 use Rattle.std.specs.Fmt.{decimal}
 use Rattle.std.specs.List.{after_first, before_first, slice_split}
 use Rattle.std.specs.Str.{bytes_eq}
 use Rattle.std.specs.Str.Parse.{digits_value}
-use Rattle.std.proofs.lemmas.Bool.{and_parts, leb-true}
+use Rattle.std.proofs.lemmas.Bool.{and_parts, leb-true, false≢true}
 use Rattle.std.proofs.lemmas.List.Elements.{All-nil, All-cons}
 use Rattle.std.proofs.lemmas.Option.{none-some, same_Some, cond_some, option_and_then_some}
 use Rattle.std.proofs.NetLemmas.Options.{map_some}
 use Rattle.mls_label.specs.declared.label.Label.{Label}
+use Rattle.mls_label.specs.declared.cat_set.TheConstants.{MOST_RUNS}
 use Rattle.mls_label.specs.Cats.{IsCats}
-use Rattle.mls_label.proofs.Law.{tests_give_sets}
-use Rattle.mls_label.specs.Label.{IsLabel}
+use Rattle.mls_label.specs.Label.{IsLabel, Dominates}
+use Rattle.mls_label.specs.Runs.{runs_of}
+use Rattle.mls_label.proofs.Law.{tests_give_sets, dominance_is_reflexive}
 use Rattle.mls_range.specs.LabelText.{IsLabelText, term_has}
 use Rattle.mls_range.specs.Computed.{label_of_text, lone_range, range_of_text}
 use Rattle.mls_range.specs.Range.{LabelRange}
 use Rattle.mls_range.specs.RangeText.{IsRangeText}
-use Rattle.mls_range.proofs.Law.{computed_labels_are_of_the_text, computed_ranges_are_of_the_text}
+use Rattle.mls_range.proofs.Law.{computed_labels_are_of_the_text, computed_labels_have_few_runs, computed_ranges_are_of_the_text}
 use Rattle.address_text.specs.Number.{number_of_text}
 use Rattle.command_values.specs.Doi.{is_doi, doi_of_text}
 use Rattle.command_values.specs.List.{all_of, list_of_text}
 use Rattle.command_values.specs.Pairs.{pair_of_text, IsPairWithin}
-use Rattle.command_values.specs.Ranges.{behind_context, in_context, range_below}
+use Rattle.command_values.specs.Ranges.{behind_context, in_context, lowest_label, range_below, IsMlsLabel, IsMlsRange}
 use Rattle.script_lines.specs.Form.{Edition, with_labels, with_ranges, with_translations}
 use Rattle.script_lines.specs.Fields.{static_by, receiver_by}
 
@@ -67,39 +69,53 @@ module _ {X : Type 0} (P : X → Type 0) (of : List ℕ → Option X) (each : (t
 
 -- ---- labels
 
-label_bounded : (text : List ℕ) (label : Label) → IsLabelText text label → IsLabel label
-label_bounded text label is = record { level = is.level; cats = subst IsCats (sym is.cats) (tests_give_sets (term_has is.terms)) }
+label_bounded : (text : List ℕ) (label : Label) → IsLabelText text label → length (runs_of label.cats) ≤ MOST_RUNS → IsMlsLabel label
+label_bounded text label is few = record { level = is.level; cats = subst IsCats (sym is.cats) (tests_give_sets (term_has is.terms)); few = few }
+
+mls_label_within : (text : List ℕ) (label : Label) → label_of_text text ≡ Some label → IsMlsLabel label
+mls_label_within text label e = label_bounded text label (computed_labels_are_of_the_text text label e).0 (computed_labels_have_few_runs.label text label e)
 
 pub label_within : (text : List ℕ) (label : Label) → label_of_text text ≡ Some label → IsLabel label
-label_within text label e = label_bounded text label (computed_labels_are_of_the_text text label e).0
+label_within text label e = let is = mls_label_within text label e in record { level = is.level; cats = is.cats }
 
--- of a range the high label
-abbrev pub IsBoundedHigh : LabelRange → Type 0
-IsBoundedHigh range = IsLabel range.high
-
-pub range_within : (text : List ℕ) (range : LabelRange) → range_of_text text ≡ Some range → IsBoundedHigh range
+pub range_within : (text : List ℕ) (range : LabelRange) → range_of_text text ≡ Some range → IsMlsRange range
 range_within text range e = by_form (computed_ranges_are_of_the_text text range e).0 where
-  by_form : IsRangeText text range → IsBoundedHigh range
-  by_form (inl lone) = subst IsLabel (sym lone.high) (label_bounded text range.low lone.low)
-  by_form (inr pair) = label_bounded pair.high_text range.high pair.high
+  ordered : Dominates range.high range.low
+  ordered = (computed_ranges_are_of_the_text text range e).2
 
-lone_within : (text : List ℕ) (range : LabelRange) → option_map lone_range (label_of_text text) ≡ Some range → IsBoundedHigh range
-lone_within text range e = map_some lone_range (label_of_text text) range e (λ label said same. subst IsBoundedHigh same (label_within text label said))
+  few : (length (runs_of range.low.cats) ≤ MOST_RUNS) × (length (runs_of range.high.cats) ≤ MOST_RUNS)
+  few = computed_labels_have_few_runs.range text range e
 
-below_within : (text : List ℕ) (range : LabelRange) → option_map range_below (label_of_text text) ≡ Some range → IsBoundedHigh range
-below_within text range e = map_some range_below (label_of_text text) range e (λ label said same. subst IsBoundedHigh same (label_within text label said))
+  by_form : IsRangeText text range → IsMlsRange range
+  by_form (inl lone) = let low = label_bounded text range.low lone.low few.0 in record { low = low; high = subst IsMlsLabel (sym lone.high) low; ordered = ordered }
+  by_form (inr pair) = record { low = label_bounded pair.low_text range.low pair.low few.0; high = label_bounded pair.high_text range.high pair.high few.1; ordered = ordered }
 
-pub static_within : (edition : Edition) (text : List ℕ) (range : LabelRange) → static_by edition text ≡ Some range → IsBoundedHigh range
-static_within with_labels text range e = context_within IsBoundedHigh (λ t. option_map lone_range (label_of_text t)) lone_within text range e
-static_within with_ranges text range e = context_within IsBoundedHigh range_of_text range_within text range e
-static_within with_translations text range e = context_within IsBoundedHigh range_of_text range_within text range e
+lone_within : (text : List ℕ) (range : LabelRange) → option_map lone_range (label_of_text text) ≡ Some range → IsMlsRange range
+lone_within text range e =
+    map_some lone_range (label_of_text text) range e
+    (λ label said same. let is = mls_label_within text label said in subst IsMlsRange same (record { low = is; high = is; ordered = dominance_is_reflexive label }))
+
+lowest_bounded : IsMlsLabel lowest_label
+lowest_bounded = record { level = omega arith; cats = tt; few = omega arith }
+
+-- the lowest label is below each label
+below_bounded : (label : Label) → IsMlsLabel label → IsMlsRange (range_below label)
+below_bounded label is = record { low = lowest_bounded; high = is; ordered = record { level = omega arith; cats = λ c none. absurd (false≢true none) } }
+
+below_within : (text : List ℕ) (range : LabelRange) → option_map range_below (label_of_text text) ≡ Some range → IsMlsRange range
+below_within text range e = map_some range_below (label_of_text text) range e (λ label said same. subst IsMlsRange same (below_bounded label (mls_label_within text label said)))
+
+pub static_within : (edition : Edition) (text : List ℕ) (range : LabelRange) → static_by edition text ≡ Some range → IsMlsRange range
+static_within with_labels text range e = context_within IsMlsRange (λ t. option_map lone_range (label_of_text t)) lone_within text range e
+static_within with_ranges text range e = context_within IsMlsRange range_of_text range_within text range e
+static_within with_translations text range e = context_within IsMlsRange range_of_text range_within text range e
 
 either_within : (text : List ℕ) (range : LabelRange) (o : Option Label) → label_of_text text ≡ o
-    → ◌≡◌ {A = Option LabelRange} (elim o as (λ _. Option LabelRange) [ Some label ↦ Some (range_below label) | None ↦ range_of_text text ]) (Some range) → IsBoundedHigh range
-either_within text range (Some label) is e = subst IsBoundedHigh (same_Some (range_below label) range e) (label_within text label is)
+    → ◌≡◌ {A = Option LabelRange} (elim o as (λ _. Option LabelRange) [ Some label ↦ Some (range_below label) | None ↦ range_of_text text ]) (Some range) → IsMlsRange range
+either_within text range (Some label) is e = subst IsMlsRange (same_Some (range_below label) range e) (below_bounded label (mls_label_within text label is))
 either_within text range None is e = range_within text range e
 
-pub receiver_within : (edition : Edition) (text : List ℕ) (range : LabelRange) → receiver_by edition text ≡ Some range → IsBoundedHigh range
+pub receiver_within : (edition : Edition) (text : List ℕ) (range : LabelRange) → receiver_by edition text ≡ Some range → IsMlsRange range
 receiver_within with_labels text range e = below_within text range e
 receiver_within with_ranges text range e = either_within text range (label_of_text text) refl e
 receiver_within with_translations text range e = either_within text range (label_of_text text) refl e
