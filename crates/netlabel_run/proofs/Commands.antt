@@ -1,12 +1,11 @@
 -- The words of the command line, one by one.
 use Rattle.std.proofs.Common.{◌≡◌, ◌≢◌, ◌<◌, ◌≤◌, ◌^◌, ◌⊎◌, inl, inr, ℕ, List, [], ◌∷◌, length, get_or, sym, ap, subst, ◌∙◌, arith}
-use Rattle.std.specs.Prelude.{codes, string_bytes, String, IsTrue}
+use Rattle.std.specs.Prelude.{codes, string_bytes, String}
 use Rattle.std.specs.Fmt.{decimal}
 use Rattle.std.specs.declared.alloc.Global.{Global}
 use Rattle.std.proofs.lemmas.Fmt.{decimal_injective}
 use Rattle.std.proofs.lemmas.List.{length-map}
 use Rattle.mls_label.specs.declared.label.Label.{Label}
-use Rattle.flow_lines.specs.FileName.{is_file_name}
 use Rattle.netlabel_run.specs.declared.command.Command.TheVariants.{Judge, Check, Show, Agree, Make, Run}
 use Rattle.netlabel_run.specs.Words.{texts_of, IsLevel, NamesWorkers, plainly, with_workers, without_versions, with_versions, IsForm}
 
@@ -37,35 +36,6 @@ pub no_workers : (text : List ℕ) (n : ℕ) → text ≡ decimal n → n < 2 ^ 
 no_workers text n is small other workers named =
     let same : n ≡ workers = decimal_injective n workers small (omega (arith, named.few)) (sym is ∙ named.is) in
     elim other [ inl zero ↦ omega (arith, zero, same, named.some) | inr many ↦ omega (arith, many.1, same, named.few) ]
-
--- what words behind `make` are, where they are its form
-pub record IsMakeForm (number count file : List ℕ) : Type 0 where
-  pub seed : ℕ
-  pub seed_is : number ≡ decimal seed
-  pub below : seed < 2 ^ 64
-  pub many : ℕ
-  pub many_is : count ≡ decimal many
-  pub few : many ≤ 1048576
-  pub is_name : IsTrue (is_file_name file)
-
--- other forms begin with another letter
-pub make_form : (number count file : List ℕ) → IsForm (codes "make" ∷ number ∷ count ∷ file ∷ []) → IsMakeForm number count file
-make_form number count file (Judge d l f, asks) = absurd (let first : 109 ≡ 106 = ap (λ ws. get_or (get_or ws 0 []) 0 0) asks.are in omega (arith, first))
-make_form number count file (Check f, asks) = absurd (omega (arith, ap length asks.are))
-make_form number count file (Show f, asks) = absurd (omega (arith, ap length asks.are))
-make_form number count file (Agree f n vs, without_versions t are name is) = absurd (omega (arith, ap length are))
-make_form number count file (Agree f n vs, with_versions t l v are name is lists) = absurd (let first : 109 ≡ 97 = ap (λ ws. get_or (get_or ws 0 []) 0 0) are in omega (arith, first))
-make_form number count file (Run f n, plainly are name) = absurd (omega (arith, ap length are))
-make_form number count file (Run f n, with_workers t w are name named) = absurd (let first : 109 ≡ 114 = ap (λ ws. get_or (get_or ws 0 []) 0 0) are in omega (arith, first))
-make_form number count file (Make s n f, asks) = record {
-  seed = s;
-  seed_is = ap (λ ws. get_or ws 1 []) asks.are;
-  below = asks.below;
-  many = n;
-  many_is = ap (λ ws. get_or ws 2 []) asks.are;
-  few = asks.few;
-  is_name = subst (λ f. IsTrue (is_file_name f)) (sym (ap (λ ws. get_or ws 3 []) asks.are)) asks.is_name;
-}
 
 -- a text of a greater number is that of no number of packets
 pub too_many : (text : List ℕ) (n : ℕ) → text ≡ decimal n → n < 2 ^ 64 → 1048576 < n → (count : ℕ) → count ≤ 1048576 → text ≡ decimal count → ⊥

@@ -51,11 +51,7 @@ pub(crate) fn make<D: Depot + Send, S: Sink, G: Gate + Sync, R: Threads + Wait +
 }
 
 /// The report that says what became of so many packets.
-fn verdicts_report(
-    alloc: Global,
-    count: u32,
-    verdicts: Verdicts,
-) -> Result<Report, OutOfMemory>
+fn verdicts_report(alloc: Global, count: u32, verdicts: Verdicts) -> Result<Report, OutOfMemory>
     ensures { IfOk result (λ report. report.waiting.items
         ≡ made_line count verdicts.delivered verdicts.denied) }
 {

@@ -88,10 +88,14 @@ fn carry_out<D: Depot + Send, S: Sink + Send, G: Gate + Sync, R: Threads + Wait 
             alloc,
             agree(alloc, file.as_str(), flow, &versions, depot, out),
         ),
-        Some(Command::Make { seed, count, file }) => Outcome::without_flows(
-            alloc,
-            make(rt, alloc, &MadeFile { seed, count, name: file.as_str() }, depot, out, gate),
-        ),
+        Some(Command::Make { seed, count, file }) => {
+            let file = MadeFile {
+                seed,
+                count,
+                name: file.as_str(),
+            };
+            Outcome::without_flows(alloc, make(rt, alloc, &file, depot, out, gate))
+        }
         Some(Command::Run { file, workers }) => {
             run(rt, alloc, file.as_str(), workers.number(), depot, out, gate)
         }

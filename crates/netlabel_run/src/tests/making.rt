@@ -194,7 +194,10 @@ fn tells_each_write_that_fails(rt: HostRuntime) {
     for (write, status, count) in WRITES {
         let ran = made(&rt, alloc, "make 7 3 m.pcap", 0, write);
         assert_eq!(rt; ran.status, status, "at write {write}");
-        assert!(rt; THREE_LINE.as_bytes().starts_with(&ran.printed), "at write {write}");
+        assert!(rt;
+            THREE_LINE.as_bytes().starts_with(&ran.printed),
+            "at write {write}"
+        );
         assert_eq!(rt; ran.printed.len(), count, "at write {write}");
         assert!(rt; holds(&rt, alloc, &ran, THREE), "at write {write}");
     }
