@@ -332,12 +332,14 @@ def check_agreeing(trial):
 
 
 def check_control(trial):
-    """Counts the networks that disagree, and those of them in which a packet is delivered too low."""
-    told = trial.called("agree", SCRIPT, "1").splitlines()[-1]
+    """Counts the networks that disagree, and those of them in which a packet is delivered too low. No command comes beside their flows."""
+    hops = trial.script.flows[0]
+    versions = [trial.script.commands] * len(hops)
+    trial.check_agreement(0, versions)
     lows = [line for line in trial.lines if line.became == "delivered" and not trial.soundness(line)[1]]
-    trial.counts["told"] += told == "disagree"
+    trial.counts["told"] += not trial.script.all_agree(hops, versions)
     trial.counts["too low"] += bool(lows)
-    if lows and told == "agree":
+    if lows and not trial.counts["told"]:
         raise Wrong("agree says agree, and a packet is delivered too low")
 
 
