@@ -3,6 +3,8 @@
 ghost use Rattle.std.specs.Prelude.{◌≡◌, IfOk};
 ghost use Rattle.made_run.specs.Verdict.{delivered_made, denied_made};
 ghost use Rattle.made_run.specs.Ends.{MakesCapture, stop_of};
+ghost use Rattle.made_run.specs.inside.Node.{made_hops, IsOpen};
+ghost use Rattle.made_run.specs.inside.Feed.{IsReadyFeed, IsNewFeed, HasRound, HasMade};
 
 use crate::feed::MakeFeed;
 use crate::file::{append_waiting, begin_file};
@@ -34,7 +36,12 @@ fn judge<D: Depot + Send, G: Gate + Sync, R: Threads + Wait + Sync>(
     viewers: &mut [Viewer],
     flow: &FlowLine,
     feed: &mut MakeFeed<'_, '_, D>,
-) -> Result<(), MadeStop> {
+) -> Result<(), MadeStop>
+    requires open { IsOpen publisher.old viewers.old }
+    requires hops { flow.now.hops ≡ made_hops }
+    requires new { IsNewFeed D.state feed.old }
+    ensures { HasRound D.state (stop_of result) feed.old feed.new }
+{
     match round(rt, alloc, publisher, viewers, STEPS, flow, feed, gate) {
         Ok(_) => Ok(()),
         Err(RoundStop::Feed(stop)) => Err(stop),
@@ -49,7 +56,12 @@ fn judge<D: Depot + Send, G: Gate + Sync, R: Threads + Wait + Sync>(
 fn finish<D: Depot>(
     feed: &mut MakeFeed<'_, '_, D>,
     judged: Result<(), MadeStop>,
-) -> Result<(), MadeStop> {
+) -> Result<(), MadeStop>
+    requires ready { IsReadyFeed D.state feed.old }
+    requires stop { feed.old.stop ≡ stop_of judged }
+    ensures { (was : MakeFeed D) → HasRound D.state (stop_of judged) was feed.old
+        → HasMade D.state (stop_of result) was feed.new }
+{
     match judged {
         Ok(()) => append_waiting(feed.depot, feed.name, &mut feed.waiting),
         Err(stop) => Err(stop),
@@ -62,7 +74,10 @@ fn make_all<D: Depot + Send, G: Gate + Sync, R: Threads + Wait + Sync>(
     alloc: Global,
     gate: &G,
     feed: &mut MakeFeed<'_, '_, D>,
-) -> Result<(), MadeStop> {
+) -> Result<(), MadeStop>
+    requires { IsNewFeed D.state feed.old }
+    ensures { HasMade D.state (stop_of result) feed.old feed.new }
+{
     let Ok(flow) = made_flow(alloc) else {
         return Err(MadeStop::OutOfMemory);
     };

@@ -1,11 +1,14 @@
 -- A feed as the making that it carries. In each word `folder` tells what the feed's folder is.
-use Rattle.std.specs.Prelude.{ℕ, ◌≡◌, ◌+◌, ◌-◌, ◌≤◌, Bool, true, false, not, IsTrue, List, count_by, None}
+use Rattle.std.specs.Prelude.{ℕ, ◌≡◌, ◌+◌, ◌-◌, ◌≤◌, Bool, true, false, not, IsTrue, List, count_by, Option, Some, None}
 use Rattle.net_io.specs.Depot.{DepotState}
 use Rattle.packet_walk.specs.declared.packet.PacketIn.{PacketIn}
 use Rattle.packet_walk.specs.declared.walked.End.{End}
 use Rattle.packet_walk.specs.declared.walked.End.TheVariants as the_end
 use Rattle.label_flow.specs.Pair.{PairState}
+use Rattle.made_capture.specs.Capture.{capture_made}
 use Rattle.made_run.specs.declared.feed.MakeFeed.{MakeFeed}
+use Rattle.made_run.specs.declared.stop.MadeStop.{MadeStop}
+use Rattle.made_run.specs.Verdict.{delivered_made, denied_made}
 use Rattle.made_run.specs.inside.File.{HasAppended}
 use Rattle.made_run.specs.inside.Source.{packets_made, IsSentUpTo, IsBegunUpTo}
 
@@ -49,3 +52,33 @@ pub record HasJudged {D : Type 0} (folder : D → DepotState) (was now : MakeFee
   pub delivered : now.delivered ≡ was.delivered + delivered_in pairs
   pub denied : now.denied ≡ was.denied + denied_in pairs
   pub appended : HasAppended was.name.now now.stop (folder was.depot.now) (folder now.depot.now)
+
+-- nothing was given and nothing has stopped it
+pub record IsNewFeed {D : Type 0} (folder : D → DepotState) (feed : MakeFeed D) : Type 0 where
+  pub ready : IsReadyFeed folder feed
+  pub given : feed.given ≡ 0
+  pub delivered : feed.delivered ≡ 0
+  pub denied : feed.denied ≡ 0
+  pub stop : feed.stop ≡ None
+
+-- A round of its packets was judged, of all that it makes unless something stopped it.
+pub record HasRound {D : Type 0} (folder : D → DepotState) (stop : Option MadeStop) (old new : MakeFeed D) : Type 0 where
+  pub loan : new.depot.ghost_name ≡ old.depot.ghost_name
+  pub name : new.name ≡ old.name
+  pub count : new.count ≡ old.count
+  pub seed : new.source.maker.seed ≡ old.source.maker.seed
+  pub ready : IsReadyFeed folder new
+  pub stop_is : new.stop ≡ stop
+  pub given : stop ≡ None → new.given ≡ new.count
+  pub delivered : stop ≡ None → new.delivered ≡ delivered_made old.source.maker.seed old.count
+  pub denied : stop ≡ None → new.denied ≡ denied_made old.source.maker.seed old.count
+  pub appended : HasAppended old.name.now stop (folder old.depot.now) (folder new.depot.now)
+
+-- All its packets were made and judged, up to this stop.
+pub record HasMade {D : Type 0} (folder : D → DepotState) (stop : Option MadeStop) (old new : MakeFeed D) : Type 0 where
+  pub loan : new.depot.ghost_name ≡ old.depot.ghost_name
+  pub delivered : stop ≡ None → new.delivered ≡ delivered_made old.source.maker.seed old.count
+  pub denied : stop ≡ None → new.denied ≡ denied_made old.source.maker.seed old.count
+  pub appended : HasAppended old.name.now stop (folder old.depot.now) (folder new.depot.now)
+  pub begun : IsBegunUpTo old.source.maker.seed old.count old.name.now (folder new.depot.now)
+  pub whole : stop ≡ None → IsTrue (folder new.depot.now).tells → (folder new.depot.now).held old.name.now ≡ Some (capture_made old.source.maker.seed old.count)
