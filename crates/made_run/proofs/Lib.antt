@@ -4,4 +4,5 @@ pub mod Commands
 pub mod Round
 pub mod Sends
 pub mod Steps
+pub mod Fetching
 pub mod Making

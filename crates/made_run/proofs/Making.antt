@@ -1,5 +1,5 @@
 -- A making from its first packet to its end: the round, what is appended behind it, and what that makes of the folder.
-use Rattle.std.proofs.Common.{◌≡◌, ◌≢◌, ◌<◌, ◌≤◌, ◌⊎◌, ℕ, ◌+◌, ◌-◌, true, false, IsTrue, List, [], ◌++◌, length, take, All, Option, Some, None, nat_eq, refl, sym, ap, subst, ◌∙◌, arith, inl, inr, le_refl}
+use Rattle.std.proofs.Common.{◌≡◌, ◌≢◌, ◌<◌, ◌≤◌, ◌⊎◌, ℕ, ◌+◌, ◌-◌, ◌^◌, true, IsTrue, List, [], ◌++◌, length, take, All, Option, Some, None, nat_eq, refl, sym, ap, subst, ◌∙◌, arith, inl, inr, le_refl}
 use Rattle.std.proofs.lemmas.Bool.{eqb-true}
 use Rattle.std.proofs.Math.Seq.{take-append_seam}
 use Rattle.std.proofs.lemmas.List.{append-nil}
@@ -17,7 +17,7 @@ use Rattle.made_capture.proofs.Law.{captures_grow_by_a_frame}
 use Rattle.made_run.specs.declared.feed.MakeFeed.{MakeFeed}
 use Rattle.made_run.specs.declared.stop.MadeStop.{MadeStop}
 use Rattle.made_run.specs.declared.stop.MadeStop.TheVariants.{Create, Append, OutOfMemory}
-use Rattle.made_run.specs.Ends.{IsCause, MakesCapture}
+use Rattle.made_run.specs.Ends.{IsMakeCause, MakesCapture}
 use Rattle.made_run.specs.inside.File.{IsSent, IsBegun, AppendsMove, HasAppended, HasSent, HasBegun}
 use Rattle.made_run.specs.inside.Source.{packets_made, IsSentUpTo, IsBegunUpTo}
 use Rattle.made_run.specs.inside.Node.{made_hops}
@@ -95,7 +95,7 @@ judged_out folder old new pairs judged ready none =
       name = judged.name;
       count = judged.count;
       seed = judged.seed;
-      ready = record { within = ready.within; counts = ready.counts; made = λ no. absurd cc; sent = λ no. absurd cc; begun = ready.begun };
+      ready = record { low = ready.low; within = ready.within; counts = ready.counts; made = λ no. absurd cc; sent = λ no. absurd cc; begun = ready.begun };
       stop_is = refl;
       given = λ no. absurd cc;
       delivered = λ no. absurd cc;
@@ -168,8 +168,8 @@ made_none folder feed fresh = record {
 -- an empty file, and the head of the capture waits
 pub new_feed : {D : Type 0} (folder : D → DepotState) (feed : MakeFeed D) (before : DepotState) → HasBegun feed.name.now None before (folder feed.depot.now)
     → (seed : ℕ) → ◌≡◌ {A = Making} feed.source.maker (record { seed = seed; made = 0 }) → feed.waiting.items ≡ capture_head_octets false
-    → feed.given ≡ 0 → feed.delivered ≡ 0 → feed.denied ≡ 0 → feed.stop ≡ None → IsNewFeed folder feed
-new_feed folder feed before begun first maker head given delivered denied stop =
+    → feed.count < 2 ^ 32 → feed.given ≡ 0 → feed.delivered ≡ 0 → feed.denied ≡ 0 → feed.stop ≡ None → IsNewFeed folder feed
+new_feed folder feed before begun first maker head low given delivered denied stop =
     let after = folder feed.depot.now in
     let seed = feed.source.maker.seed in
     let none : feed.source.maker.made ≡ 0 = ap (λ (m : Making). m.made) maker in
@@ -180,6 +180,7 @@ new_feed folder feed before begun first maker head given delivered denied stop =
     } in
     record {
       ready = record {
+        low = low;
         within = omega (arith, given);
         counts = omega (arith, given, delivered, denied);
         made = λ no. none ∙ sym given;
@@ -204,7 +205,7 @@ is_front text file begun =
 rose_on : (a b c : ℕ) → b ≡ a → Rose b c → Rose a c
 rose_on a b c same rose = subst (λ (n : ℕ). Rose n c) same rose
 
-causes : (name : List ℕ) (stop : Option MadeStop) (a b c : DepotState) → IsCause name None a b → SameCounts b.creates c.creates → AppendsMove name stop b.appends c.appends → IsCause name stop a c
+causes : (name : List ℕ) (stop : Option MadeStop) (a b c : DepotState) → IsMakeCause name None a b → SameCounts b.creates c.creates → AppendsMove name stop b.appends c.appends → IsMakeCause name stop a c
 causes name None a b c first creates moved = (λ other. creates other ∙ first.0 other, λ other. moved other ∙ first.1 other)
 causes name (Some Create) a b c first creates moved = absurd moved
 causes name (Some Append) a b c first creates moved = (λ other. creates other ∙ first.0 other, rose_on (a.appends name) (b.appends name) (c.appends name) (first.1 name) moved)
@@ -233,3 +234,13 @@ captures_none seed count name stop before after first = record {
   reads = first.reads;
   cause = first.cause;
 }
+
+pub captures_so : (seed count : ℕ) (name : List ℕ) (stop : Option MadeStop) (before after last : DepotState) → last ≡ after → MakesCapture seed count name stop before after → MakesCapture seed count name stop before last
+captures_so seed count name stop before after last same is = subst (λ folder. MakesCapture seed count name stop before folder) (sym same) is
+
+-- by a feed that was new behind the making of the file
+pub captures_from : {D : Type 0} (folder : D → DepotState) (stop : Option MadeStop) (old new : MakeFeed D) (seed : ℕ) (before : DepotState) → old.source.maker.seed ≡ seed
+    → HasBegun old.name.now None before (folder old.depot.now) → HasMade folder stop old new → MakesCapture seed old.count old.name.now stop before (folder new.depot.now)
+captures_from folder stop old new seed before same begun made =
+    subst (λ s. MakesCapture s old.count old.name.now stop before (folder new.depot.now)) same
+    (captures old.source.maker.seed old.count old.name.now stop before (folder old.depot.now) (folder new.depot.now) begun made.appended made.begun made.whole)

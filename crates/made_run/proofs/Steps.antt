@@ -1,5 +1,5 @@
 -- What a batch adds to a making.
-use Rattle.std.proofs.Common.{◌≡◌, ◌≤◌, ℕ, zero, suc, ◌+◌, true, IsTrue, List, [], ◌∷◌, ◌++◌, length, map, All, Option, Some, None, Result, Ok, Err, refl, sym, ap, subst, ◌∙◌, arith}
+use Rattle.std.proofs.Common.{◌≡◌, ◌<◌, ◌≤◌, ℕ, zero, suc, ◌+◌, true, IsTrue, List, [], ◌∷◌, ◌++◌, length, map, All, Option, Some, None, Result, Ok, Err, refl, sym, ap, subst, ◌∙◌, arith}
 use Rattle.std.specs.Prelude.{OnOk}
 use Rattle.std.specs.List.{range_with_len}
 use Rattle.std.proofs.lemmas.List.Elements.{All-nil, All-cons}
@@ -75,6 +75,24 @@ begun_next stop maker maker' waits waits' name old new next sent was = subst (λ
 
 pub packets_more : (seed first k : ℕ) → packets_made seed first (k + 1) ≡ packets_made seed first k ++ packet_in seed (first + k + 1) ∷ []
 packets_more seed first k = map-range_with_len_more (packet_in seed) (first + 1) k (first + k + 1) (omega arith)
+
+abbrev made_on : Making → ℕ → Making
+made_on first k = record { seed = first.seed; made = first.made + k }
+
+pub maker_more : (first now next : Making) (k : ℕ) → now ≡ made_on first k → next ≡ made_on now 1 → next ≡ made_on first (k + 1)
+maker_more first now next k is goes =
+    let on : first.made + k + 1 ≡ first.made + (k + 1) = omega arith in
+    goes ∙ ap (λ m. made_on m 1) is ∙ ap (λ n. let m : Making = record { seed = first.seed; made = n } in m) on
+
+pub batch_more : (first now : Making) (k : ℕ) (batch next : List PacketIn) → now ≡ made_on first k → batch ≡ packets_made first.seed first.made k → next ≡ batch ++ packet_in now.seed (now.made + 1) ∷ []
+    → next ≡ packets_made first.seed first.made (k + 1)
+batch_more first now k batch next is are goes =
+    goes ∙ (λ i. are i ++ packet_in (is i).seed ((is i).made + 1) ∷ []) ∙ sym (packets_more first.seed first.made k)
+
+pub begun_within : (first now : Making) (k count : ℕ) (name : List ℕ) (folder : DepotState) → now ≡ made_on first k → k < count → IsBegunUpTo now.seed (now.made + 1) name folder
+    → IsBegunUpTo first.seed (first.made + count) name folder
+begun_within first now k count name folder is less was =
+    begun_up_to first.seed (first.made + k + 1) (first.made + count) name folder (omega arith) (subst (λ (m : Making). IsBegunUpTo m.seed (m.made + 1) name folder) is was)
 
 pub packets_split : (seed first n m : ℕ) → packets_made seed first (n + m) ≡ packets_made seed first n ++ packets_made seed (first + n) m
 packets_split seed first zero m =

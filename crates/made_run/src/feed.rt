@@ -1,6 +1,6 @@
 //! The feed of a making.
 
-ghost use Rattle.std.specs.Prelude.{◌≡◌, ◌-◌, ◌≤◌, [], min, length};
+ghost use Rattle.std.specs.Prelude.{◌≡◌, ◌+◌, ◌<◌, ◌^◌, [], if◌then◌else◌};
 ghost use Rattle.made_run.specs.inside.Feed.{is_delivered};
 
 use crate::source::{Source, fill};
@@ -39,13 +39,16 @@ fn give_back(source: &mut Source, batch: &mut Vec<PacketIn>)
     batch.clear();
 }
 
-// Whether a packet was delivered.
-fn is_delivered(walked: &Walked) -> bool
-    ensures { result ≡ is_delivered walked.now.end }
+// A packet counts as delivered or as denied.
+fn count(delivered: &mut u32, denied: &mut u32, walked: &Walked)
+    requires { delivered.old + denied.old + 1 < 2 ^ 32 }
+    ensures delivered { delivered.new ≡ delivered.old
+        + (if is_delivered walked.now.end then 1 else 0) }
+    ensures denied { denied.new ≡ denied.old + (if is_delivered walked.now.end then 0 else 1) }
 {
     match &walked.end {
-        End::Delivered { .. } => true,
-        End::Denied { .. } | End::Sent { .. } => false,
+        End::Delivered { .. } => *delivered += 1,
+        End::Denied { .. } | End::Sent { .. } => *denied += 1,
     }
 }
 
@@ -98,11 +101,7 @@ impl<'d, 'n, D: Depot> Feed for MakeFeed<'d, 'n, D> {
     }
 
     fn accept(&mut self, walked: &Walked, _packet: &[u8]) -> Result<(), MadeStop> {
-        if is_delivered(walked) {
-            self.delivered += 1;
-        } else {
-            self.denied += 1;
-        }
+        count(&mut self.delivered, &mut self.denied, walked);
         Ok(())
     }
 }

@@ -1,5 +1,5 @@
 -- A feed as the making that it carries. In each word `folder` tells what the feed's folder is.
-use Rattle.std.specs.Prelude.{ℕ, ◌≡◌, ◌+◌, ◌-◌, ◌≤◌, Bool, true, false, not, IsTrue, List, count_by, Option, Some, None}
+use Rattle.std.specs.Prelude.{ℕ, ◌≡◌, ◌+◌, ◌-◌, ◌^◌, ◌<◌, ◌≤◌, Bool, true, false, not, IsTrue, List, count_by, Option, Some, None}
 use Rattle.net_io.specs.Depot.{DepotState}
 use Rattle.packet_walk.specs.declared.packet.PacketIn.{PacketIn}
 use Rattle.packet_walk.specs.declared.walked.End.{End}
@@ -37,6 +37,7 @@ due_of feed = feed.given - (feed.delivered + feed.denied)
 -- What each call of it needs, and leaves. Where nothing stopped it, all packets that were made were given, and their capture was sent but
 -- for what waits; always some first octets were.
 pub record IsReadyFeed {D : Type 0} (folder : D → DepotState) (feed : MakeFeed D) : Type 0 where
+  pub low : feed.count < 2 ^ 32
   pub within : feed.given ≤ feed.count
   pub counts : feed.delivered + feed.denied ≤ feed.given
   pub made : feed.stop ≡ None → feed.source.maker.made ≡ feed.given

@@ -4,7 +4,7 @@ use Rattle.net_io.specs.Depot.{DepotState}
 use Rattle.net_io.specs.Faults.{Rose, SameCounts}
 use Rattle.made_run.specs.declared.stop.MadeStop.{MadeStop}
 use Rattle.made_run.specs.declared.stop.MadeStop.TheVariants.{Create, Append, OutOfMemory}
-use Rattle.made_run.specs.Ends.{IsCause}
+use Rattle.made_run.specs.Ends.{IsMakeCause}
 
 -- a file holds a text but for what waits
 pub record IsSent (text waits : List ℕ) (file : Option (List ℕ)) : Type 0 where
@@ -44,4 +44,4 @@ pub record HasBegun (name : List ℕ) (stop : Option MadeStop) (old new : DepotS
   pub kept : stop ≢ None → IsTrue old.tells → new.held name ≡ old.held name
   pub others : IsTrue old.tells → (other : List ℕ) → other ≢ name → new.held other ≡ old.held other
   pub reads : SameCounts old.reads new.reads
-  pub cause : IsCause name stop old new
+  pub cause : IsMakeCause name stop old new
