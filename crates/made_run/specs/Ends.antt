@@ -12,11 +12,11 @@ stop_of (Ok given) = None
 stop_of (Err stop) = Some stop
 
 -- the numbers of failed makings and appends: that of what stopped it rose, and no other has moved
-abbrev pub IsCause : List ℕ → Option MadeStop → DepotState → DepotState → Type 0
-IsCause name None before after = SameCounts before.creates after.creates × SameCounts before.appends after.appends
-IsCause name (Some Create) before after = Rose (before.creates name) (after.creates name) × SameCounts before.appends after.appends
-IsCause name (Some Append) before after = SameCounts before.creates after.creates × Rose (before.appends name) (after.appends name)
-IsCause name (Some OutOfMemory) before after = SameCounts before.creates after.creates × SameCounts before.appends after.appends
+abbrev pub IsMakeCause : List ℕ → Option MadeStop → DepotState → DepotState → Type 0
+IsMakeCause name None before after = SameCounts before.creates after.creates × SameCounts before.appends after.appends
+IsMakeCause name (Some Create) before after = Rose (before.creates name) (after.creates name) × SameCounts before.appends after.appends
+IsMakeCause name (Some Append) before after = SameCounts before.creates after.creates × Rose (before.appends name) (after.appends name)
+IsMakeCause name (Some OutOfMemory) before after = SameCounts before.creates after.creates × SameCounts before.appends after.appends
 
 -- The capture of so many packets from a seed was made under a name, up to what stopped it. No file is read.
 pub record MakesCapture (seed count : ℕ) (name : List ℕ) (stop : Option MadeStop) (before after : DepotState) : Type 0 where
@@ -26,4 +26,4 @@ pub record MakesCapture (seed count : ℕ) (name : List ℕ) (stop : Option Made
   pub whole : stop ≡ None → IsTrue before.tells → after.held name ≡ Some (capture_made seed count)
   pub others : IsTrue before.tells → (other : List ℕ) → other ≢ name → after.held other ≡ before.held other
   pub reads : SameCounts before.reads after.reads
-  pub cause : IsCause name stop before after
+  pub cause : IsMakeCause name stop before after

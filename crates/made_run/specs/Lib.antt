@@ -1,3 +1,4 @@
 pub mod Network
 pub mod Verdict
 pub mod Ends
+pub mod inside

@@ -2,9 +2,16 @@
 //! no command comes, by a feed that makes and appends each packet and reads no file.
 #![tactic(auto)]
 
+mod feed;
+mod file;
 pub mod laws;
+mod node;
 mod run;
+mod source;
 mod stop;
 
 pub use run::{Verdicts, make_capture};
 pub use stop::MadeStop;
+
+#[cfg(test)]
+mod tests;

@@ -1,0 +1,4 @@
+pub mod File
+pub mod Source
+pub mod Node
+pub mod Feed

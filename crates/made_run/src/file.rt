@@ -1,0 +1,51 @@
+//! The file of a capture that is being made.
+
+ghost use Rattle.std.specs.Prelude.{◌≡◌, IsTrue, IsSome, IfOk, false};
+ghost use Rattle.pcap_frames.specs.Written.{capture_head_octets};
+ghost use Rattle.made_run.specs.Ends.{stop_of};
+ghost use Rattle.made_run.specs.inside.File.{HasBegun, HasSent};
+
+use crate::stop::MadeStop;
+use net_io::{Depot, IoFault, append_all};
+use pcap_frames::write_head;
+use std::alloc::Global;
+
+/// Makes the file, and gives the head of the capture, which is to be appended to it.
+pub(crate) fn begin_file<D: Depot>(
+    alloc: Global,
+    depot: &mut D,
+    name: &str,
+) -> Result<Vec<u8>, MadeStop>
+    ensures begun { HasBegun name.now (stop_of result) (D.state depot.old) (D.state depot.new) }
+    ensures head { IfOk result (λ octets. octets.items ≡ capture_head_octets false) }
+{
+    let mut octets = Vec::new(alloc);
+    let Ok(()) = write_head(false, &mut octets) else {
+        return Err(MadeStop::OutOfMemory);
+    };
+    match depot.create(name) {
+        Ok(()) => Ok(octets),
+        Err(IoFault::Failed) => Err(MadeStop::Create),
+        Err(IoFault::OutOfMemory) => Err(MadeStop::OutOfMemory),
+    }
+}
+
+/// Appends all that waits for the file.
+pub(crate) fn append_waiting<D: Depot>(
+    depot: &mut D,
+    name: &str,
+    waiting: &mut Vec<u8>,
+) -> Result<(), MadeStop>
+    requires { IsTrue (D.state depot.old).tells → IsSome ((D.state depot.old).held name.now) }
+    ensures { HasSent name.now (stop_of result) waiting.old.items waiting.new.items
+        (D.state depot.old) (D.state depot.new) }
+{
+    match append_all(depot, name, waiting.as_slice()) {
+        Ok(()) => {
+            waiting.clear();
+            Ok(())
+        }
+        Err(IoFault::Failed) => Err(MadeStop::Append),
+        Err(IoFault::OutOfMemory) => Err(MadeStop::OutOfMemory),
+    }
+}
