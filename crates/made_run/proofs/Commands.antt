@@ -4,14 +4,13 @@ use Rattle.std.specs.Prelude.{get_or}
 use Rattle.std.specs.List.{range_with_len}
 use Rattle.std.proofs.lemmas.List.Elements.{All-nil, All-cons}
 use Rattle.std.proofs.lemmas.Option.{slice_get_read}
-use Rattle.mls_label.specs.declared.label.Label.{Label}
 use Rattle.mls_label.specs.Cats.{has, is_within, cats_where}
 use Rattle.mls_label.proofs.Law.{sets_are_what_they_have, ranges_ascend, runs_have_what_each_has}
 use Rattle.script_lines.specs.declared.command.Command.{Command}
 use Rattle.script_lines.specs.declared.command.Step.{Step}
 use Rattle.node_tables.specs.Tables.{TableState}
 use Rattle.node_tables.specs.Steps.{step_applied, tables_after}
-use Rattle.node_tables.proofs.Law.{nodes_begin_fresh, steps_apply_one_by_one, nodes_keep_their_number}
+use Rattle.node_tables.proofs.Law.{steps_apply_one_by_one, nodes_keep_their_number}
 use Rattle.shared_tables.specs.Plan.{PlanState, network_after}
 use Rattle.shared_tables.specs.Board.{PublisherState, ViewerState}
 use Rattle.made_run.specs.Network.{made_commands, made_node}

@@ -1,8 +1,7 @@
 -- What a round makes of made packets: each is judged by the node, under the plan's last version.
-use Rattle.std.proofs.Common.{◌≡◌, ℕ, zero, suc, ◌+◌, ◌<◌, ◌≤◌, ◌%◌, Bool, true, false, cond, nat_eq, not, List, [], ◌∷◌, ◌++◌, length, take, map, All, Option, Some, Result, Ok, Err, refl, sym, ap, subst, ◌∙◌, arith}
+use Rattle.std.proofs.Common.{◌≡◌, ℕ, suc, ◌+◌, ◌<◌, ◌%◌, Bool, true, false, cond, nat_eq, not, List, [], ◌∷◌, length, map, All, Result, Ok, Err, refl, sym, ap, subst, ◌∙◌, arith}
 use Rattle.std.specs.Prelude.{codes, is_ok, is_err, count_by}
 use Rattle.std.specs.List.{range_with_len, AllZip}
-use Rattle.std.proofs.lemmas.List.{length-map}
 use Rattle.std.proofs.lemmas.List.Sums.{sum_by-cons}
 use Rattle.packet_label.specs.declared.denial.Denial.{Denial}
 use Rattle.packet_label.specs.declared.fault.CarryFault.{CarryFault}
@@ -12,14 +11,13 @@ use Rattle.flow_lines.specs.declared.hop.Hop.TheVariants.{Receive}
 use Rattle.node_tables.specs.Tables.{TableState}
 use Rattle.label_receive.specs.declared.receiving.Delivered.{Delivered}
 use Rattle.label_receive.specs.Receive.{receive_of}
-use Rattle.shared_tables.specs.Plan.{PlanState, network_after}
+use Rattle.shared_tables.specs.Plan.{network_after}
 use Rattle.shared_tables.specs.Board.{ViewerState}
 use Rattle.packet_walk.specs.declared.packet.PacketIn.{PacketIn}
 use Rattle.packet_walk.specs.declared.walked.End.{End}
 use Rattle.packet_walk.specs.declared.walked.End.TheVariants as the_end
-use Rattle.packet_walk.specs.Walk.{Coming, tables_of, arrives, verdict_of, hop_verdict, Follows, IsWalkOf, Rises}
+use Rattle.packet_walk.specs.Walk.{Coming, tables_of, arrives, verdict_of, hop_verdict, Follows, IsWalk, IsWalkOf, Rises}
 use Rattle.label_flow.specs.Pair.{PairState}
-use Rattle.label_flow.specs.Feed.{AreWhole}
 use Rattle.label_flow.specs.Round.{pick, IsRound}
 use Rattle.label_flow.specs.Schedule.{AreLawful, IsSeen, in_a_row, versions_in}
 use Rattle.label_flow.specs.Walked.{AreWalked}
@@ -27,7 +25,6 @@ use Rattle.label_flow.proofs.Law.{rounds_are_lawful, rounds_walk_each_packet, ve
 use Rattle.made_capture.specs.Number.{number_at}
 use Rattle.made_capture.specs.Packet.{packet_made, packet_said}
 use Rattle.made_capture.proofs.Law.{made_packets_say_their_label}
-use Rattle.made_run.specs.Network.{made_node}
 use Rattle.made_run.specs.Verdict.{made_verdict, delivered_made, denied_made}
 use Rattle.made_run.specs.inside.Source.{packet_in, packets_made}
 use Rattle.made_run.specs.inside.Node.{made_plan, made_hops}
@@ -67,7 +64,7 @@ walk_made seed i =
     let read : Result (ParsedPacket Wire) CarryFault = Ok (packet_said x) in (
       read,
       made_packets_say_their_label x,
-      hop_made (network_after made_plan 3) (packet_made x) (packet_said x) (made_verdict x) _ (ap (λ n. receive_of (tables_of n 0) (codes "eth0") (packet_said x)) made_tables),
+      hop_made (network_after made_plan 3) (packet_made x) (packet_said x) (made_verdict x) (λ next. IsWalk made_plan 2 [] next [] (pair_made seed i).walked.end (pair_made seed i).octets) (ap (λ n. receive_of (tables_of n 0) (codes "eth0") (packet_said x)) made_tables),
     )
 
 -- ---- all packets

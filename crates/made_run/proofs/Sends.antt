@@ -1,8 +1,7 @@
 -- What appends make of the file, and what the making of it leaves.
-use Rattle.std.proofs.Common.{◌≡◌, ◌≢◌, ◌<◌, ◌⊎◌, ℕ, ◌+◌, IsTrue, IsSome, List, [], ◌++◌, length, take, drop, Option, Some, None, Result, Ok, Err, refl, sym, ap, subst, ◌∙◌, append_assoc, arith, inl, inr}
-use Rattle.std.specs.Prelude.{OnOk, OnErr}
+use Rattle.std.proofs.Common.{◌≡◌, ℕ, IsTrue, IsSome, List, [], ◌++◌, take, drop, Option, Some, None, Ok, Err, refl, sym, ap, subst, ◌∙◌, append_assoc}
 use Rattle.std.proofs.lemmas.List.{append-nil, take-append-drop}
-use Rattle.net_io.specs.Depot.{DepotState, octets_of, NowHolds, AppendsPrefix, SameHeld, OnlyAppends, OnlyCreates}
+use Rattle.net_io.specs.Depot.{DepotState, octets_of, NowHolds, AppendsPrefix, OnlyAppends}
 use Rattle.net_io.specs.Faults.{Rose, SameCounts}
 use Rattle.net_io.specs.declared.fault.IoFault.{IoFault}
 use Rattle.net_io.specs.declared.fault.IoFault.TheVariants as io

@@ -1,5 +1,5 @@
 -- What a batch adds to a making.
-use Rattle.std.proofs.Common.{◌≡◌, ◌<◌, ◌≤◌, ℕ, zero, suc, ◌+◌, true, IsTrue, List, [], ◌∷◌, ◌++◌, length, map, All, Option, Some, None, Result, Ok, Err, refl, sym, ap, subst, ◌∙◌, arith}
+use Rattle.std.proofs.Common.{◌≡◌, ◌<◌, ◌≤◌, ℕ, zero, suc, ◌+◌, true, IsTrue, List, [], ◌∷◌, ◌++◌, length, map, All, Option, None, Result, Ok, Err, refl, sym, ap, subst, ◌∙◌, arith}
 use Rattle.std.specs.Prelude.{OnOk}
 use Rattle.std.specs.List.{range_with_len}
 use Rattle.std.proofs.lemmas.List.Elements.{All-nil, All-cons}
@@ -9,7 +9,6 @@ use Rattle.pcap_frames.specs.Record.{Frame}
 use Rattle.pcap_frames.specs.Written.{frame_octets}
 use Rattle.packet_walk.specs.declared.packet.PacketIn.{PacketIn}
 use Rattle.made_capture.specs.Number.{number_at}
-use Rattle.made_capture.specs.Packet.{packet_made}
 use Rattle.made_capture.specs.Capture.{frame_made, capture_made}
 use Rattle.made_capture.specs.Maker.{Making}
 use Rattle.made_capture.proofs.Law.{captures_grow_by_a_frame, shorter_captures_begin_longer_ones, made_packets_have_40_octets}

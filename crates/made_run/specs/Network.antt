@@ -1,5 +1,5 @@
 -- Where made packets go: one node, which receives them.
-use Rattle.std.specs.Prelude.{ℕ, List, [], ◌∷◌, codes, fold, Option, None}
+use Rattle.std.specs.Prelude.{ℕ, List, [], ◌∷◌, codes, fold, None}
 use Rattle.std.specs.List.{range_with_len}
 use Rattle.mls_label.specs.declared.label.Label.{Label}
 use Rattle.mls_label.specs.declared.label.Tag.TheVariants.{One}

@@ -1,5 +1,5 @@
 -- What becomes of made packets.
-use Rattle.std.specs.Prelude.{ℕ, List, codes, count_by, is_ok, is_err, Result}
+use Rattle.std.specs.Prelude.{ℕ, codes, count_by, is_ok, is_err, Result}
 use Rattle.std.specs.List.{range_with_len}
 use Rattle.packet_label.specs.declared.denial.Denial.{Denial}
 use Rattle.label_receive.specs.declared.receiving.Delivered.{Delivered}

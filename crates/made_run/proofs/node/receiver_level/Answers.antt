@@ -1,4 +1,4 @@
-use Rattle.std.proofs.Common.{◌≡◌, ℕ, List, ap}
+use Rattle.std.proofs.Common.{ℕ, List, ap}
 use Rattle.mls_label.specs.declared.label.Label.{Label}
 use Rattle.made_run.proofs.Commands.{run_is}
 use Rattle.made_run.proofs.node.receiver_level.Goals as goal
