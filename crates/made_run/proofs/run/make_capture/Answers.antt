@@ -5,7 +5,7 @@ use Rattle.made_run.proofs.run.make_capture.Goals as goal
 
 pub make_all-made-requires-after_bounds : goal.make_all-made-requires-after_bounds
 make_all-made-requires-after_bounds g c κs within =
-    new_feed g.D.Depot.state _ (g.D.Depot.state c.args.depot.now) c.in-Ok.ensures.begun c.args.seed c.new.ensures c.in-Ok.ensures.head (omega (arith, c.ranges.count.fits)) refl refl refl refl
+    new_feed g.D.Depot.state _ (g.D.Depot.state c.args.depot.now) c.in-Ok.ensures.begun _ c.new.ensures c.in-Ok.ensures.head (omega (arith, c.ranges.count.fits)) refl refl refl refl
 
 pub returns-in-Ok-made-clause-capture : goal.returns-in-Ok-made-clause-capture
 returns-in-Ok-made-clause-capture g c =
