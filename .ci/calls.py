@@ -213,7 +213,7 @@ def not_making(name, output, *, words=None, status=3, report=b"", more=lambda fo
 MAKING = [
     making("a capture made from a number"),
     making("a capture made without a packet", count=0),
-    making("a capture made of 100,000 packets", count=100000),
+    making("a capture made of 3,000 packets", count=3000),
     making("a capture made in a folder", seed=2**64 - 1, output="folder/o.pcap"),
     making("a capture made over another one, with its second name", left={"h": made_captures.capture(7, 3)},
            more=lambda at: ((at / "o.pcap").write_bytes(b"old"), os.link(at / "o.pcap", at / "h"))),
@@ -224,8 +224,9 @@ MAKING = [
     not_making("a capture to be made of a packet too many", "", words=[b"make", b"7", b"1048577", b"o.pcap"], status=1, report=None),
     not_making("a capture to be made from a number too great", "", words=[b"make", b"18446744073709551616", b"3", b"o.pcap"], status=1, report=None),
 ]
-# The report is too long for `rt try`.
-SHOWN = [
-    names("a capture made of 100,000 packets, shown", [], words=[b"show", b"m.pcap"], status=0, report=b"".join(made_captures.shown(7, 100000)),
+# These take `rt try` too long, and the second report is too long for it.
+LONG = [
+    making("a capture made of 100,000 packets", count=100000),
+    names("that capture, shown", [], words=[b"show", b"m.pcap"], status=0, report=b"".join(made_captures.shown(7, 100000)),
           more=lambda at: (at / "m.pcap").write_bytes(made_captures.capture(7, 100000))),
 ]
