@@ -1,30 +1,16 @@
 -- The label under which a flow's first hop judges a packet is a label.
-use Rattle.std.proofs.Common.{◌≡◌, ℕ, Bool, true, false, List, [], ◌∷◌, length, cond, Option, Some, None, Result, Ok, Err, refl, sym, subst}
+use Rattle.std.proofs.Common.{◌≡◌, ℕ, Bool, true, false, List, [], ◌∷◌, length, cond, Option, Some, None, Result, Ok, Err, refl, subst}
 use Rattle.std.specs.Prelude.{All, not, nat_eq, find, option_map, if◌then◌else◌}
 use Rattle.std.proofs.lemmas.List.Elements.{All-head, All-tail, All-filter, All-weaker}
-use Rattle.octet_grammar.specs.Octets.{IsOctets}
 use Rattle.mls_label.specs.declared.label.Label.{Label}
 use Rattle.mls_label.specs.declared.label.Proto.TheVariants as Of
-use Rattle.mls_label.specs.declared.label.Tag.{Tag}
-use Rattle.mls_label.specs.declared.label.Tag.TheVariants.{One, Two, Five}
-use Rattle.mls_label.specs.Cats.{IsCats}
-use Rattle.mls_label.proofs.Law.{tests_give_sets}
 use Rattle.mls_label.specs.Label.{IsLabel}
-use Rattle.category_bitmap.specs.Bitmap.{has_bit}
-use Rattle.cipso_tags.specs.Body.{IsBody, covers}
-use Rattle.cipso_option.specs.declared.cipso.Cipso.{Cipso}
-use Rattle.cipso_option.specs.Cipso.{IsCipso}
-use Rattle.calipso_option.specs.declared.calipso.Calipso.{Calipso}
-use Rattle.calipso_option.specs.Calipso.{IsCalipso}
 use Rattle.doi_table.proofs.Law.{local_labels_are_labels}
 use Rattle.address_text.specs.declared.address.Address.{Address}
 use Rattle.domain_map.specs.declared.static_map.StaticEntry.{StaticEntry}
 use Rattle.domain_map.specs.Domains.{same_domain}
 use Rattle.domain_map.specs.Longest.{longest}
 use Rattle.domain_map.specs.Statics.{Statics, entries_of, candidates, find_static_of}
-use Rattle.ip_headers.specs.declared.version.Version.{Version}
-use Rattle.ip_headers.specs.declared.version.Version.TheVariants.{V4, V6}
-use Rattle.ip_headers.specs.Options.{Placed}
 use Rattle.ip_headers.specs.Packet.{ParsedPacket}
 use Rattle.packet_label.specs.declared.denial.Carrier.TheVariants as carried
 use Rattle.packet_label.specs.declared.denial.Denial.{Denial}
@@ -33,8 +19,9 @@ use Rattle.packet_label.specs.declared.fault.CarryFault.{CarryFault}
 use Rattle.packet_label.specs.declared.packet.Wire.{Wire}
 use Rattle.packet_label.specs.declared.packet.Wire.TheVariants as wire
 use Rattle.packet_label.specs.Packet.{IsPacket}
-use Rattle.packet_label.specs.Wire.{label_said, IsWire, OptionSays}
+use Rattle.packet_label.specs.Wire.{label_said}
 use Rattle.packet_label.specs.Written.{IsReadAs}
+use Rattle.packet_label.proofs.Law.{labels_read_are_labels}
 use Rattle.flow_lines.specs.declared.hop.Hop.{Hop}
 use Rattle.flow_lines.specs.declared.hop.Hop.TheVariants.{Send, Forward, Receive}
 use Rattle.node_tables.specs.Tables.{TableState}
@@ -44,32 +31,6 @@ use Rattle.label_commands.specs.Bounded.{IsBoundedHop}
 use Rattle.label_receive.specs.Incoming.{Incoming, address_in, static_labels, option_labels, label_of}
 use Rattle.flow_access.specs.Labels.{high_of, taken_at, hop_label}
 use Rattle.flow_access.proofs.Crossing.{ReadsOf, reads_of, defined_in}
-
--- ---- what an option says is a label
-
-bodies_have_sets : (tag : Tag) (body cats : List ℕ) → IsBody tag body cats → IsCats cats
-bodies_have_sets One body cats is = subst IsCats (sym is.carries) (tests_give_sets (has_bit body))
-bodies_have_sets Two body cats is = subst IsCats (sym is.carries) is.ordered
-bodies_have_sets Five body cats is = subst IsCats (sym is.carries) (tests_give_sets (covers is.numbers))
-
-cipso_label : (octets : List ℕ) (value : Cipso) → IsCipso octets value → IsLabel value.label
-cipso_label octets value is = record { level = is.carries.level; cats = bodies_have_sets value.tag is.carries.body value.label.cats is.carries.carries }
-
-calipso_label : (octets : List ℕ) (value : Calipso) → IsCalipso octets value → IsLabel value.label
-calipso_label octets value is = record {
-  level = (subst IsOctets is.shape.is is.shape.octets).at 7;
-  cats = subst IsCats (sym is.shape.carries) (tests_give_sets (has_bit is.shape.bitmap));
-}
-
-said_label : (v : Version) (option : Placed) (said : Wire) → IsWire v option said → IsLabel (label_said said)
-said_label V4 option (wire.Cipso at doi tag w) is = cipso_label option.octets (record { doi = doi; tag = tag; label = w }) is.1
-said_label V6 option (wire.Calipso at doi w) is = calipso_label option.octets (record { doi = doi; label = w }) is.1
-said_label V4 option (wire.Calipso at doi w) is = absurd is
-said_label V6 option (wire.Cipso at doi tag w) is = absurd is
-
-read_label : (v : Version) (option : Option Placed) (said : Wire) → OptionSays v option (Some said) → IsLabel (label_said said)
-read_label v None said is = absurd is
-read_label v (Some option) said is = said_label v option said is
 
 -- ---- what a static entry sets is a label
 
@@ -129,7 +90,7 @@ module _ (t : TableState) (valid : AreValid t) (incoming : Incoming) where
     by_option : (o : Option Wire) → p.label ≡ o → (elim o as (λ _. Result Incoming Denial) [ None ↦ static_labels t interface (address_in p.version p.source) | Some said ↦ option_labels t.definitions said ]) ≡ Ok incoming → IsLabel incoming.high
     by_option None l e = static_label interface (address_in p.version p.source) e
     by_option (Some said) l e =
-        local_label_is said (read_label is.headers.version is.headers.label said (subst (OptionSays is.headers.version is.headers.label) l is.option)) (reads_of t.definitions incoming said e)
+        local_label_is said (labels_read_are_labels octets p said is l) (reads_of t.definitions incoming said e)
 
     incoming_label : label_of t interface p ≡ Ok incoming → IsLabel incoming.high
     unfolding label_of

@@ -1,7 +1,8 @@
 -- The laws of src/laws.rt under their names, for the crates above.
-use Rattle.std.proofs.Common.{◌≡◌, ℕ, ◌<◌, ◌≤◌, List, length, Option, None, Ok}
+use Rattle.std.proofs.Common.{◌≡◌, ℕ, ◌<◌, ◌≤◌, List, length, Option, None, Some, Ok}
 use Rattle.std.specs.Prelude.{IfSome, IfErr}
 use Rattle.octet_grammar.specs.Octets.{IsOctets}
+use Rattle.mls_label.specs.Label.{IsLabel}
 use Rattle.ip_headers.specs.declared.version.Version.{Version}
 use Rattle.ip_headers.specs.Packet.{ParsedPacket, Headers, relabelled}
 use Rattle.ip_headers.specs.Written.{IsLabelOption}
@@ -10,10 +11,12 @@ use Rattle.packet_label.specs.declared.fault.CarryFault.{CarryFault}
 use Rattle.packet_label.specs.Choice.{chosen, front_in}
 use Rattle.packet_label.specs.Packet.{IsPacket, labelled}
 use Rattle.packet_label.specs.Fault.{IsPacketFault}
+use Rattle.packet_label.specs.Wire.{label_said}
 use Rattle.packet_label.specs.Written.{CanSay, IsWritable, wire_text}
 use Rattle.packet_label.specs.Laws.{HasOneAnswer, ReadsNext, StandsWithin}
 use Rattle.packet_label.proofs.Once.{one_answer, fault_within, front_within, without_a_label}
 use Rattle.packet_label.proofs.Total.{some_answer}
+use Rattle.packet_label.proofs.Labels.{said_label}
 use Rattle.packet_label.proofs.Writing.{text_suits, packets_may_be_written, fronts_may_be_written, reads_next}
 
 pub octets_are_a_packet_or_have_one_fault : (octets : List ℕ) → HasOneAnswer octets
@@ -28,6 +31,9 @@ faults_stand_within = record { packets = fault_within; fronts = λ octets. front
 
 pub fronts_without_a_label_are_packets : (octets : List ℕ) (headers : Headers) → front_in octets ≡ Ok headers → headers.label ≡ None → IsPacket octets (labelled headers None)
 fronts_without_a_label_are_packets = without_a_label
+
+pub labels_read_are_labels : (octets : List ℕ) (p : ParsedPacket Wire) (said : Wire) → IsPacket octets p → p.label ≡ Some said → IsLabel (label_said said)
+labels_read_are_labels = said_label
 
 pub written_options_suit_their_version : (version : Version) (wire : Wire) → CanSay version wire → IsLabelOption version (wire_text wire) × IsOctets (wire_text wire)
 written_options_suit_their_version = text_suits

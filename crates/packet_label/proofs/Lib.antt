@@ -4,4 +4,5 @@ pub mod Decided
 pub mod Whole
 pub mod Total
 pub mod Writing
+pub mod Labels
 pub mod Law

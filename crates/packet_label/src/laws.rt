@@ -1,7 +1,8 @@
 //! Laws: what is true of the definitions alone. Each is a function with nothing to do, whose clause is the law.
 
-ghost use Rattle.std.specs.Prelude.{◌≡◌, ℕ, ◌<◌, ◌≤◌, List, Option, Ok, None, length, IfSome, IfErr};
+ghost use Rattle.std.specs.Prelude.{◌≡◌, ℕ, ◌<◌, ◌≤◌, List, Option, Ok, None, Some, length, IfSome, IfErr};
 ghost use Rattle.octet_grammar.specs.Octets.{IsOctets};
+ghost use Rattle.mls_label.specs.Label.{IsLabel};
 ghost use Rattle.ip_headers.specs.declared.version.Version.{Version};
 ghost use Rattle.ip_headers.specs.Packet.{ParsedPacket, Headers, relabelled};
 ghost use Rattle.ip_headers.specs.Written.{IsLabelOption};
@@ -10,6 +11,7 @@ ghost use Rattle.packet_label.specs.declared.fault.CarryFault.{CarryFault};
 ghost use Rattle.packet_label.specs.Choice.{front_in, headers_in};
 ghost use Rattle.packet_label.specs.Packet.{IsPacket, labelled};
 ghost use Rattle.packet_label.specs.Fault.{IsPacketFault};
+ghost use Rattle.packet_label.specs.Wire.{label_said};
 ghost use Rattle.packet_label.specs.Written.{CanSay, IsWritable, wire_text};
 ghost use Rattle.packet_label.specs.Laws.{HasOneAnswer, ReadsNext, StandsWithin};
 
@@ -30,6 +32,12 @@ pub fn faults_stand_within()
 pub fn fronts_without_a_label_are_packets()
     ensures { (octets : List ℕ) (headers : Headers) → front_in octets ≡ Ok headers
         → headers.label ≡ None → IsPacket octets (labelled headers None) }
+{}
+
+/// What is read as the label of a packet's option is a label: its level is below 256, its categories are a set.
+pub fn labels_read_are_labels()
+    ensures { (octets : List ℕ) (p : ParsedPacket Wire) (said : Wire) → IsPacket octets p
+        → p.label ≡ Some said → IsLabel (label_said said) }
 {}
 
 /// What an option of a version can say has a written form that suits this version, and is octets.
