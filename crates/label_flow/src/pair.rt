@@ -29,7 +29,7 @@ impl PairSlot {
     /// Takes no memory.
     pub fn new(alloc: Global) -> PairSlot {
         PairSlot {
-            walked: WalkedSlot::new(),
+            walked: WalkedSlot::new(alloc),
             octets: Vec::new(alloc),
         }
     }

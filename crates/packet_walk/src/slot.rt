@@ -1,46 +1,45 @@
 //! A place that is filled for one packet after another.
 
-ghost use Rattle.std.specs.Prelude.{◌≡◌, ◌<◌, ◌≤◌, [], ◌∷◌, ◌++◌, length, take};
+ghost use Rattle.std.specs.Prelude.{◌≡◌, ◌<◌, ◌≤◌, [], ◌∷◌, ◌++◌, length, take, OnOk};
 ghost use Rattle.packet_label.specs.declared.denial.Denial.TheVariants.{NotIp};
 ghost use Rattle.packet_walk.specs.declared.walked.End.TheVariants.{Delivered, Sent, Denied};
 
 use crate::walked::{End, Versions, Walked};
 use address_text::Address;
-use mls_label::Label;
+use mls_label::{Label, OutOfMemory, PackedLabel};
 use packet_label::{Carrier, Denial};
+use std::alloc::Global;
 use std::marker::Model;
 
-/// How a walk ended; what is told of a packet that was delivered stands in the room for that.
+/// How a walk ended, but for the label that was delivered.
 #[derive(Clone, Copy, Debug, PartialEq, Eq)]
 pub enum EndMark {
-    Delivered,
+    Delivered { receiver: Address },
     Sent { carrier: Carrier },
     Denied { hop: u32, denial: Denial },
 }
 
-/// What became of a packet, in a place that is filled again for the next one. It always has room for a delivery, so that no label is
-/// moved: a packet that was delivered stands there as it is shown, and any other end beside it. Contracts see it as a `Walked`.
+/// What became of a packet, in a small place that is filled again for the next one: a label of a few runs stands in it, a longer one in
+/// part on the heap. Contracts see it as a `Walked`.
 #[derive(Drop)]
 pub struct WalkedSlot {
     mark: EndMark,
-    delivery: Walked,
+    label: PackedLabel,
+    versions: Versions,
 }
 
 impl Model for WalkedSlot {
-    ghost use Rattle.std.specs.Prelude.{◌≡◌, true};
     ghost use Rattle.packet_walk.specs.declared.walked.Walked.{Walked};
-    ghost use Rattle.packet_walk.specs.inside.Slot.{end_shown, is_delivery};
+    ghost use Rattle.packet_walk.specs.inside.Slot.{end_shown};
 
     ghost Value = { Walked };
 
-    ghost view = { λ slot. record { end = end_shown slot.mark slot.delivery.end; versions = slot.delivery.versions } };
-
-    ghost invariant = { λ slot. is_delivery slot.delivery.end ≡ true };
+    ghost view = { λ slot. record { end = end_shown slot.mark slot.label; versions = slot.versions } };
 }
 
 impl WalkedSlot {
-    /// A place in which a frame without a packet of IP is denied.
-    pub fn new() -> WalkedSlot
+    /// A place in which a frame without a packet of IP is denied. Takes no memory.
+    pub fn new(alloc: Global) -> WalkedSlot
         ensures { result ≡ record { end = Denied 0 NotIp; versions = [] } }
     {
         WalkedSlot {
@@ -48,13 +47,8 @@ impl WalkedSlot {
                 hop: 0,
                 denial: Denial::NotIp,
             },
-            delivery: Walked {
-                end: End::Delivered {
-                    label: Label::lowest(),
-                    receiver: Address::V4([0; 4]),
-                },
-                versions: Versions::empty(),
-            },
+            label: PackedLabel::lowest(alloc),
+            versions: Versions::empty(),
         }
     }
 
@@ -62,7 +56,7 @@ impl WalkedSlot {
     pub(crate) fn begin(&mut self)
         ensures { self.new.versions ≡ [] }
     {
-        self.delivery.versions.keep(0);
+        self.versions.keep(0);
     }
 
     // The next hop behind so many judged it under this version.
@@ -70,7 +64,7 @@ impl WalkedSlot {
         requires { (hops < 16) × (hops ≤ length self.old.versions) }
         ensures { self.new.versions ≡ take hops self.old.versions ++ version ∷ [] }
     {
-        self.delivery.versions.put(hops, version);
+        self.versions.put(hops, version);
     }
 
     // Only so many hops judged it.
@@ -78,22 +72,15 @@ impl WalkedSlot {
         requires { hops ≤ length self.old.versions }
         ensures { self.new ≡ record self.old { versions = take hops self.old.versions } }
     {
-        self.delivery.versions.keep(hops);
+        self.versions.keep(hops);
     }
 
-    pub(crate) fn deliver(&mut self, label: &Label, receiver: Address)
-        ensures { self.new ≡ record self.old { end = Delivered label.now receiver } }
+    pub(crate) fn deliver(&mut self, label: &Label, receiver: Address) -> Result<(), OutOfMemory>
+        ensures { OnOk result
+            (self.new ≡ record self.old { end = Delivered label.now receiver }) }
     {
-        let End::Delivered {
-            label: room,
-            receiver: to,
-        } = &mut self.delivery.end
-        else {
-            unreachable!();
-        };
-        room.assign(label);
-        *to = receiver;
-        self.mark = EndMark::Delivered;
+        self.mark = EndMark::Delivered { receiver };
+        self.label.keep(label)
     }
 
     pub(crate) fn send(&mut self, carrier: Carrier)
@@ -112,50 +99,73 @@ impl WalkedSlot {
     pub fn into_walked(self) -> Walked
         ensures { result ≡ self }
     {
-        let WalkedSlot { mark, delivery } = self;
-        match mark {
-            EndMark::Delivered => delivery,
-            EndMark::Sent { carrier } => Walked {
-                end: End::Sent { carrier },
-                versions: delivery.versions,
-            },
-            EndMark::Denied { hop, denial } => Walked {
-                end: End::Denied { hop, denial },
-                versions: delivery.versions,
-            },
+        let end = match self.mark {
+            EndMark::Delivered { receiver } => delivered(&self.label, receiver),
+            EndMark::Sent { carrier } => End::Sent { carrier },
+            EndMark::Denied { hop, denial } => End::Denied { hop, denial },
+        };
+        Walked {
+            end,
+            versions: self.versions,
         }
     }
 }
 
-/// Two places in which what became of packets is shown one after another where they weren't delivered, one for each of the other ends.
+// The end of a packet that was delivered with the label that is kept.
+fn delivered(kept: &PackedLabel, receiver: Address) -> End
+    ensures { result ≡ Delivered kept.now receiver }
+{
+    let mut label = Label::lowest();
+    kept.show(&mut label);
+    End::Delivered { label, receiver }
+}
+
+/// Places in which what became of packets is shown one after another, one for each end.
 #[derive(Drop)]
 pub struct ShownWalks {
+    delivered: Walked,
     sent: Walked,
     denied: Walked,
+}
+
+// A place with any walk.
+fn any_walk() -> Walked {
+    Walked {
+        end: End::Denied {
+            hop: 0,
+            denial: Denial::NotIp,
+        },
+        versions: Versions::empty(),
+    }
 }
 
 impl ShownWalks {
     /// Places with any walk.
     pub fn new() -> ShownWalks {
         ShownWalks {
-            sent: WalkedSlot::new().into_walked(),
-            denied: WalkedSlot::new().into_walked(),
+            delivered: any_walk(),
+            sent: any_walk(),
+            denied: any_walk(),
         }
     }
 
     /// What became of the packet.
-    pub fn show<'a>(&'a mut self, slot: &'a WalkedSlot) -> &'a Walked
+    pub fn show(&mut self, slot: &WalkedSlot) -> &Walked
         ensures { result.now ≡ slot.now }
     {
         match slot.mark {
-            EndMark::Delivered => &slot.delivery,
+            EndMark::Delivered { receiver } => {
+                self.delivered.versions.assign(&slot.versions);
+                be_delivered(&slot.label, receiver, &mut self.delivered.end);
+                &self.delivered
+            }
             EndMark::Sent { carrier } => {
-                self.sent.versions.assign(&slot.delivery.versions);
+                self.sent.versions.assign(&slot.versions);
                 be_sent(carrier, &mut self.sent.end);
                 &self.sent
             }
             EndMark::Denied { hop, denial } => {
-                self.denied.versions.assign(&slot.delivery.versions);
+                self.denied.versions.assign(&slot.versions);
                 be_denied(hop, denial, &mut self.denied.end);
                 &self.denied
             }
@@ -164,6 +174,21 @@ impl ShownWalks {
 }
 
 // The room of an end is a label's: it is written as a whole only where it held another end.
+fn be_delivered(kept: &PackedLabel, receiver: Address, end: &mut End)
+    ensures { end.new ≡ Delivered kept.now receiver }
+{
+    if let End::Delivered {
+        label,
+        receiver: old,
+    } = end
+    {
+        kept.show(label);
+        *old = receiver;
+    } else {
+        *end = delivered(kept, receiver);
+    }
+}
+
 fn be_sent(carrier: Carrier, end: &mut End)
     ensures { end.new ≡ Sent carrier }
 {

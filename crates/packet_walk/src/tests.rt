@@ -218,7 +218,7 @@ fn walks<R: Wait + Abort>(
     let nodes = names.len();
     assert!(rt; nodes <= 32);
     let mut room = WalkRoom::new(alloc).expect(rt, "memory");
-    let mut slot = WalkedSlot::new();
+    let mut slot = WalkedSlot::new(alloc);
     let mut shown = ShownWalks::new();
     for (hops, packet, told, left) in cases {
         let flow = flow_of(rt, alloc, &names, hops);

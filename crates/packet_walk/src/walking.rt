@@ -51,7 +51,7 @@ pub fn walk<G: Gate>(
         number: worker,
         gate,
     };
-    let mut walked = WalkedSlot::new();
+    let mut walked = WalkedSlot::new(alloc);
     walk_into(&worker, viewer, number, packet, room, &mut walked, out)?;
     Ok(walked.into_walked())
 }
@@ -119,7 +119,7 @@ fn walk_hops<G: Gate>(
         match lent.given {
             Given::Goes { carrier: next } => carrier = next,
             Given::Arrives { receiver } => {
-                walked.deliver(&lent.labels.local, receiver);
+                walked.deliver(&lent.labels.local, receiver)?;
                 leave(at, packet, out)?;
                 return Ok(WalkRoom { lent });
             }
