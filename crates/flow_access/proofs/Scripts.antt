@@ -1,8 +1,8 @@
 -- The flows of a script that is read are valid.
-use Rattle.std.proofs.Common.{◌≡◌, ℕ, List, [], length, get_or, Option, Some, None, slice_get, refl, subst}
-use Rattle.std.specs.Prelude.{All, unwrap_or}
+use Rattle.std.proofs.Common.{ℕ, List, [], get_or, subst}
+use Rattle.std.specs.Prelude.{All}
 use Rattle.std.proofs.lemmas.List.Elements.{All-nil, All-head}
-use Rattle.std.proofs.lemmas.Option.{slice_get_within, get_or_from_slice_get}
+use Rattle.octet_grammar.proofs.Elements.{All-place_or}
 use Rattle.script_lines.specs.Form.{Edition}
 use Rattle.flow_lines.specs.declared.hop.Hop.{Hop}
 use Rattle.flow_lines.specs.declared.flow.FlowLine.{FlowLine}
@@ -20,13 +20,6 @@ use Rattle.shared_tables.specs.Plan.{network_after}
 use Rattle.flow_access.specs.Labels.{hop_tables}
 use Rattle.flow_access.specs.Valid.{plan_of, IsValidFlow}
 
--- that of a place, or the one that stands for what isn't there
-one_or : {X : Type 0} (P : X → Type 0) (xs : List X) (i : ℕ) (other : X) → All P xs → P other → P (unwrap_or (slice_get xs i) other)
-one_or {X} P xs i other all is = by_place (slice_get xs i) refl where
-  by_place : (o : Option X) → slice_get xs i ≡ o → P (unwrap_or o other)
-  by_place (Some x) at = subst P (get_or_from_slice_get xs i x x at) (all i x (slice_get_within xs i x at))
-  by_place None at = is
-
 -- those of one node, before the first step
 fresh_valid : AreValid fresh
 fresh_valid = All-head AreValid fresh [] (subst (All AreValid) (nodes_begin_fresh 1 []) (tables_are_valid_after_steps 1 [] 0 (All-nil IsBoundedStep)))
@@ -36,12 +29,12 @@ module _ (edition : Edition) (own text : List ℕ) (script : Script) (is : IsScr
   bounded = numbers_of_scripts_are_bounded edition own text script is
 
   tables_valid : (version : ℕ) (hop : Hop) → AreValid (hop_tables (plan_of script) version hop)
-  tables_valid version hop = one_or AreValid (network_after (plan_of script) version) (node_of hop) fresh (tables_of_scripts_are_valid edition own text script version is) fresh_valid
+  tables_valid version hop = All-place_or AreValid (network_after (plan_of script) version) (node_of hop) fresh (tables_of_scripts_are_valid edition own text script version is) fresh_valid
 
   flow_valid : (flow : FlowLine) → IsBoundedFlow flow → IsRoute flow.hops → IsValidFlow (plan_of script) script.readings flow.hops
   flow_valid flow labels route = record {
     tables = tables_valid;
-    named = λ hop. one_or IsReading script.readings (node_of hop) no_meanings bounded.readings no_meanings_are_a_reading;
+    named = λ hop. All-place_or IsReading script.readings (node_of hop) no_meanings bounded.readings no_meanings_are_a_reading;
     labels = labels;
     ordered = route.ordered;
   }

@@ -14,6 +14,10 @@ use Rattle.std.proofs.lemmas.Int.Digits.{digits_value_more, digits_more}
 pub own : IsNumeralModel (AllDigits 10) (digits_value 10)
 own = record { to = λ ds h. h; from = λ ds h. h; same = λ ds h. refl }
 
+-- the spelling of a number of two digits
+pub two_digits : (n : ℕ) → 10 ≤ n → n < 100 → decimal n ≡ (48 + n / 10) ∷ (48 + n % 10) ∷ []
+two_digits n many few = decimal_step n many (omega arith) ∙ ap (λ t. t ++ (48 + n % 10) ∷ []) (decimal_digit (n / 10) (omega arith))
+
 pub room_for_decimal : (n : ℕ) → n < 2 ^ 64 → length (decimal n) ≤ 20
 room_for_decimal n small = length-decimal-le 20 n (omega arith) (omega arith) small
 

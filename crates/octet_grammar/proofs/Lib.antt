@@ -5,3 +5,4 @@ pub mod Faults
 pub mod Places
 pub mod Layouts
 pub mod Digits
+pub mod Elements

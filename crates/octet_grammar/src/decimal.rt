@@ -12,10 +12,18 @@ use std::alloc::AllocError;
 const MOST_DIGITS: usize = 20;
 
 /// Appends the decimal text of a number. After an error `out` is as it was.
+#[tactic(auto, using(std::proofs::lemmas::Fmt::decimal_digit, crate::proofs::Digits::two_digits))]
 pub fn write_decimal(n: u64, out: &mut Vec<u8>) -> Result<(), AllocError>
     ensures ok { OnOk result (out.new.items ≡ out.old.items ++ decimal n) }
     ensures err { OnErr result (out.new.items ≡ out.old.items) }
 {
+    // Most numbers are short, and then no room for 20 digits has to be cleared.
+    if n < 10 {
+        return out.extend_from_slice(&[b'0' + n as u8]);
+    }
+    if n < 100 {
+        return out.extend_from_slice(&[b'0' + (n / 10) as u8, b'0' + (n % 10) as u8]);
+    }
     let mut digits = [0u8; MOST_DIGITS];
     let first = fill_from_end(n, &mut digits);
     out.extend_from_slice(&digits[first..])

@@ -3,10 +3,12 @@ use std::test::Fail;
 
 #[test]
 fn spells_and_reads_numbers(rt: HostRuntime) -> Result<(), Fail> {
-    let cases: [(u64, &str); 5] = [
+    let cases: [(u64, &str); 7] = [
         (0, "0"),
-        (7, "7"),
+        (9, "9"),
         (10, "10"),
+        (97, "97"),
+        (100, "100"),
         (4294967295, "4294967295"),
         (18446744073709551615, "18446744073709551615"),
     ];

@@ -1,7 +1,7 @@
 -- A hop that denies a packet as Inexpressible has no option for its label, and a walk that ends so comes to such a hop.
-use Rattle.std.proofs.Common.{◌≡◌, ◌⊎◌, ℕ, ◌+◌, IsTrue, Bool, true, false, List, [], ◌∷◌, slice_get, unwrap_or, All, MatchBool, Option, Some, None, Result, Ok, Err, inl, inr, refl, sym, ap, subst, ◌∙◌}
+use Rattle.std.proofs.Common.{◌≡◌, ◌⊎◌, ℕ, ◌+◌, IsTrue, Bool, true, false, List, [], ◌∷◌, unwrap_or, All, MatchBool, Option, Some, None, Result, Ok, Err, inl, inr, refl, sym, ap, subst, ◌∙◌}
 use Rattle.std.proofs.lemmas.List.Elements.{All-head}
-use Rattle.std.proofs.lemmas.Option.{slice_get_within, get_or_from_slice_get}
+use Rattle.octet_grammar.proofs.Elements.{All-place_or}
 use Rattle.ip_headers.specs.Packet.{ParsedPacket}
 use Rattle.packet_label.specs.declared.denial.Carrier.{Carrier}
 use Rattle.packet_label.specs.declared.denial.Denial.{Denial}
@@ -40,12 +40,7 @@ fresh_named = All-head Named fresh [] (subst (All Named) (nodes_begin_fresh 1 []
 
 -- the map of each node names defined DOIs, also that which stands for a node that isn't there
 named : (plan : PlanState) (version node : ℕ) → Named (tables_of (network_after plan version) node)
-named plan version node = by_place (slice_get (network_after plan version) node) refl where
-  by_place : (o : Option TableState) → slice_get (network_after plan version) node ≡ o → Named (unwrap_or o fresh)
-  by_place None at = fresh_named
-  by_place (Some t) at =
-      subst Named (get_or_from_slice_get (network_after plan version) node t t at)
-      (maps_name_defined_dois plan.nodes plan.steps version node t (slice_get_within (network_after plan version) node t at))
+named plan version node = All-place_or Named (network_after plan version) node fresh (maps_name_defined_dois plan.nodes plan.steps version) fresh_named
 
 verdict_told : {X : Type 0} (made : X → HopVerdict) (r : Result X Denial) → ((x : X) → made x ≡ denied Inexpressible → ⊥) → verdict_of made r ≡ denied Inexpressible → r ≡ Err Inexpressible
 verdict_told made (Ok x) other e = absurd (other x e)
