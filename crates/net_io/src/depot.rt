@@ -19,6 +19,17 @@ pub trait Depot {
         ensures err { OnErr result (buf.new ≡ buf.old) }
         ensures frame { OnlyReads IoFault.Failed result name.now (state self.old) (state self.new) };
 
+    /// Reads as `read_at` does, but over what `buf` held: only the octets that were read are told of it, and nothing after an Err.
+    /// So nothing has to be kept of it, and no copy is made.
+    fn read_over(&mut self, name: &str, at: u64, buf: &mut [u8]) -> Result<usize, IoFault>
+        ensures ok { IfOk result
+            (λ n. ReadsAt (state self.old).tells
+            ((state self.old).held name.now) at n buf.new buf.new) }
+        ensures frame { OnlyReads IoFault.Failed result name.now (state self.old) (state self.new) }
+    {
+        self.read_at(name, at, buf)
+    }
+
     /// Protects the file that this name is a name of, there now or later: where a folder's files have several names, a later `create`
     /// by any of them is refused: by another spelling, a symlink or a hard link. Nothing held changes, and no fault is counted.
     /// `RealDepot` says how it tells files apart, and what it doesn't see.

@@ -29,7 +29,7 @@ pub use fault::{IoFault, WholeFault};
 pub use memory_depot::MemoryDepot;
 pub use memory_sink::MemorySink;
 pub use octet_grammar::OutOfMemory;
-pub use reading::{read_full, read_whole};
+pub use reading::{read_full, read_full_over, read_whole};
 pub use real_depot::RealDepot;
 pub use real_sink::RealSink;
 pub use safe_depot::SafeDepot;

@@ -41,6 +41,35 @@ pub fn read_full<D: Depot>(
     Ok(done)
 }
 
+/// Reads as `read_full` does, but over what `buf` held: only the octets that were read are told of it, and nothing after an Err.
+/// The real folder then makes no copy.
+pub fn read_full_over<D: Depot>(
+    depot: &mut D,
+    name: &str,
+    at: u64,
+    buf: &mut [u8],
+) -> Result<usize, IoFault>
+    ensures count { IfOk result (λ n. IsTrue (D.state depot.old).tells
+        → n ≡ min (length buf.old) (length (octets_of ((D.state depot.old).held name.now)) - at)) }
+    ensures octets { IfOk result
+        (λ n. IsTrue (D.state depot.old).tells
+        → IsRead ((D.state depot.old).held name.now) at n buf.new) }
+    ensures present { OnOk result
+        (IsTrue (D.state depot.old).tells → 0 < length buf.old
+        → IsSome ((D.state depot.old).held name.now)) }
+    ensures fits { IfOk result (λ n. n ≤ length buf.old) }
+    ensures place { IfOk result (λ n. at + n < 2 ^ 64) }
+    ensures frame { OnlyReads IoFault.Failed result name.now (D.state depot.old)
+        (D.state depot.new) }
+{
+    let first = depot.read_over(name, at, buf)?;
+    if first == 0 {
+        return Ok(0);
+    }
+    let behind = read_full(depot, name, at + first as u64, &mut buf[first..])?;
+    Ok(first + behind)
+}
+
 /// How many octets to read behind the first `len`: some, at most a piece, and at most one past the bound.
 fn room_for(most: usize, len: usize, piece: usize) -> usize
     requires within { len ≤ most }

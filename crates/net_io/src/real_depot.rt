@@ -123,7 +123,7 @@ impl<R: Files + Drop> Depot for RealDepot<R> {
 
     ghost state = { real_state };
 
-    // It reads into a buffer of its own: what a failed read leaves in a buffer isn't known.
+    // It reads into a buffer of its own: what a read leaves in a buffer behind its octets, or where it fails, isn't known.
     fn read_at(&mut self, name: &str, at: u64, buf: &mut [u8]) -> Result<usize, IoFault> {
         if at >= NO_PLACE {
             return Ok(0);
@@ -136,6 +136,19 @@ impl<R: Files + Drop> Depot for RealDepot<R> {
                 buf[..n].copy_from_slice(&piece[..n]);
                 Ok(n)
             }
+            Err(fault) => Err(counted(fault, &mut self.read_faults)),
+        }
+    }
+
+    fn read_over(&mut self, name: &str, at: u64, buf: &mut [u8]) -> Result<usize, IoFault> {
+        if at >= NO_PLACE {
+            return Ok(0);
+        }
+        let alloc = *self.piece.allocator();
+        let most = buf.len().min(self.piece.len());
+        let piece = &mut buf[..most];
+        match read_piece(alloc, &self.files, &mut self.open, name, at, piece) {
+            Ok(n) => Ok(n),
             Err(fault) => Err(counted(fault, &mut self.read_faults)),
         }
     }

@@ -21,6 +21,15 @@ fn four_from<D: Depot>(depot: &mut D, name: &str, at: u64) -> (Result<usize, IoF
     (read, buf)
 }
 
+/// A read of four octets over what the buffer held, and those that were read.
+fn four_over<D: Depot>(depot: &mut D, name: &str, at: u64) -> (Result<usize, IoFault>, [u8; 4]) {
+    let (mut buf, mut over) = (*b"....", *b"????");
+    let read = read_full_over(depot, name, at, &mut over);
+    let count = read.unwrap_or(0);
+    buf[..count].copy_from_slice(&over[..count]);
+    (read, buf)
+}
+
 #[test]
 fn reads_by_pieces(rt: HostRuntime) {
     for piece in [1, 2, 9] {
@@ -29,6 +38,8 @@ fn reads_by_pieces(rt: HostRuntime) {
         for (at, count, want) in READS {
             let read = four_from(&mut depot, "p.bin", at);
             assert_eq!(rt; read, (Ok(count), want), "from {at} by {piece}");
+            let over = four_over(&mut depot, "p.bin", at);
+            assert_eq!(rt; over, (Ok(count), want), "over, from {at} by {piece}");
         }
         let whole = read_whole(rt.alloc(), &mut depot, "p.bin", 5).expect(&rt, "5 octets");
         assert_eq!(rt; whole.as_slice(), b"01234".as_slice());
@@ -97,6 +108,8 @@ fn real_files(rt: HostRuntime) {
     ] {
         let read = four_from(&mut depot, file, at);
         assert_eq!(rt; read, (Ok(count), want), "from {at}");
+        let over = four_over(&mut depot, file, at);
+        assert_eq!(rt; over, (Ok(count), want), "over, from {at}");
     }
     fs::remove_file(&rt, &name).expect(&rt, "removed");
     fs::remove_file(&rt, &other).expect(&rt, "removed");
