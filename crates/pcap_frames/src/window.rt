@@ -3,7 +3,7 @@ ghost use Rattle.std.specs.Prelude.{◌≡◌, ◌+◌, ◌-◌, ◌<◌, ◌≤
 ghost use Rattle.net_io.specs.Depot.{octets_of, OnlyReads};
 ghost use Rattle.pcap_frames.specs.Reader.{IsFrom};
 
-use net_io::{Depot, IoFault, read_full};
+use net_io::{Depot, IoFault, read_full_over};
 use std::alloc::{AllocError, Global};
 use std::marker::Model;
 
@@ -89,7 +89,7 @@ impl Window {
     {
         self.start = 0;
         self.end = 0;
-        self.end = read_full(depot, name, place, &mut self.octets)?;
+        self.end = read_full_over(depot, name, place, &mut self.octets)?;
         Ok(())
     }
 }
