@@ -1,11 +1,12 @@
 -- What a run leaves that is put in the place of those that it touches.
-use Rattle.std.proofs.Common.{◌≡◌, ℕ, zero, suc, ◌+◌, ◌-◌, ◌<◌, ◌≤◌, Bool, true, false, ◌||◌, max, List, [], ◌∷◌, ◌++◌, length, get_or, take, drop, fold, refl, sym, ap, subst, ◌∙◌, arith, inl, inr}
+use Rattle.std.proofs.Common.{◌≡◌, ℕ, zero, suc, ◌+◌, ◌-◌, ◌<◌, ◌≤◌, Bool, true, false, ◌||◌, max, List, [], ◌∷◌, ◌++◌, length, get_or, take, drop, fold, IsTrue, refl, sym, ap, subst, ◌∙◌, arith, inl, inr}
 use Rattle.std.specs.List.{list_any, AllWithin, splice, slice_range}
 use Rattle.std.specs.List.Sorted.{IsNonDecreasingBy}
-use Rattle.std.proofs.lemmas.Bool.{cases_lt}
+use Rattle.std.proofs.Math.Bool.{or-false}
+use Rattle.std.proofs.lemmas.Bool.{cases_lt, or_left, or_right}
 use Rattle.std.proofs.lemmas.List.Edits.{split_between}
 use Rattle.std.proofs.lemmas.Bool.Decides.{nat_tests}
-use Rattle.std.proofs.lemmas.List.{take_all, drop_all, length-take-le, length-drop, length-append}
+use Rattle.std.proofs.lemmas.List.{append-nil, take_all, drop_all, length-take-le, length-drop, length-append}
 use Rattle.std.proofs.lemmas.List.Folds.{list_any-append}
 use Rattle.mls_label.specs.declared.cat_set.Run.{Run}
 use Rattle.mls_label.specs.Cats.{has, cats_where, is_within}
@@ -202,3 +203,27 @@ joined_cats runs run start end a o lt place =
 pub joined_more : (runs : List Run) (run : Run) (start : ℕ) → start ≤ length runs → length (joined runs run start start) ≡ length runs + 1
 joined_more runs run start le =
     omega (arith, length-append (take start runs) (fold hull run (slice_range runs start start) ∷ drop start runs), length-take-le start runs le, length-drop start runs)
+
+-- ---- a run behind all others
+
+behind_each : (low n : ℕ) (runs : List Run) → AreApart low runs → ((c : ℕ) → list_any (is_in c) runs ≡ true → c + 1 < n) → Each (λ r. r.last + 2 ≤ n) runs
+behind_each low n [] a behind = tt
+behind_each low n (r ∷ runs) a behind =
+    let last : is_in r.last r ≡ true = grind (arith, nat_tests, a.1) in (
+      omega (arith, behind r.last (or_left (is_in r.last r) (list_any (is_in r.last) runs) last)),
+      behind_each (r.last + 2) n runs a.3 (λ c e. behind c (or_right (is_in c r) (list_any (is_in c) runs) e)),
+    )
+
+module _ (runs : List Run) (run : Run) (a : AreApart 0 runs) (o : run.first ≤ run.last) (lt : run.last < 65535) (behind : (c : ℕ) → IsTrue (has (cats_of runs) c) → c + 1 < run.first) where
+  pub appended_apart : AreApart 0 (runs ++ run ∷ [])
+  appended_apart =
+      apart_splice 0 run runs [] [] (subst (AreApart 0) (sym (append-nil runs)) a) (omega arith) o lt (behind_each 0 run.first runs a (λ c e. behind c (has-cats_of runs c ∙ e))) tt
+
+  pub appended_cats : cats_of (runs ++ run ∷ []) ≡ cats_where (λ c. has (cats_of runs) c || is_within run.first run.last c)
+  appended_cats =
+      let new = runs ++ run ∷ [] in
+      cats_where_is (cats_of new) (λ c. has (cats_of runs) c || is_within run.first run.last c) (ascends-cats_of 0 new appended_apart) (λ c l.
+      has-cats_of new c
+      ∙ list_any-append (is_in c) runs (run ∷ [])
+      ∙ ap (λ b. list_any (is_in c) runs || b) (or-false (is_in c run))
+      ∙ ap (λ b. b || is_in c run) (sym (has-cats_of runs c)))

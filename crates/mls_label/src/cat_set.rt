@@ -1,10 +1,13 @@
 //! A set of categories, kept as its maximal runs in ascending order.
 
-ghost use Rattle.std.specs.Prelude.{◌≡◌, ℕ, ◌+◌, ◌<◌, ◌≤◌, ◌||◌, ◌↔◌, [], length, IsTrue, MatchOption, OnOk, OnErr, slice_get};
+ghost use Rattle.std.specs.Prelude.{◌≡◌, ℕ, ◌+◌, ◌<◌, ◌≤◌, ◌||◌, ◌↔◌, [], ◌++◌, length, IsTrue, MatchOption, OnOk, OnErr, slice_get};
 ghost use Rattle.mls_label.specs.Cats.{has, is_within, cats_where, IsCats, IsSubset};
 ghost use Rattle.mls_label.specs.Runs.{runs_of};
+ghost use Rattle.mls_label.specs.inside.Kept.{cats_of, AreKeptRuns};
 
-use crate::kept_runs::{assign, count_of, highest_of, holds, is_inside, join};
+use crate::kept_runs::{
+    append, assign, assign_parts, count_of, highest_of, holds, is_inside, join,
+};
 use arrayvec::ArrayVec;
 use std::marker::Model;
 
@@ -86,6 +89,19 @@ impl CatSet {
             Ok(()) => {}
             Err(TooManyRuns) => unreachable!(),
         }
+    }
+
+    /// Adds all categories from `first` to `last`, both included, behind those of the set, which has room for one more run. At least one category
+    /// is missing between. Where that is known, no run has to be looked for.
+    pub fn append_run(&mut self, first: u16, last: u16)
+        requires order { first ≤ last }
+        requires categories { last < 65535 }
+        requires room { length (runs_of self.old) < MOST_RUNS }
+        requires behind { (c : ℕ) → IsTrue (has self.old c) → c + 1 < first }
+        ensures cats { self.new ≡ cats_where (λ c. has self.old c || is_within first last c) }
+        ensures one_more { length (runs_of self.new) ≤ length (runs_of self.old) + 1 }
+    {
+        append(&mut self.runs, Run { first, last });
     }
 
     /// Adds one category. After an error nothing has changed.
@@ -173,5 +189,21 @@ impl CatSet {
         ensures { self.new ≡ from.now }
     {
         assign(&mut self.runs, &from.runs);
+    }
+
+    // The maximal runs in ascending order.
+    pub(crate) fn as_runs(&self) -> &[Run]
+        ensures cats { cats_of result.now ≡ self.now }
+        ensures kept { AreKeptRuns result.now }
+    {
+        &self.runs
+    }
+
+    // Takes these runs in place of its own, those of `front` first.
+    pub(crate) fn assign_runs(&mut self, front: &[Run], back: &[Run])
+        requires { AreKeptRuns (front.now ++ back.now) }
+        ensures { self.new ≡ cats_of (front.now ++ back.now) }
+    {
+        assign_parts(&mut self.runs, front, back);
     }
 }

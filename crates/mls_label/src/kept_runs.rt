@@ -90,6 +90,21 @@ pub fn join(runs: &mut ArrayVec<Run, MOST_RUNS>, run: Run) -> Result<(), TooMany
     put(runs, start, end, hull)
 }
 
+/// Adds a run that is behind all others and touches none.
+pub fn append(runs: &mut ArrayVec<Run, MOST_RUNS>, run: Run)
+    requires kept { AreKeptRuns runs.old.items }
+    requires order { run.first ≤ run.last }
+    requires categories { run.last < 65535 }
+    requires room { array_vec_len runs.old < MOST_RUNS }
+    requires behind { (c : ℕ) → IsTrue (has (cats_of runs.old.items) c) → c + 1 < run.first }
+    ensures kept { AreKeptRuns runs.new.items }
+    ensures cats { cats_of runs.new.items
+        ≡ cats_where (λ c. has (cats_of runs.old.items) c || is_within run.first run.last c) }
+    ensures one_more { array_vec_len runs.new ≤ array_vec_len runs.old + 1 }
+{
+    runs.push(run);
+}
+
 // Puts `run` in the place of the runs from `start` to `end`. After an error nothing has changed.
 fn put(
     runs: &mut ArrayVec<Run, MOST_RUNS>,
@@ -201,6 +216,18 @@ pub fn assign(runs: &mut ArrayVec<Run, MOST_RUNS>, from: &[Run])
 {
     runs.clear();
     match runs.try_extend_from_slice(from) {
+        Ok(()) => {}
+        Err(_) => unreachable!(),
+    }
+}
+
+/// Takes the runs of both parts in place of its own.
+pub fn assign_parts(runs: &mut ArrayVec<Run, MOST_RUNS>, front: &[Run], back: &[Run])
+    requires { length (front.now ++ back.now) ≤ MOST_RUNS }
+    ensures { runs.new.items ≡ front.now ++ back.now }
+{
+    assign(runs, front);
+    match runs.try_extend_from_slice(back) {
         Ok(()) => {}
         Err(_) => unreachable!(),
     }

@@ -7,6 +7,7 @@ mod kept_label;
 mod kept_runs;
 mod label;
 pub mod laws;
+mod packed_label;
 #[cfg(test)]
 mod tests;
 
@@ -14,3 +15,4 @@ pub use cat_set::{CatSet, MOST_RUNS, TooManyRuns};
 pub use kept_label::KeptLabel;
 pub use label::{Label, Proto, Tag};
 pub use octet_grammar::{OutOfMemory, WireFault, WireKind};
+pub use packed_label::PackedLabel;

@@ -81,3 +81,37 @@ fn copies_labels(rt: HostRuntime) -> Result<(), Fail> {
     assert!(rt; kept.label().same(&high));
     Ok(())
 }
+
+// One place keeps labels of few runs and of many in turn.
+#[test]
+fn packs_labels(rt: HostRuntime) -> Result<(), Fail> {
+    let odd: [(u16, u16); 9] = [
+        (1, 1),
+        (3, 3),
+        (5, 5),
+        (7, 7),
+        (9, 9),
+        (11, 11),
+        (13, 13),
+        (15, 15),
+        (17, 20),
+    ];
+    let cases: [(u8, &[(u16, u16)]); 5] = [
+        (7, &odd),
+        (6, &odd[..8]),
+        (0, &[]),
+        (255, &[(0, 65534)]),
+        (5, &odd),
+    ];
+    let mut packed = PackedLabel::lowest(rt.alloc());
+    let mut shown = Label::lowest();
+    for (level, runs) in cases {
+        let mut label = Label::lowest();
+        label.level = level;
+        add_all(&rt, &mut label.cats, runs)?;
+        packed.keep(&label).expect(&rt, "memory");
+        packed.show(&mut shown);
+        assert!(rt; shown.same(&label), "at {level}");
+    }
+    Ok(())
+}
