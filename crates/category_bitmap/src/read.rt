@@ -1,8 +1,12 @@
 //! Reading: each stretch of ones becomes one run of the set.
 
-ghost use Rattle.std.specs.Prelude.{◌≡◌, ℕ, not, ◌*◌, ◌-◌, ◌<◌, ◌≤◌, ◌==◌, length};
+ghost use Rattle.std.specs.Prelude.{◌≡◌, ℕ, Some, None, not, ◌+◌, ◌*◌, ◌-◌, ◌<◌, ◌≤◌, ◌||◌, ◌==◌, length, IsTrue, IfSome, MatchOption};
 ghost use Rattle.std.specs.Int.{bit_at};
-ghost use Rattle.category_bitmap.specs.Bitmap.{has_bit, bitmap_cats};
+ghost use Rattle.mls_label.specs.Cats.{has, is_within, cats_where};
+ghost use Rattle.mls_label.specs.Runs.{runs_of};
+ghost use Rattle.mls_label.specs.declared.cat_set.TheConstants.{MOST_RUNS};
+ghost use Rattle.category_bitmap.specs.Bitmap.{bitmap_cats};
+ghost use Rattle.category_bitmap.specs.inside.Read.{IsRead};
 
 use mls_label::CatSet;
 
@@ -13,32 +17,54 @@ pub fn read_bitmap(bitmap: &[u8], cats: &mut CatSet)
     ensures { cats.new ≡ bitmap_cats bitmap.now }
 {
     cats.clear();
-    let mut first = next_bit(bitmap, 0, true);
-    while first < 8 * bitmap.len() {
-        let after = next_bit(bitmap, first, false);
-        cats.insert_run(first as u16, (after - 1) as u16);
-        first = next_bit(bitmap, after, true);
+    let mut begun = None;
+    for at in 0..bitmap.len() {
+        begun = read_octet(bitmap, at, begun, cats);
+    }
+    if let Some(first) = begun {
+        cats.append_run(first, (8 * bitmap.len() - 1) as u16);
     }
 }
 
-// The first place from `from` on whose bit is this one, or the bitmap's end. It goes octet by octet.
-fn next_bit(bitmap: &[u8], from: usize, bit: bool) -> usize
-    requires start { from ≤ 8 * length bitmap.now }
-    requires room { length bitmap.now ≤ 244 }
-    ensures start { from ≤ result }
-    ensures end { result ≤ 8 * length bitmap.now }
-    ensures before { (c : ℕ) → from ≤ c → c < result → has_bit bitmap.now c ≡ not bit }
-    ensures found { result < 8 * length bitmap.now → has_bit bitmap.now result ≡ bit }
+// Reads an octet. What is begun is the run of ones that goes on to the place where reading is, as its first category.
+fn read_octet(bitmap: &[u8], at: usize, begun: Option<u16>, cats: &mut CatSet) -> Option<u16>
+    requires place { at < length bitmap.now }
+    requires most { length bitmap.now ≤ 244 }
+    requires read { IsRead bitmap.now cats.old begun (8 * at) }
+    ensures { IsRead bitmap.now cats.new result (8 * (at + 1)) }
 {
-    let mut start = (from % 8) as u32;
-    for at in from / 8..bitmap.len() {
-        let place = next_in_octet(bitmap[at], start, bit);
+    let octet = bitmap[at];
+    let mut begun = begun;
+    let mut place = 0;
+    while place < 8 {
+        place = next_in_octet(octet, place, begun.is_none());
         if place < 8 {
-            return 8 * at + place as usize;
+            begun = turn(begun, (8 * at) as u16 + place as u16, cats);
+            place += 1;
         }
-        start = 0;
     }
-    8 * bitmap.len()
+    begun
+}
+
+// Begins a run at `c`, or ends the begun one before it.
+fn turn(begun: Option<u16>, c: u16, cats: &mut CatSet) -> Option<u16>
+    requires most { c < MOST_RUNS }
+    requires order { IfSome begun (λ first. first < c) }
+    requires few { IfSome begun (λ first. length (runs_of cats.old) ≤ first) }
+    requires behind { IfSome begun (λ first. (d : ℕ) → IsTrue (has cats.old d) → d + 1 < first) }
+    ensures next { MatchOption begun (result ≡ Some c) (λ first. result ≡ None) }
+    ensures cats { MatchOption begun (cats.new ≡ cats.old)
+        (λ first. cats.new ≡ cats_where (λ d. has cats.old d || is_within first (c - 1) d)) }
+    ensures one_more { MatchOption begun (cats.new ≡ cats.old)
+        (λ first. length (runs_of cats.new) ≤ length (runs_of cats.old) + 1) }
+{
+    match begun {
+        None => Some(c),
+        Some(first) => {
+            cats.append_run(first, c - 1);
+            None
+        }
+    }
 }
 
 // The first place from `from` on in an octet whose bit is this one, or 8. Place 0 is the most significant bit.

@@ -1,32 +1,17 @@
-use Rattle.std.proofs.Common.{◌<◌, ◌*◌, length, ap, ◌∙◌, arith}
-use Rattle.mls_label.specs.Runs.{runs_of}
-use Rattle.category_bitmap.proofs.Bits.{below_start, below_more, below_end, past_first}
+use Rattle.std.proofs.Common.{◌≡◌, ◌*◌, length, Some, arith}
+use Rattle.category_bitmap.specs.inside.Read.{IsRead}
+use Rattle.category_bitmap.proofs.Bits.{nothing_read, begun_behind, read_last}
 use Rattle.category_bitmap.proofs.read.read_bitmap.Goals as goal
 
-pub loop-first-init : goal.loop-first-init
-loop-first-init c = record {
-  so_far = c.clear.ensures ∙ below_start c.args.bitmap.now c.next_bit-first.result c.next_bit-first.ensures.before;
-  few = omega (arith, ap (λ xs. length (runs_of xs)) c.clear.ensures);
-  within = c.next_bit-first.ensures.end;
-  set = c.next_bit-first.ensures.found;
-}
+pub loop-at-init : goal.loop-at-init
+loop-at-init c = nothing_read c.args.bitmap.now c.clear.new.self c.clear.ensures
 
-pub loop-first-preserved : goal.loop-first-preserved
-loop-first-preserved c =
+pub append_run-requires-clause-behind : goal.append_run-requires-clause-behind
+append_run-requires-clause-behind c = rw c.in-Some.is at (begun_behind c.args.bitmap.now c.loop-at.cats c.loop-at.begun _ c.loop-at.invariant)
+
+pub returns-in-Some : goal.returns-in-Some
+returns-in-Some c =
     let bitmap = c.args.bitmap.now in
-    let first = c.loop-first.first in
-    let after = c.next_bit-after.result in
-    let next = c.next_bit-first-in-loop-first in
-    let seen = c.loop-first.invariant in
-    let goes_on : first < after =
-    past_first bitmap first after (8 * length bitmap) c.next_bit-after.ensures.start c.loop-first-test.true (seen.set c.loop-first-test.true) c.next_bit-after.ensures.found in
-    record {
-      so_far = below_more bitmap c.loop-first.cats c.insert_run.new.self first after next.result goes_on next.ensures.start seen.so_far c.insert_run.ensures.cats c.next_bit-after.ensures.before next.ensures.before;
-      few = omega (arith, c.insert_run.ensures.one_more, seen.few, next.ensures.start);
-      within = next.ensures.end;
-      set = next.ensures.found;
-    }
-
-pub returns : goal.returns
-returns c =
-    below_end c.args.bitmap.now c.loop-first.cats c.loop-first.first (omega arith) c.loop-first.invariant.so_far
+    let all : c.loop-at.at ≡ length bitmap = omega (arith, c.loop-at-test.false, c.loop-at.auto.at-end) in
+    let read : IsRead bitmap c.loop-at.cats (Some c.in-Some.first) (8 * length bitmap) = rw (all, c.in-Some.is) at c.loop-at.invariant in
+    read_last bitmap c.loop-at.cats c.append_run.new.self c.in-Some.first read c.append_run.ensures.cats

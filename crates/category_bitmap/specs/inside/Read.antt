@@ -1,0 +1,17 @@
+-- What is known while a bitmap is read.
+use Rattle.std.specs.Prelude.{ℕ, ◌≡◌, ◌+◌, ◌<◌, ◌≤◌, true, false, ◌&&◌, nat_lt, List, length, Option, IfSome, unwrap_or}
+use Rattle.mls_label.specs.Cats.{cats_where}
+use Rattle.mls_label.specs.Runs.{runs_of}
+use Rattle.category_bitmap.specs.Bitmap.{has_bit}
+
+-- the categories of a bitmap below a place
+abbrev pub cats_below : List ℕ → ℕ → List ℕ
+cats_below bitmap at = cats_where (λ c. has_bit bitmap c && nat_lt c at)
+
+-- the bits before a place are read: those before the begun run, or all, are in the set, and no run ends directly before those to come
+pub record IsRead (bitmap cats : List ℕ) (begun : Option ℕ) (at : ℕ) : Type 0 where
+  pub so_far : cats ≡ cats_below bitmap (unwrap_or begun at)
+  pub few : length (runs_of cats) ≤ unwrap_or begun at
+  pub gap : (k : ℕ) → k + 1 ≡ unwrap_or begun at → has_bit bitmap k ≡ false
+  pub order : IfSome begun (λ first. first < at)
+  pub ones : IfSome begun (λ first. (k : ℕ) → first ≤ k → k < at → has_bit bitmap k ≡ true)
