@@ -14,7 +14,7 @@ import subprocess
 import tempfile
 
 import scratch
-from show import PROGRAM, TOP, run
+from beside import PROGRAM, built, run
 
 LINES = 16_384
 NODES = 32
@@ -73,15 +73,14 @@ def main():
     options.add_argument("--keep", metavar="FOLDER", help="make the script in this folder and leave it there")
     options.add_argument("--program", default=PROGRAM, type=pathlib.Path, help="another build of the program")
     asked = options.parse_args()
-    if asked.program == PROGRAM:
-        subprocess.run([TOP / "netlabel"], stdout=subprocess.DEVNULL)  # builds it where it isn't built
+    program = built(asked.program)
     with tempfile.TemporaryDirectory() as made:
         folder = pathlib.Path(asked.keep or made)
         folder.mkdir(exist_ok=True)
         text = script()
         (folder / "bench.script").write_text(text)
         os.chdir(folder)
-        words = [asked.program, "check", "bench.script"]
+        words = [program, "check", "bench.script"]
         report = subprocess.run(words, capture_output=True, check=True).stdout
         end = report.decode().splitlines()[-1]
         print(f"{len(text):,} octets, {text.count(chr(10)):,} lines; the report has {len(report):,} octets and ends with: {end}; {scratch.load()}")

@@ -6,8 +6,9 @@ import subprocess
 import tempfile
 import time
 
-top = pathlib.Path(__file__).resolve().parent.parent
-program = top / "crates/netlabel_cmd/out/netlabel_cmd"
+from beside import PROGRAM, built
+
+program = built(PROGRAM)
 
 
 def packet6(length):
@@ -37,7 +38,6 @@ def timed(folder, level, name):
     return statistics.median(runs) * 1000
 
 
-subprocess.run([top / "netlabel"], capture_output=True)  # builds it where it isn't built
 with tempfile.TemporaryDirectory() as folder:
     (pathlib.Path(folder) / "largest.bin").write_bytes(packet6(65575))
     (pathlib.Path(folder) / "usual.bin").write_bytes(packet6(1500))

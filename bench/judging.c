@@ -7,7 +7,7 @@
 
 #include "wire.h"
 
-enum { MOST_ENTRIES = 256, MOST_ADDRESSES = 16, MOST_OCTETS = 65535 };
+enum { MOST_ENTRIES = 256, MOST_ADDRESSES = 16 };
 
 /* --- denials ------------------------------------------------------------------------------------------------------------ */
 
@@ -104,163 +104,84 @@ static int is_outside(const char *interface, const struct label *low, const stru
     return low != high && (!dominates(high, found->low) || !dominates(found->high, high));
 }
 
-/* --- packets ------------------------------------------------------------------------------------------------------------ */
-
-struct packet { const uint8_t *octets; int header, total, place, length, second; };
-
-static unsigned sum_of(const uint8_t *s, int length) {
-    uint32_t sum = 0;
-    for (int i = 0; i < length; i += 2) sum += u16_at(s + i);
-    while (sum >> 16) sum = (sum & 0xffff) + (sum >> 16);
-    return sum;
-}
-
-static struct denial read_header(const uint8_t *s, int length, struct packet *packet) {
-    if (length == 0) return at_octet(HEADER, 0);
-    if (s[0] >> 4 != 4) return at_octet(HEADER, 0);
-    if (length < 20) return at_octet(HEADER, length);
-    int header = (s[0] & 15) * 4, total = u16_at(s + 2);
-    if (header < 20) return at_octet(HEADER, 0);
-    if (total < header || total > length) return at_octet(HEADER, 2);
-    if (sum_of(s, header) != 0xffff) return at_octet(HEADER, 10);
-    *packet = (struct packet){s, header, total, 0, 0, 0};
-    for (int at = 20; at < header;) {
-        int size = 1;
-        if (s[at] == 0) break;
-        if (s[at] != 1) {
-            if (at + 1 >= header) return at_octet(HEADER, header);
-            size = s[at + 1];
-            if (size < 2 || at + size > header) return at_octet(HEADER, at + 1);
-            if (s[at] == 134) {
-                if (!packet->place) packet->place = at, packet->length = size;
-                else if (!packet->second) packet->second = at;
-            }
-        }
-        at += size;
-    }
-    return because(NONE);
-}
-
 /* --- the labels of a packet that comes in --------------------------------------------------------------------------------- */
 
-/* Two labels that are lent for each packet: in the numbers of the wire, and in the node's own. */
-struct room { struct label wire, local; };
+/* What carries a packet's label, and its labels. */
+struct incoming { struct protocol carrier; const struct label *low, *high; };
 
-struct incoming { struct protocol carrier; const struct label *low; };
-
+/* The label of an option is read into one that is lent for each packet. */
 static struct denial read_label_of(
-    const char *interface, const struct packet *packet, struct room *room, struct incoming *incoming) {
-    incoming->low = &room->local;
-    incoming->carrier = (struct protocol){0, 0};
+    const char *interface, const struct packet *packet, struct label *lent, struct incoming *incoming) {
     if (!packet->place) {
         if (!accepts) return because(UNLABELLED);
         const struct statics *found = find_static(interface, u32_at(packet->octets + 12));
         if (!found) return because(STATIC);
-        assign(&room->local, found->high);
-        incoming->low = found->low;
+        *incoming = (struct incoming){{0, 0}, found->low, found->high};
         return because(NONE);
     }
     uint32_t doi;
-    int tag, listed = 0, fault = read_cipso(packet->octets + packet->place, packet->length, &room->wire, &doi, &tag);
+    int tag, listed = 0, fault = read_cipso(packet->octets + packet->place, packet->length, lent, &doi, &tag);
     if (fault >= 0) return at_octet(OPTION, packet->place + fault);
     const struct definition *found = find_definition(doi);
     if (!found) return at_octet(DOI, packet->place + 2);
     for (int i = 0; i < found->tags; i++) listed |= found->tag[i] == tag;
     if (!listed) return at_octet(TAG, packet->place + 6);
-    assign(&room->local, &room->wire);
-    incoming->carrier = (struct protocol){1, doi};
+    *incoming = (struct incoming){{1, doi}, lent, lent};
     return because(NONE);
 }
 
+/* All packets are of IPv4: another version is a fault. */
+static int read_four(const uint8_t *s, int length, struct packet *packet) {
+    return length && s[0] >> 4 == 4 ? read_header4(s, length, packet) : 0;
+}
+
 static struct denial read_packet(
-    const char *interface, const uint8_t *s, int length, struct packet *packet, struct room *room, struct incoming *incoming) {
-    struct denial denial = read_header(s, length, packet);
-    if (denial.why) return denial;
+    const char *interface, const uint8_t *s, int length, struct packet *packet, struct label *lent, struct incoming *incoming) {
+    int fault = read_four(s, length, packet);
+    if (fault >= 0) return at_octet(HEADER, fault);
     if (packet->second) return at_octet(OPTION, packet->second);
-    return read_label_of(interface, packet, room, incoming);
+    return read_label_of(interface, packet, lent, incoming);
 }
 
 /* --- receiving ------------------------------------------------------------------------------------------------------------ */
 
-static struct denial receive(const char *interface, const uint8_t *s, int length, struct room *room, uint32_t *to) {
+static struct denial receive(
+    const char *interface, const uint8_t *s, int length, struct label *lent, uint32_t *to, const struct label **label) {
     struct packet packet;
     struct incoming incoming;
-    struct denial denial = read_packet(interface, s, length, &packet, room, &incoming);
+    struct denial denial = read_packet(interface, s, length, &packet, lent, &incoming);
     if (denial.why) return denial;
-    if (is_outside(interface, incoming.low, &room->local)) return because(RANGE);
+    if (is_outside(interface, incoming.low, incoming.high)) return because(RANGE);
     *to = u32_at(s + 16);
     const struct receiver *found = find_receiver(*to);
     if (!found) return because(RECEIVER);
     const struct protocol *protocol = find_protocol(found->domain, u32_at(s + 12));
     if (!protocol || protocol->is_cipso != incoming.carrier.is_cipso || protocol->doi != incoming.carrier.doi) return because(REFUSES);
-    if (!dominates(found->level, &room->local)) return because(DOMINATED);
+    if (!dominates(found->level, incoming.high)) return because(DOMINATED);
     if (!dominates(incoming.low, found->low)) return because(BELOW);
+    *label = incoming.high;
     return because(NONE);
 }
 
 /* --- a packet written under a protocol ------------------------------------------------------------------------------------- */
-
-static int can_express(int tag, const struct label *label) {
-    int count = 0;
-    if (tag == 1) return !label->runs || label->run[label->runs - 1].last < 240;
-    if (tag == 5) return label->runs <= 7;
-    for (int i = 0; i < label->runs; i++) count += label->run[i].last - label->run[i].first + 1;
-    return count <= 15;
-}
-
-static int put_u16(uint8_t *s, unsigned n) {
-    s[0] = n >> 8;
-    s[1] = n;
-    return 2;
-}
-
-/* The option of a label in a tag that can express it, and its length. */
-static int write_option(uint32_t doi, int tag, const struct label *label, uint8_t *s) {
-    int length = 10;
-    s[0] = 134;
-    put_u16(s + 2, doi >> 16);
-    put_u16(s + 4, doi);
-    s[6] = tag;
-    s[8] = 0;
-    s[9] = label->level;
-    if (tag == 1 && label->runs) {
-        length += label->run[label->runs - 1].last / 8 + 1;
-        memset(s + 10, 0, length - 10);
-        for (int i = 0; i < label->runs; i++) {
-            for (int c = label->run[i].first; c <= label->run[i].last; c++) s[10 + c / 8] |= 0x80 >> c % 8;
-        }
-    }
-    for (int i = 0; tag == 2 && i < label->runs; i++) {
-        for (int c = label->run[i].first; c <= label->run[i].last; c++) length += put_u16(s + length, c);
-    }
-    for (int i = label->runs - 1; tag == 5 && i >= 0; i--) {
-        length += put_u16(s + length, label->run[i].last);
-        if (label->run[i].first) length += put_u16(s + length, label->run[i].first);
-    }
-    s[1] = length;
-    s[7] = length - 6;
-    return length;
-}
 
 /* A packet that was written, and what carries its label. */
 struct written { uint8_t octets[MOST_OCTETS]; int length; struct protocol carrier; };
 
 /* The packet with this label under a protocol: its option first, then the old options but padding and labels. */
 static struct denial write_under(
-    const struct protocol *protocol, const struct packet *packet, const struct label *label, struct label *wire, int hops,
-    struct written *out) {
+    const struct protocol *protocol, const struct packet *packet, const struct label *label, int hops, struct written *out) {
     const uint8_t *s = packet->octets;
     uint8_t option[40];
     int size = 0, tag = 0;
     if (protocol->is_cipso) {
         const struct definition *found = find_definition(protocol->doi);
         if (!found) return because(EXPRESS);
-        assign(wire, label);
         for (int i = 0; i < found->tags && !tag; i++) {
-            if (can_express(found->tag[i], wire)) tag = found->tag[i];
+            if (can_express(found->tag[i], label)) tag = found->tag[i];
         }
         if (!tag) return because(EXPRESS);
-        size = write_option(protocol->doi, tag, wire, option);
+        size = write_option(protocol->doi, tag, label, option);
     }
     int kept = size;
     for (int at = 20; at < packet->header && s[at] != 0; at += s[at] == 1 ? 1 : s[at + 1]) {
@@ -292,30 +213,31 @@ static struct denial write_under(
 /* --- forwarding and sending ----------------------------------------------------------------------------------------------- */
 
 static struct denial forward(
-    const char *from, const char *to, const char *name, const uint8_t *s, int length, struct room *room, struct written *out) {
+    const char *from, const char *to, const char *name, const uint8_t *s, int length, struct label *lent, struct written *out,
+    const struct label **label) {
     struct packet packet;
     struct incoming incoming;
-    struct denial denial = read_packet(from, s, length, &packet, room, &incoming);
+    struct denial denial = read_packet(from, s, length, &packet, lent, &incoming);
     if (denial.why) return denial;
-    if (is_outside(from, incoming.low, &room->local)) return because(RANGE);
+    if (is_outside(from, incoming.low, incoming.high)) return because(RANGE);
     if (s[8] <= 1) return because(EXPIRED);
-    if (is_outside(to, incoming.low, &room->local)) return because(RANGE);
+    if (is_outside(to, incoming.low, incoming.high)) return because(RANGE);
     const struct protocol *protocol = find_protocol(name, u32_at(s + 16));
     if (!protocol) return because(MAP);
-    return write_under(protocol, &packet, &room->local, &room->wire, s[8] - 1, out);
+    *label = incoming.high;
+    return write_under(protocol, &packet, incoming.high, s[8] - 1, out);
 }
 
-static struct denial send(
-    const char *name, const char *interface, const struct label *label, const uint8_t *s, int length, struct label *wire,
-    struct written *out) {
+static struct denial send_out(
+    const char *name, const char *interface, const struct label *label, const uint8_t *s, int length, struct written *out) {
     struct packet packet;
-    struct denial denial = read_header(s, length, &packet);
-    if (denial.why) return denial;
+    int fault = read_four(s, length, &packet);
+    if (fault >= 0) return at_octet(HEADER, fault);
     if (packet.place) return at_octet(LABELLED, packet.place);
     if (is_outside(interface, label, label)) return because(RANGE);
     const struct protocol *protocol = find_protocol(name, u32_at(s + 16));
     if (!protocol) return because(MAP);
-    return write_under(protocol, &packet, label, wire, s[8], out);
+    return write_under(protocol, &packet, label, s[8], out);
 }
 
 /* --- commands that set the tables ------------------------------------------------------------------------------------------ */
@@ -413,15 +335,15 @@ static void obey(const char *line) {
 
 /* --- what came of a packet -------------------------------------------------------------------------------------------------- */
 
-static struct room room;
-static struct label *label;
+static struct label lent, *sent;
+static const struct label *label;
 static struct written written;
 static uint32_t to;
 
 static struct denial judge(int what, const uint8_t *s, int size) {
-    if (what == 'r') return receive("eth0", s, size, &room, &to);
-    if (what == 'f') return forward("eth0", "eth1", "gate_t", s, size, &room, &written);
-    return send("web_t", "eth1", label, s, size, &room.wire, &written);
+    if (what == 'r') return receive("eth0", s, size, &lent, &to, &label);
+    if (what == 'f') return forward("eth0", "eth1", "gate_t", s, size, &lent, &written, &label);
+    return send_out("web_t", "eth1", sent, s, size, &written);
 }
 
 static void show_label(const struct label *label) {
@@ -443,7 +365,7 @@ static void show(int what, struct denial denial) {
     }
     if (what == 'r') printf("V4([%d, %d, %d, %d]) ", to >> 24, to >> 16 & 255, to >> 8 & 255, to & 255);
     else show_carrier();
-    if (what != 's') show_label(&room.local);
+    if (what != 's') show_label(label);
     if (what == 'f') printf(" ");
     for (int i = 0; what != 'r' && i < written.length; i++) printf("%s%d", i ? ", " : "[", written.octets[i]);
     printf(what == 'r' ? "\n" : "]\n");
@@ -454,7 +376,7 @@ static uint64_t judge_all(int what, const uint8_t *octets, int length, int size,
     for (unsigned long n = 0; n < rounds; n++) {
         for (int at = 0; at + size <= length; at += size) {
             if (judge(what, octets + at, size).why) continue;
-            sum += what == 'r' ? room.local.level : written.length;
+            sum += what == 'r' ? label->level : written.length;
         }
     }
     return sum;
@@ -468,7 +390,7 @@ int main(int argc, char **argv) {
     if (argc != 7) return 2;
     FILE *commands = fopen(argv[3], "r"), *packets = fopen(argv[4], "rb");
     if (!commands || !packets) return 3;
-    label = read_label(argv[2]);
+    sent = read_label(argv[2]);
     while (fgets(line, sizeof line, commands)) obey(line);
     int what = *argv[1], length = fread(octets, 1, sizeof octets, packets), size = atoi(argv[5]);
     unsigned long rounds = strtoul(argv[6], NULL, 10);

@@ -388,7 +388,7 @@ def main():
         if not here.exists():
             more = " label_gateway" if "forward" in asked.rules else ""
             here = scratch.built(scratch.copied(top / "here"), source(asked.rules), CRATES + more)
-        subprocess.run(["cc", "-O2", "-o", top / "judging", scratch.TOP / "bench/judging.c"], check=True)
+        subprocess.run(["cc", "-O3", "-o", top / "judging", scratch.TOP / "bench/judging.c"], check=True)
         programs = {"here": here, "C": top / "judging"}
         os.chdir(top)
         rows = [(rule, node, kind) for rule in asked.rules for node in NODES for kind in LABELS]

@@ -2,14 +2,23 @@
    capture and times.
 
    It reads the commands of some nodes, then flows: each packet of a flow's capture is judged hop by hop, printed, and written to the flow's
-   output. Definitions pass all numbers, prefixes are those of IPv4, no packet crosses, IPv6 packets are received and never written, and all
-   commands stand above all flows. Within that the checks are those of the product, in the same order. Tables are arrays, and an entry is
-   found by going over them from the front. */
-#include <arpa/inet.h>
-
+   output. Prefixes are those of IPv4, no packet crosses, IPv6 packets are received and never written by a hop, a level or category is in one pair
+   of a definition at most, and all commands stand above all flows. Within that the checks are those of the product, in the same order. Names are
+   compared by place, since each is kept once. Receivers are found by hash, entries of the other tables, which have few, by going over them. */
 #include "wire.h"
 
-enum { MOST_ENTRIES = 256, MOST_ADDRESSES = 16, MOST_OCTETS = 65535 };
+enum { MOST_ENTRIES = 256, MOST_ADDRESSES = 16, MOST_NAMES = 4096, MOST_LINE = 1 << 20, SLOTS = 1024 };
+
+static void wrong(const char *what) {
+    fprintf(stderr, "not understood: %.80s\n", what);
+    exit(2);
+}
+
+static void *made(size_t size) {
+    void *octets = calloc(1, size);
+    if (!octets) exit(6);
+    return octets;
+}
 
 /* --- denials ------------------------------------------------------------------------------------------------------------- */
 
@@ -23,37 +32,60 @@ static const char *const names[] = {
     "OutsideRange", "NoReceiver", "MapRefuses", "NotDominated", "NoMap", "AlreadyLabelled", "Inexpressible", "NoRoom", "TooLong",
     "Expired", "WrongVersion", "NoPair", "NotCrossable", "NotIp", "BelowRange"};
 
-/* Why a packet is denied; NONE where it isn't. The octet is -1 where nothing stands at one. */
-struct denial { enum why why; int octet; };
+/* Why a packet is denied; NONE where it isn't. The detail is an octet, of CATEGORY the category, or -1 where there is none. */
+struct denial { enum why why; int detail; };
 
-static struct denial at_octet(enum why why, int octet) {
-    struct denial denial = {why, octet};
+static struct denial with_detail(enum why why, int detail) {
+    struct denial denial = {why, detail};
     return denial;
 }
 
-static struct denial because(enum why why) { return at_octet(why, -1); }
+static struct denial because(enum why why) { return with_detail(why, -1); }
 
 /* --- tables -------------------------------------------------------------------------------------------------------------- */
 
 enum kind { UNLBL, CIPSO, CALIPSO };
 struct protocol { enum kind kind; uint32_t doi; };
-struct address { int is_six; uint32_t four; uint8_t six[16]; };
-struct definition { struct protocol protocol; int tags, tag[5]; };
+
+/* What each number becomes; NO_NUMBER where it is in no pair. */
+enum { NO_NUMBER = 65535 };
+struct numbers { uint16_t level[256], category[65536]; };
+
+/* A definition that passes all numbers has no `local` and no `wire`. */
+struct definition { struct protocol protocol; int tags, tag[5]; struct numbers *local, *wire; };
+
 struct prefix { uint32_t address, mask; struct protocol protocol; };
-struct domain { char name[64]; int prefixes; struct protocol plain; struct prefix prefix[MOST_ADDRESSES]; };
-struct receiver { struct address address; char domain[64]; struct label *low, *level; };
-struct range { char interface[64]; struct label *low, *high; };
-struct statics { char interface[64]; uint32_t address, mask; struct label *low, *high; };
+struct domain { const char *name; int prefixes; struct protocol plain; struct prefix prefix[MOST_ADDRESSES]; };
+struct receiver { uint8_t address[16]; int size; const char *domain; struct label *low, *level; };
+struct range { const char *interface; struct label *low, *high; };
+struct statics { const char *interface; uint32_t address, mask; struct label *low, *high; };
 
 struct node {
-    char name[64];
+    const char *name;
     struct definition definition[MOST_ENTRIES];
     struct domain domain[MOST_ENTRIES];
     struct receiver receiver[MOST_ENTRIES];
     struct range range[MOST_ENTRIES];
     struct statics statics[MOST_ENTRIES];
     int definitions, domains, receivers, ranges, static_entries, accepts;
+    uint16_t slot[SLOTS]; /* receivers by their addresses, counted from 1; 0 where none is */
 };
+
+/* The name of what is for all that have no entry of their own. */
+static const char anyone[] = "";
+
+/* The one place where this name is kept. */
+static const char *name_of(const char *text) {
+    static char *kept[MOST_NAMES];
+    static int count;
+    if (!*text) return anyone;
+    for (int i = 0; i < count; i++) {
+        if (strcmp(kept[i], text) == 0) return kept[i];
+    }
+    if (count == MOST_NAMES) wrong(text);
+    kept[count] = made(strlen(text) + 1);
+    return strcpy(kept[count++], text);
+}
 
 static int is_same(struct protocol a, struct protocol b) { return a.kind == b.kind && a.doi == b.doi; }
 
@@ -64,29 +96,32 @@ static const struct definition *find_definition(const struct node *node, struct 
     return NULL;
 }
 
-/* The protocol of a domain, or else of the default one, which has no name, towards an address; the prefixes stand by falling length. */
-static const struct protocol *find_protocol(const struct node *node, const char *name, const struct address *address) {
+/* The protocol of a domain, or else of the default one, towards an address, NULL of IPv6; the prefixes stand by falling length. */
+static const struct protocol *find_protocol(const struct node *node, const char *name, const uint8_t *four) {
     const struct domain *found = NULL;
     for (int i = 0; i < node->domains; i++) {
-        if (!node->domain[i].name[0]) found = &node->domain[i];
-        else if (strcmp(node->domain[i].name, name) == 0) {
-            found = &node->domain[i];
-            break;
-        }
+        if (node->domain[i].name == anyone) found = &node->domain[i];
+        if (node->domain[i].name != name) continue;
+        found = &node->domain[i];
+        break;
     }
     if (!found) return NULL;
     if (!found->prefixes) return &found->plain;
-    for (int i = 0; !address->is_six && i < found->prefixes; i++) {
-        if ((address->four & found->prefix[i].mask) == found->prefix[i].address) return &found->prefix[i].protocol;
+    for (int i = 0; four && i < found->prefixes; i++) {
+        if ((u32_at(four) & found->prefix[i].mask) == found->prefix[i].address) return &found->prefix[i].protocol;
     }
     return NULL;
 }
 
-static const struct receiver *find_receiver(const struct node *node, const struct address *address) {
-    for (int i = 0; i < node->receivers; i++) {
-        const struct address *own = &node->receiver[i].address;
-        if (own->is_six != address->is_six) continue;
-        if (own->is_six ? memcmp(own->six, address->six, 16) == 0 : own->four == address->four) return &node->receiver[i];
+/* Where the search for a receiver of this address begins: by its last octets, in which neighbours differ. */
+static unsigned slot_of(const uint8_t *address, int size) {
+    return (u32_at(address + size - 4) * 2654435761u) >> 22;
+}
+
+static const struct receiver *find_receiver(const struct node *node, const uint8_t *address, int size) {
+    for (unsigned at = slot_of(address, size); node->slot[at]; at = (at + 1) % SLOTS) {
+        const struct receiver *found = &node->receiver[node->slot[at] - 1];
+        if (found->size == size && memcmp(found->address, address, size) == 0) return found;
     }
     return NULL;
 }
@@ -94,20 +129,20 @@ static const struct receiver *find_receiver(const struct node *node, const struc
 static const struct range *find_range(const struct node *node, const char *interface) {
     const struct range *found = NULL;
     for (int i = 0; i < node->ranges; i++) {
-        if (!node->range[i].interface[0]) found = &node->range[i];
-        else if (strcmp(node->range[i].interface, interface) == 0) return &node->range[i];
+        if (node->range[i].interface == interface) return &node->range[i];
+        if (node->range[i].interface == anyone) found = &node->range[i];
     }
     return found;
 }
 
-/* The labels for a source: among the interface's entries if it has any, else among the default ones; they stand by falling length. */
-static const struct statics *find_static(const struct node *node, const char *interface, const struct address *source) {
+/* The labels for a source, NULL of IPv6: among the interface's entries if it has any, else among the default ones; they stand by falling length. */
+static const struct statics *find_static(const struct node *node, const char *interface, const uint8_t *four) {
     int has_any = 0;
-    for (int i = 0; i < node->static_entries; i++) has_any |= strcmp(node->statics[i].interface, interface) == 0;
-    for (int i = 0; !source->is_six && i < node->static_entries; i++) {
+    for (int i = 0; i < node->static_entries; i++) has_any |= node->statics[i].interface == interface;
+    for (int i = 0; four && i < node->static_entries; i++) {
         const struct statics *entry = &node->statics[i];
-        if (strcmp(entry->interface, has_any ? interface : "") != 0) continue;
-        if ((source->four & entry->mask) == entry->address) return entry;
+        if (entry->interface != (has_any ? interface : anyone)) continue;
+        if ((u32_at(four) & entry->mask) == entry->address) return entry;
     }
     return NULL;
 }
@@ -120,234 +155,150 @@ static int is_outside(const struct node *node, const char *interface, const stru
     return low != high && (!dominates(high, found->low) || !dominates(found->high, high));
 }
 
-/* --- packets ------------------------------------------------------------------------------------------------------------- */
+/* --- a label in other numbers ---------------------------------------------------------------------------------------------- */
 
-/* A packet whose header is right: its label option's place, 0 where there is none, and that of a second one. */
-struct packet {
-    const uint8_t *octets;
-    int is_six, header, total, place, length, second;
-    struct address from, to;
-};
+static int compare(const void *a, const void *b) { return *(const uint16_t *)a - *(const uint16_t *)b; }
 
-static unsigned sum_of(const uint8_t *s, int length) {
-    uint32_t sum = 0;
-    for (int i = 0; i < length; i += 2) sum += u16_at(s + i);
-    while (sum >> 16) sum = (sum & 0xffff) + (sum >> 16);
-    return sum;
-}
-
-static void found_label(struct packet *packet, int place, int length) {
-    if (!packet->place) packet->place = place, packet->length = length;
-    else if (!packet->second) packet->second = place;
-}
-
-static struct denial read_header4(const uint8_t *s, int length, struct packet *packet) {
-    if (length < 20) return at_octet(HEADER, length);
-    int header = (s[0] & 15) * 4, total = u16_at(s + 2);
-    if (header < 20) return at_octet(HEADER, 0);
-    if (total < header || total > length) return at_octet(HEADER, 2);
-    if (sum_of(s, header) != 0xffff) return at_octet(HEADER, 10);
-    *packet = (struct packet){.octets = s, .header = header, .total = total};
-    packet->from.four = u32_at(s + 12);
-    packet->to.four = u32_at(s + 16);
-    for (int at = 20; at < header;) {
-        int size = 1;
-        if (s[at] == 0) break;
-        if (s[at] != 1) {
-            if (at + 1 >= header) return at_octet(HEADER, header);
-            size = s[at + 1];
-            if (size < 2 || at + size > header) return at_octet(HEADER, at + 1);
-            if (s[at] == 134) found_label(packet, at, size);
+/* LEVEL or CATEGORY where a number is in no pair. */
+static struct denial translate(const struct numbers *numbers, const struct label *from, struct label *to) {
+    static uint16_t found[MOST_RUNS];
+    int count = 0, ascends = 1;
+    if (numbers->level[from->level] == NO_NUMBER) return because(LEVEL);
+    for (int i = 0; i < from->runs; i++) {
+        for (int c = from->run[i].first; c <= from->run[i].last; c++) {
+            unsigned n = numbers->category[c];
+            if (n == NO_NUMBER) return with_detail(CATEGORY, c);
+            ascends &= !count || found[count - 1] < n;
+            found[count++] = n;
         }
-        at += size;
     }
+    if (!ascends) qsort(found, count, sizeof *found, compare);
+    to->level = numbers->level[from->level];
+    to->runs = 0;
+    for (int i = 0; i < count; i++) add_last(to, found[i], found[i]);
     return because(NONE);
-}
-
-static struct denial read_header6(const uint8_t *s, int length, struct packet *packet) {
-    if (length < 40) return at_octet(HEADER, length);
-    int payload = u16_at(s + 4), hop = s[6] == 0, jumbo = 0;
-    if (payload > length - 40 || (hop && payload < 8)) return at_octet(HEADER, 4);
-    *packet = (struct packet){.octets = s, .is_six = 1, .total = 40 + payload};
-    packet->from.is_six = packet->to.is_six = 1;
-    memcpy(packet->from.six, s + 8, 16);
-    memcpy(packet->to.six, s + 24, 16);
-    if (!hop) return because(NONE);
-    if ((s[41] + 1) * 8 > payload) return at_octet(HEADER, 41);
-    int end = 40 + (s[41] + 1) * 8;
-    for (int at = 42; at < end;) {
-        int size = 1;
-        if (s[at] != 0) {
-            if (at + 1 >= end) return at_octet(HEADER, end);
-            size = s[at + 1] + 2;
-            if (at + size > end) return at_octet(HEADER, at + 1);
-            if (s[at] == 0xc2 && !jumbo) jumbo = at;
-            if (s[at] == 7) found_label(packet, at, size);
-        }
-        at += size;
-    }
-    return jumbo ? at_octet(HEADER, jumbo) : because(NONE);
-}
-
-static struct denial read_header(const uint8_t *s, int length, struct packet *packet) {
-    int version = length ? s[0] >> 4 : 0;
-    if (version == 4) return read_header4(s, length, packet);
-    if (version == 6) return read_header6(s, length, packet);
-    return at_octet(HEADER, 0);
 }
 
 /* --- the labels of a packet that comes in ----------------------------------------------------------------------------------- */
 
-/* Two labels that are lent for each packet: in the numbers of the wire, and in the node's own. */
-struct room { struct label wire, local; };
+/* Labels that are lent for each packet: in the numbers of the wire it came by, in the node's own, and in those of the wire it leaves by. */
+struct room { struct label wire, local, sent; };
 
-struct incoming { struct protocol carrier; const struct label *low; };
+/* What carries a packet's label, and its labels in the node's numbers. */
+struct incoming { struct protocol carrier; const struct label *low, *high; };
+
+/* The source or the destination of a packet of IPv4; NULL of IPv6. */
+static const uint8_t *source4(const struct packet *packet) { return packet->is_six ? NULL : packet->octets + 12; }
+static const uint8_t *destination4(const struct packet *packet) { return packet->is_six ? NULL : packet->octets + 16; }
+
+static struct denial read_static(const struct node *node, const char *interface, const struct packet *packet, struct incoming *incoming) {
+    if (!node->accepts) return because(UNLABELLED);
+    const struct statics *found = find_static(node, interface, source4(packet));
+    if (!found) return because(STATIC);
+    *incoming = (struct incoming){{UNLBL, 0}, found->low, found->high};
+    return because(NONE);
+}
 
 static struct denial read_label_of(
     const struct node *node, const char *interface, const struct packet *packet, struct room *room, struct incoming *incoming) {
-    incoming->low = &room->local;
-    incoming->carrier = (struct protocol){UNLBL, 0};
-    if (!packet->place) {
-        if (!node->accepts) return because(UNLABELLED);
-        const struct statics *found = find_static(node, interface, &packet->from);
-        if (!found) return because(STATIC);
-        assign(&room->local, found->high);
-        incoming->low = found->low;
-        return because(NONE);
-    }
+    if (!packet->place) return read_static(node, interface, packet, incoming);
     const uint8_t *option = packet->octets + packet->place;
     uint32_t doi;
     int tag = 0, listed = packet->is_six;
     int fault = packet->is_six ? read_calipso(option, packet->length, &room->wire, &doi) : read_cipso(option, packet->length, &room->wire, &doi, &tag);
-    if (fault >= 0) return at_octet(OPTION, packet->place + fault);
-    incoming->carrier = (struct protocol){packet->is_six ? CALIPSO : CIPSO, doi};
+    if (fault >= 0) return with_detail(OPTION, packet->place + fault);
+    *incoming = (struct incoming){{packet->is_six ? CALIPSO : CIPSO, doi}, &room->wire, &room->wire};
     const struct definition *found = find_definition(node, incoming->carrier);
-    if (!found) return at_octet(DOI, packet->place + 2);
+    if (!found) return with_detail(DOI, packet->place + 2);
     for (int i = 0; i < found->tags; i++) listed |= found->tag[i] == tag;
-    if (!listed) return at_octet(TAG, packet->place + 6);
-    assign(&room->local, &room->wire);
-    return because(NONE);
+    if (!listed) return with_detail(TAG, packet->place + 6);
+    if (!found->local) return because(NONE);
+    incoming->low = incoming->high = &room->local;
+    return translate(found->local, &room->wire, &room->local);
 }
 
 static struct denial read_packet(
     const struct node *node, const char *interface, const uint8_t *s, int length, struct packet *packet, struct room *room,
     struct incoming *incoming) {
-    struct denial denial = read_header(s, length, packet);
-    if (denial.why) return denial;
-    if (packet->second) return at_octet(OPTION, packet->second);
+    int fault = read_header(s, length, packet);
+    if (fault >= 0) return with_detail(HEADER, fault);
+    if (packet->second) return with_detail(OPTION, packet->second);
     return read_label_of(node, interface, packet, room, incoming);
 }
 
 /* --- receiving ------------------------------------------------------------------------------------------------------------- */
 
 static struct denial receive(
-    const struct node *node, const char *interface, const uint8_t *s, int length, struct room *room, struct address *to) {
+    const struct node *node, const char *interface, const uint8_t *s, int length, struct room *room, const struct receiver **to,
+    const struct label **label) {
     struct packet packet;
     struct incoming incoming;
     struct denial denial = read_packet(node, interface, s, length, &packet, room, &incoming);
     if (denial.why) return denial;
-    if (is_outside(node, interface, incoming.low, &room->local)) return because(RANGE);
-    *to = packet.to;
-    const struct receiver *found = find_receiver(node, to);
+    if (is_outside(node, interface, incoming.low, incoming.high)) return because(RANGE);
+    const struct receiver *found = packet.is_six ? find_receiver(node, s + 24, 16) : find_receiver(node, s + 16, 4);
     if (!found) return because(RECEIVER);
-    const struct protocol *protocol = find_protocol(node, found->domain, &packet.from);
+    const struct protocol *protocol = find_protocol(node, found->domain, source4(&packet));
     if (!protocol || !is_same(*protocol, incoming.carrier)) return because(REFUSES);
-    if (!dominates(found->level, &room->local)) return because(DOMINATED);
+    if (!dominates(found->level, incoming.high)) return because(DOMINATED);
     if (!dominates(incoming.low, found->low)) return because(BELOW);
+    *to = found;
+    *label = incoming.high;
     return because(NONE);
 }
 
 /* --- a packet written under a protocol ------------------------------------------------------------------------------------- */
 
-static int can_express(int tag, const struct label *label) {
-    int count = 0;
-    if (tag == 1) return !label->runs || label->run[label->runs - 1].last < 240;
-    if (tag == 5) return label->runs <= 7;
-    for (int i = 0; i < label->runs; i++) count += label->run[i].last - label->run[i].first + 1;
-    return count <= 15;
-}
-
-static int put_u16(uint8_t *s, unsigned n) {
-    s[0] = n >> 8;
-    s[1] = n;
-    return 2;
-}
-
-/* The option of a label in a tag that can express it, and its length. */
-static int write_option(uint32_t doi, int tag, const struct label *label, uint8_t *s) {
-    int length = 10;
-    s[0] = 134;
-    put_u16(s + 2, doi >> 16);
-    put_u16(s + 4, doi);
-    s[6] = tag;
-    s[8] = 0;
-    s[9] = label->level;
-    if (tag == 1 && label->runs) {
-        length += label->run[label->runs - 1].last / 8 + 1;
-        memset(s + 10, 0, length - 10);
-        for (int i = 0; i < label->runs; i++) {
-            for (int c = label->run[i].first; c <= label->run[i].last; c++) s[10 + c / 8] |= 0x80 >> c % 8;
-        }
-    }
-    for (int i = 0; tag == 2 && i < label->runs; i++) {
-        for (int c = label->run[i].first; c <= label->run[i].last; c++) length += put_u16(s + length, c);
-    }
-    for (int i = label->runs - 1; tag == 5 && i >= 0; i--) {
-        length += put_u16(s + length, label->run[i].last);
-        if (label->run[i].first) length += put_u16(s + length, label->run[i].first);
-    }
-    s[1] = length;
-    s[7] = length - 6;
-    return length;
-}
-
-static void wrong(const char *what) {
-    fprintf(stderr, "not understood: %s\n", what);
-    exit(2);
-}
-
 /* A packet that was written, and what carries its label. */
 struct written { uint8_t octets[MOST_OCTETS]; int length; struct protocol carrier; };
 
-/* The IPv4 packet with this label under a protocol that fits it: its option first, then the old options but padding and labels. */
-static struct denial write_under(
-    const struct node *node, const struct protocol *protocol, const struct packet *packet, const struct label *label, struct label *wire,
-    int hops, struct written *out) {
+/* The option with this label, and its length, which is 0 under UNLBL; or -1 where none can express it. */
+static int option_under(const struct node *node, const struct protocol *protocol, const struct label *label, struct label *sent, uint8_t *option) {
+    if (protocol->kind == UNLBL) return 0;
+    const struct definition *found = find_definition(node, *protocol);
+    if (!found) return -1;
+    if (found->wire) {
+        if (translate(found->wire, label, sent).why) return -1;
+        label = sent;
+    }
+    for (int i = 0; i < found->tags; i++) {
+        if (can_express(found->tag[i], label)) return write_option(protocol->doi, found->tag[i], label, option);
+    }
+    return -1;
+}
+
+/* The options that stay, behind the new one, if there is room: all but padding and labels. Answers where they end, which may be behind the room. */
+static int keep_options(const struct packet *packet, uint8_t *options, int end) {
     const uint8_t *s = packet->octets;
-    uint8_t option[40];
-    int size = 0, tag = 0;
-    if (protocol->kind == CIPSO) {
-        const struct definition *found = find_definition(node, *protocol);
-        if (!found) return because(EXPRESS);
-        assign(wire, label);
-        for (int i = 0; i < found->tags && !tag; i++) {
-            if (can_express(found->tag[i], wire)) tag = found->tag[i];
-        }
-        if (!tag) return because(EXPRESS);
-        size = write_option(protocol->doi, tag, wire, option);
-    }
-    int kept = size;
     for (int at = 20; at < packet->header && s[at] != 0; at += s[at] == 1 ? 1 : s[at + 1]) {
-        if (s[at] != 1 && s[at] != 134) kept += s[at + 1];
+        if (s[at] == 1 || s[at] == 134) continue;
+        if (end + s[at + 1] <= 40) memcpy(options + end, s + at, s[at + 1]);
+        end += s[at + 1];
     }
-    if (kept > 40) return because(ROOM);
-    int header = 20 + (kept + 3) / 4 * 4, payload = packet->total - packet->header, end = 20 + size;
-    if (payload > 65535 - header) return because(LONG);
+    return end;
+}
+
+/* The IPv4 packet with this label under a protocol that fits it. */
+static struct denial write_under(
+    const struct node *node, const struct protocol *protocol, const struct packet *packet, const struct label *label, struct label *sent,
+    int hops, struct written *out) {
+    uint8_t options[40];
+    int end = option_under(node, protocol, label, sent, options);
+    if (end < 0) return because(EXPRESS);
+    if (packet->header > 20) end = keep_options(packet, options, end);
+    if (end > 40) return because(ROOM);
+    for (; end % 4; end++) options[end] = 0;
+    int header = 20 + end, payload = packet->total - packet->header;
+    if (payload > MOST_OCTETS - header) return because(LONG);
     uint8_t *to = out->octets;
-    memcpy(to, s, 20);
+    memcpy(to, packet->octets, 20);
+    memcpy(to + 20, options, end);
+    memcpy(to + header, packet->octets + packet->header, payload);
     to[0] = 64 + header / 4;
     put_u16(to + 2, header + payload);
     to[8] = hops;
     put_u16(to + 10, 0);
-    memcpy(to + 20, option, size);
-    for (int at = 20; at < packet->header && s[at] != 0; at += s[at] == 1 ? 1 : s[at + 1]) {
-        if (s[at] == 1 || s[at] == 134) continue;
-        memcpy(to + end, s + at, s[at + 1]);
-        end += s[at + 1];
-    }
-    memset(to + end, 0, header - end);
     put_u16(to + 10, 0xffff - sum_of(to, header));
-    memcpy(to + header, s + packet->header, payload);
     out->length = header + payload;
     out->carrier = *protocol;
     return because(NONE);
@@ -362,38 +313,38 @@ static struct denial forward(
     struct incoming incoming;
     struct denial denial = read_packet(node, from, s, length, &packet, room, &incoming);
     if (denial.why) return denial;
-    if (is_outside(node, from, incoming.low, &room->local)) return because(RANGE);
+    if (is_outside(node, from, incoming.low, incoming.high)) return because(RANGE);
     if (s[packet.is_six ? 7 : 8] <= 1) return because(EXPIRED);
-    if (is_outside(node, to, incoming.low, &room->local)) return because(RANGE);
-    const struct protocol *protocol = find_protocol(node, name, &packet.to);
+    if (is_outside(node, to, incoming.low, incoming.high)) return because(RANGE);
+    const struct protocol *protocol = find_protocol(node, name, destination4(&packet));
     if (!protocol) return because(MAP);
     if (protocol->kind == (packet.is_six ? CIPSO : CALIPSO)) return because(PAIR); /* no node has a pair */
     if (packet.is_six) wrong("an IPv6 packet that is written");
-    return write_under(node, protocol, &packet, &room->local, &room->wire, s[8] - 1, out);
+    return write_under(node, protocol, &packet, incoming.high, &room->sent, s[8] - 1, out);
 }
 
 static struct denial send_out(
     const struct node *node, const char *name, const char *interface, const struct label *label, const uint8_t *s, int length,
-    struct label *wire, struct written *out) {
+    struct label *sent, struct written *out) {
     struct packet packet;
-    struct denial denial = read_header(s, length, &packet);
-    if (denial.why) return denial;
-    if (packet.place) return at_octet(LABELLED, packet.place);
+    int fault = read_header(s, length, &packet);
+    if (fault >= 0) return with_detail(HEADER, fault);
+    if (packet.place) return with_detail(LABELLED, packet.place);
     if (is_outside(node, interface, label, label)) return because(RANGE);
-    const struct protocol *protocol = find_protocol(node, name, &packet.to);
+    const struct protocol *protocol = find_protocol(node, name, destination4(&packet));
     if (!protocol) return because(MAP);
     if (protocol->kind == (packet.is_six ? CIPSO : CALIPSO)) return because(VERSION);
     if (packet.is_six) wrong("an IPv6 packet that is written");
-    return write_under(node, protocol, &packet, label, wire, s[8], out);
+    return write_under(node, protocol, &packet, label, sent, s[8], out);
 }
 
 /* --- commands that set the tables ------------------------------------------------------------------------------------------ */
 
 /* A label as text, its categories ascending. */
 static struct label *read_label(const char *text) {
-    struct label *label = calloc(1, sizeof *label);
+    struct label *label = made(sizeof *label);
     char *end;
-    if (!label || *text != 's') wrong(text);
+    if (*text != 's') wrong(text);
     label->level = strtoul(text + 1, &end, 10);
     while (*end == ':' || *end == ',') {
         unsigned first = strtoul(end + 2, &end, 10), last = first;
@@ -406,8 +357,8 @@ static struct label *read_label(const char *text) {
 static void read_both(char *text, struct label **low, struct label **high) {
     char *dash = strchr(text, '-');
     if (dash) *dash = 0;
-    *low = read_label(text);
     *high = read_label(dash ? dash + 1 : text);
+    *low = dash ? read_label(text) : *high;
 }
 
 static uint32_t read_prefix(const char *text, uint32_t *mask) {
@@ -425,15 +376,6 @@ static struct protocol read_protocol(const char *text) {
     return protocol;
 }
 
-static struct address read_address(const char *text) {
-    struct address address = {0, 0, {0}};
-    uint32_t mask;
-    address.is_six = strchr(text, ':') != NULL;
-    if (!address.is_six) address.four = read_prefix(text, &mask);
-    else if (inet_pton(AF_INET6, text, address.six) != 1) wrong(text);
-    return address;
-}
-
 static void add_prefix(struct domain *entry, const char *address, struct protocol protocol) {
     struct prefix prefix;
     int at = entry->prefixes++;
@@ -446,11 +388,11 @@ static void add_prefix(struct domain *entry, const char *address, struct protoco
 static void add_map(struct node *node, const char *name, const char *address, const char *protocol) {
     struct domain *entry = NULL;
     for (int i = 0; i < node->domains; i++) {
-        if (strcmp(node->domain[i].name, name) == 0) entry = &node->domain[i];
+        if (node->domain[i].name == name) entry = &node->domain[i];
     }
     if (!entry) {
         entry = &node->domain[node->domains++];
-        strcpy(entry->name, name);
+        entry->name = name;
     }
     if (*address) add_prefix(entry, address, read_protocol(protocol));
     else entry->plain = read_protocol(protocol);
@@ -459,7 +401,7 @@ static void add_map(struct node *node, const char *name, const char *address, co
 static void add_static(struct node *node, const char *interface, const char *address, char *labels) {
     struct statics entry;
     int at = node->static_entries++;
-    strcpy(entry.interface, interface);
+    entry.interface = interface;
     entry.address = read_prefix(address, &entry.mask);
     read_both(strncmp(labels, "system_u:", 9) == 0 ? strrchr(labels, ':') + 1 : labels, &entry.low, &entry.high);
     for (; at > 0 && node->statics[at - 1].mask < entry.mask; at--) node->statics[at] = node->statics[at - 1];
@@ -468,46 +410,80 @@ static void add_static(struct node *node, const char *interface, const char *add
 
 static void add_receiver(struct node *node, const char *address, const char *domain, char *level) {
     struct receiver *entry = &node->receiver[node->receivers++];
-    strcpy(entry->domain, domain);
-    entry->address = read_address(address);
+    entry->domain = domain;
+    entry->size = strchr(address, ':') ? 16 : 4;
+    if (inet_pton(entry->size == 16 ? AF_INET6 : AF_INET, address, entry->address) != 1) wrong(address);
     if (strchr(level, '-')) read_both(level, &entry->low, &entry->level);
     else entry->low = read_label("s0"), entry->level = read_label(level);
+    unsigned at = slot_of(entry->address, entry->size);
+    while (node->slot[at]) at = (at + 1) % SLOTS;
+    node->slot[at] = node->receivers;
 }
 
-static void add_definition(struct node *node, enum kind kind, uint32_t doi, char *tags) {
+static void add_range(struct node *node, const char *interface, char *labels) {
+    struct range *entry = &node->range[node->ranges++];
+    entry->interface = interface;
+    read_both(labels, &entry->low, &entry->high);
+}
+
+static struct definition *add_definition(struct node *node, enum kind kind, uint32_t doi, char *tags) {
     struct definition *entry = &node->definition[node->definitions++];
     entry->protocol = (struct protocol){kind, doi};
-    for (char *tag = strtok(tags, ","); tag; tag = strtok(NULL, ",")) entry->tag[entry->tags++] = atoi(tag);
+    for (char *tag = tags ? strtok(tags, ",") : NULL; tag; tag = strtok(NULL, ",")) entry->tag[entry->tags++] = atoi(tag);
+    return entry;
+}
+
+/* Sets both ways of each pair, the local number first. */
+static void read_pairs(const char *pairs, uint16_t *wire, uint16_t *local) {
+    for (int is_more = 1; is_more; pairs++) {
+        char *end;
+        unsigned own = strtoul(pairs, &end, 10), other = strtoul(end + 1, &end, 10);
+        wire[own] = other;
+        local[other] = own;
+        pairs = end;
+        is_more = *end == ',';
+    }
+}
+
+static void add_pairs(struct definition *entry, const char *levels, const char *categories) {
+    entry->local = made(sizeof *entry->local);
+    entry->wire = made(sizeof *entry->wire);
+    memset(entry->local, 255, sizeof *entry->local);
+    memset(entry->wire, 255, sizeof *entry->wire);
+    read_pairs(levels, entry->wire->level, entry->local->level);
+    read_pairs(categories, entry->wire->category, entry->local->category);
 }
 
 static int has_default(const struct node *node) {
     for (int i = 0; i < node->domains; i++) {
-        if (!node->domain[i].name[0]) return 1;
+        if (node->domain[i].name == anyone) return 1;
     }
     return 0;
 }
 
 /* Carries out a command, and answers what it replies. */
 static const char *obey(struct node *node, const char *line) {
-    char a[64], b[64], c[999];
+    static char long_word[MOST_LINE];
+    char a[64], b[64], c[64], *d = long_word;
     uint32_t doi;
     if (sscanf(line, "cipsov4 add pass doi:%u tags:%63s", &doi, a) == 2) add_definition(node, CIPSO, doi, a);
-    else if (sscanf(line, "calipso add pass doi:%u", &doi) == 1) add_definition(node, CALIPSO, doi, "");
-    else if (sscanf(line, "map add domain:%63s address:%63s protocol:%63s", a, b, c) == 3) add_map(node, a, b, c);
-    else if (sscanf(line, "map add domain:%63s protocol:%63s", a, c) == 2) add_map(node, a, "", c);
-    else if (sscanf(line, "map add default address:%63s protocol:%63s", b, c) == 2) add_map(node, "", b, c);
-    else if (sscanf(line, "map add default protocol:%63s", c) == 1) add_map(node, "", "", c);
+    else if (sscanf(line, "cipsov4 add trans doi:%u tags:%63s levels:%*s categories:%s", &doi, a, d) == 3) {
+        add_pairs(add_definition(node, CIPSO, doi, a), strstr(line, " levels:") + 8, d);
+    } else if (sscanf(line, "calipso add pass doi:%u", &doi) == 1) add_definition(node, CALIPSO, doi, NULL);
+    else if (sscanf(line, "calipso add trans doi:%u levels:%*s categories:%s", &doi, d) == 2) {
+        add_pairs(add_definition(node, CALIPSO, doi, NULL), strstr(line, " levels:") + 8, d);
+    } else if (sscanf(line, "map add domain:%63s address:%63s protocol:%63s", a, b, c) == 3) add_map(node, name_of(a), b, c);
+    else if (sscanf(line, "map add domain:%63s protocol:%63s", a, c) == 2) add_map(node, name_of(a), "", c);
+    else if (sscanf(line, "map add default address:%63s protocol:%63s", b, c) == 2) add_map(node, anyone, b, c);
+    else if (sscanf(line, "map add default protocol:%63s", c) == 1) add_map(node, anyone, "", c);
     else if (strcmp(line, "map del default") == 0 && !has_default(node)) return "MapUnknown";
     else if (strcmp(line, "mgmt protocols") == 0) return "listed 3\n  unlbl\n  cipsov4\n  calipso";
     else if (strcmp(line, "unlbl accept on") == 0) node->accepts = 1;
-    else if (sscanf(line, "unlbl add interface:%63s address:%63s label:%998s", a, b, c) == 3) add_static(node, a, b, c);
-    else if (sscanf(line, "unlbl add default address:%63s label:%998s", b, c) == 2) add_static(node, "", b, c);
-    else if (sscanf(line, "receiver add address:%63s domain:%63s level:%998s", b, a, c) == 3) add_receiver(node, b, a, c);
-    else if (sscanf(line, "range add interface:%63s range:%998s", a, c) == 2) {
-        struct range *entry = &node->range[node->ranges++];
-        strcpy(entry->interface, a);
-        read_both(c, &entry->low, &entry->high);
-    } else wrong(line);
+    else if (sscanf(line, "unlbl add interface:%63s address:%63s label:%s", a, b, d) == 3) add_static(node, name_of(a), b, d);
+    else if (sscanf(line, "unlbl add default address:%63s label:%s", b, d) == 2) add_static(node, anyone, b, d);
+    else if (sscanf(line, "receiver add address:%63s domain:%63s level:%s", b, a, d) == 3) add_receiver(node, b, name_of(a), d);
+    else if (sscanf(line, "range add interface:%63s range:%s", a, d) == 2) add_range(node, name_of(a), d);
+    else wrong(line);
     return "done";
 }
 
@@ -515,7 +491,7 @@ static const char *obey(struct node *node, const char *line) {
 
 enum { MOST_NODES = 32, MOST_HOPS = 16 };
 
-struct hop { int what; const struct node *node; char a[64], b[64], c[64]; struct label *label; };
+struct hop { int what; const struct node *node; const char *a, *b, *c; struct label *label; };
 
 static struct node *node[MOST_NODES];
 static struct hop hop[MOST_HOPS];
@@ -524,39 +500,45 @@ static uint64_t packets;
 
 static struct node *node_named(const char *name) {
     for (int i = 0; i < nodes; i++) {
-        if (strcmp(node[i]->name, name) == 0) return node[i];
+        if (node[i]->name == name) return node[i];
     }
     return NULL;
 }
 
 static void read_hop(const char *word) {
-    char name[64], label[999];
+    char name[64] = "", a[64] = "", b[64] = "", c[64] = "", label[4096];
     struct hop *h = &hop[hops++];
     h->what = word[0];
-    if (sscanf(word, "send:%63[^,],%63[^,],%63[^,],%998s", name, h->a, h->b, label) == 4) h->label = read_label(label);
-    else if (sscanf(word, "forward:%63[^,],%63[^,],%63[^,],%63s", name, h->a, h->b, h->c) != 4
-        && sscanf(word, "receive:%63[^,],%63s", name, h->a) != 2) wrong(word);
-    h->node = node_named(name);
+    if (sscanf(word, "send:%63[^,],%63[^,],%63[^,],%4095s", name, a, b, label) == 4) h->label = read_label(label);
+    else if (sscanf(word, "forward:%63[^,],%63[^,],%63[^,],%63s", name, a, b, c) != 4
+        && sscanf(word, "receive:%63[^,],%63s", name, a) != 2) wrong(word);
+    h->a = name_of(a), h->b = name_of(b), h->c = name_of(c);
+    h->node = node_named(name_of(name));
     if (!h->node) wrong(word);
 }
 
-/* What is left of a packet: its octets, which it came with where no hop wrote it, and what carries its label. */
-struct walked { struct denial denial; int hop; const uint8_t *octets; int length; struct protocol carrier; int is_delivered; struct address to; };
-
-static struct room room;
+/* What is left of a packet: its octets, which it came with where no hop wrote it, what carries its label, or who received it with which label. */
+struct walked {
+    struct denial denial;
+    int hop, length;
+    const uint8_t *octets;
+    struct protocol carrier;
+    const struct receiver *to;
+    const struct label *label;
+};
 
 static struct walked walk(const uint8_t *s, int length) {
+    static struct room room;
     static struct written written[2];
     struct walked walked = {.octets = s, .length = length};
     for (walked.hop = 1; walked.hop <= hops; walked.hop++) {
         const struct hop *h = &hop[walked.hop - 1];
         struct written *out = &written[walked.hop % 2];
-        if (h->what == 'r') walked.denial = receive(h->node, h->a, walked.octets, walked.length, &room, &walked.to);
+        if (h->what == 'r') walked.denial = receive(h->node, h->a, walked.octets, walked.length, &room, &walked.to, &walked.label);
         else if (h->what == 'f') walked.denial = forward(h->node, h->a, h->b, h->c, walked.octets, walked.length, &room, out);
-        else walked.denial = send_out(h->node, h->a, h->b, h->label, walked.octets, walked.length, &room.wire, out);
+        else walked.denial = send_out(h->node, h->a, h->b, h->label, walked.octets, walked.length, &room.sent, out);
         if (walked.denial.why) return walked;
-        walked.is_delivered = h->what == 'r';
-        if (walked.is_delivered) continue;
+        if (h->what == 'r') continue;
         walked.octets = out->octets;
         walked.length = out->length;
         walked.carrier = out->carrier;
@@ -567,20 +549,22 @@ static struct walked walk(const uint8_t *s, int length) {
 
 /* --- what is printed of a packet --------------------------------------------------------------------------------------------- */
 
-static void write_address(const struct address *address) {
+static void write_address(const uint8_t *address, int size) {
     char six[INET6_ADDRSTRLEN];
-    if (address->is_six) {
-        text(inet_ntop(AF_INET6, address->six, six, sizeof six));
+    if (size == 16) {
+        text(inet_ntop(AF_INET6, address, six, sizeof six));
         return;
     }
-    for (int shift = 24; shift >= 0; shift -= 8) {
-        number(address->four >> shift & 255);
-        if (shift) text(".");
+    for (int i = 0; i < 4; i++) {
+        if (i) text(".");
+        number(address[i]);
     }
 }
 
 static void write_carrier(struct protocol carrier) {
-    text(carrier.kind == UNLBL ? "unlbl" : carrier.kind == CIPSO ? "cipsov4," : "calipso,");
+    if (carrier.kind == UNLBL) text("unlbl");
+    else if (carrier.kind == CIPSO) text("cipsov4,");
+    else text("calipso,");
     if (carrier.kind != UNLBL) number(carrier.doi);
 }
 
@@ -589,9 +573,10 @@ static void write_denial(struct denial denial, int at) {
     number(denial.why);
     text(" ");
     text(names[denial.why]);
-    if (denial.octet >= 0) {
-        text(" octet ");
-        number(denial.octet);
+    if (denial.detail >= 0) {
+        if (denial.why == CATEGORY) text(" category ");
+        else text(" octet ");
+        number(denial.detail);
     }
     text(" hop ");
     number(at);
@@ -606,11 +591,11 @@ static void write_walked(uint64_t count, const struct walked *walked) {
     number(count);
     text(" ");
     if (walked->denial.why) write_denial(walked->denial, walked->hop);
-    else if (walked->is_delivered) {
+    else if (walked->to) {
         text("delivered ");
-        write_label(&room.local);
+        write_label(walked->label);
         text(" to ");
-        write_address(&walked->to);
+        write_address(walked->to->address, walked->to->size);
     } else {
         text("sent ");
         write_carrier(walked->carrier);
@@ -633,8 +618,8 @@ static void put_le(uint32_t n) {
     for (int i = 0; i < 4; i++) kept[keeping++] = n >> 8 * i;
 }
 
-static void hand_on(FILE *output) {
-    if (keeping && fwrite(kept, 1, keeping, output) != keeping) exit(4);
+static void hand_on(int output) {
+    if (output >= 0) write_all(output, kept, keeping);
     keeping = 0;
 }
 
@@ -647,7 +632,7 @@ static void keep_head(int nanos) {
     put_le(101);
 }
 
-static void keep(FILE *output, uint32_t seconds, uint32_t fraction, const struct walked *walked) {
+static void keep(int output, uint32_t seconds, uint32_t fraction, const struct walked *walked) {
     put_le(seconds);
     put_le(fraction);
     put_le(walked->length);
@@ -657,94 +642,43 @@ static void keep(FILE *output, uint32_t seconds, uint32_t fraction, const struct
     if (keeping >= PIECE) hand_on(output);
 }
 
-static void ended(int status, FILE *output) {
-    if (output) {
-        hand_on(output);
-        fclose(output);
-    }
-    if (!status) return;
+static void ended(int status, int output) {
+    hand_on(output);
     flush();
     exit(status);
 }
 
-static void broken(uint64_t octet, const char *kind, FILE *output) {
+static void broken(const struct capture *capture, int output) {
     text("capture ");
     number(flows);
     text(" octet ");
-    number(octet);
+    number(capture->at);
     text(" ");
-    text(kind);
+    text(capture->fault);
     end_line();
     ended(5, output);
 }
 
-/* What the header says: the order of octets, the resolution of times, and the link type. */
-struct link { int little, nanos; uint32_t type; };
-
-static struct link read_link(FILE *file) {
-    uint8_t head[24];
-    struct link link;
-    size_t n = fread(head, 1, 24, file);
-    if (n < 24) broken(n, "Short", NULL);
-    uint32_t magic = order_u32(head, 1);
-    link.little = magic == 0xa1b2c3d4 || magic == 0xa1b23c4d;
-    magic = order_u32(head, link.little);
-    link.nanos = magic == 0xa1b23c4d;
-    if (magic != 0xa1b2c3d4 && magic != 0xa1b23c4d) broken(0, "Magic", NULL);
-    if (order_u32(head + 4, link.little) != (link.little ? 0x00040002u : 0x00020004u)) broken(4, "Version", NULL);
-    link.type = order_u32(head + 20, link.little);
-    if (link.type != 1 && link.type != 101 && link.type != 228 && link.type != 229) broken(20, "LinkType", NULL);
-    return link;
+/* Opens a flow's output and writes its head; -1 where it has none. */
+static int open_output(const char *name, int nanos) {
+    if (strcmp(name, "-") == 0) return -1;
+    int output = open(name, O_WRONLY | O_CREAT | O_TRUNC, 0666);
+    if (output < 0) ended(3, output);
+    keep_head(nanos);
+    return output;
 }
 
-/* Reads a record: its octets, or -1 where the capture ends. */
-static int read_record(FILE *file, int little, uint64_t at, uint8_t *head, uint8_t *frame, FILE *output) {
-    size_t n = fread(head, 1, 16, file);
-    if (n == 0) return -1;
-    if (n < 16) broken(at + n, "Short", output);
-    uint32_t captured = order_u32(head + 8, little);
-    if (captured > MOST_CAPTURED) broken(at + 8, "Captured", output);
-    if (captured < order_u32(head + 12, little)) broken(at + 8, "SnapCut", output);
-    n = fread(frame, 1, captured, file);
-    if (n < captured) broken(at + 16 + n, "Short", output);
-    if (packets++ < MOST_PACKETS) return captured;
-    text("limit packets 1048576");
-    end_line();
-    ended(7, output);
-    return -1;
-}
-
-static void run_flow(const char *input, const char *output_name) {
-    static uint8_t frame[MOST_CAPTURED];
-    uint8_t head[16];
-    uint64_t at = 24, count = 0, passed = 0;
-    FILE *file = fopen(input, "rb"), *output = NULL;
+static void begin_flow(struct capture *capture, const char *input) {
     text("flow ");
     number(++flows);
     text(" ");
     text(input);
     end_line();
-    if (!file) ended(3, NULL);
-    setvbuf(file, NULL, _IOFBF, 65536);
-    struct link link = read_link(file);
-    if (strcmp(output_name, "-") != 0) {
-        output = fopen(output_name, "wb");
-        if (!output) ended(3, NULL);
-        setvbuf(output, NULL, _IONBF, 0);
-        keep_head(link.nanos);
-    }
-    for (int length; (length = read_record(file, link.little, at, head, frame, output)) >= 0;) {
-        at += 16 + length;
-        const uint8_t *packet = ip_part(link.type, frame, &length);
-        struct walked walked = {.denial = because(NOT_IP)};
-        if (packet) walked = walk(packet, length);
-        write_walked(++count, &walked);
-        if (walked.denial.why) continue;
-        passed++;
-        if (output) keep(output, order_u32(head, link.little), order_u32(head + 4, link.little), &walked);
-    }
-    fclose(file);
-    ended(0, output);
+    if (!open_capture(capture, input)) ended(3, -1);
+    if (capture->fault) broken(capture, -1);
+}
+
+static void end_flow(uint64_t count, uint64_t passed) {
     text("end ");
     number(flows);
     text(" packets ");
@@ -754,6 +688,33 @@ static void run_flow(const char *input, const char *output_name) {
     text(" denied ");
     number(count - passed);
     end_line();
+}
+
+static void run_flow(const char *input, const char *output_name) {
+    static struct capture capture;
+    uint64_t count = 0, passed = 0;
+    int length;
+    begin_flow(&capture, input);
+    int output = open_output(output_name, capture.nanos);
+    for (const uint8_t *record; (record = read_record(&capture, &length));) {
+        if (packets++ == MOST_PACKETS) {
+            text("limit packets 1048576");
+            end_line();
+            ended(7, output);
+        }
+        const uint8_t *packet = ip_part(capture.link, record + 16, &length);
+        struct walked walked = {.denial = because(NOT_IP)};
+        if (packet) walked = walk(packet, length);
+        write_walked(++count, &walked);
+        if (walked.denial.why) continue;
+        passed++;
+        if (output >= 0) keep(output, order_u32(record, capture.little), order_u32(record + 4, capture.little), &walked);
+    }
+    if (capture.fault) broken(&capture, output);
+    close(capture.file);
+    hand_on(output);
+    if (output >= 0) close(output);
+    end_flow(count, passed);
 }
 
 /* --- the script ------------------------------------------------------------------------------------------------------------------- */
@@ -767,36 +728,40 @@ static void read_flow(char *line) {
     run_flow(input, output);
 }
 
+static struct node *node_of_line(const char *name) {
+    struct node *found = node_named(name_of(name));
+    if (found) return found;
+    if (nodes == MOST_NODES) wrong(name);
+    found = node[nodes++] = made(sizeof *found);
+    found->name = name_of(name);
+    return found;
+}
+
 static struct node *read_line(char *line, struct node *current) {
     line[strcspn(line, "\n")] = 0;
     if (strncmp(line, "netlabelctl ", 12) == 0) line += 12;
     if (!*line || *line == '#') return current;
-    if (strncmp(line, "node ", 5) == 0) {
-        current = node_named(line + 5);
-        if (current) return current;
-        current = node[nodes++] = calloc(1, sizeof **node);
-        if (!current) exit(6);
-        strcpy(current->name, line + 5);
-    } else if (strncmp(line, "flow ", 5) == 0) read_flow(line);
+    if (strncmp(line, "node ", 5) == 0) return node_of_line(line + 5);
+    if (strncmp(line, "flow ", 5) == 0) read_flow(line);
     else {
         if (flows || !current) wrong(line);
+        const char *reply = obey(current, line);
         text("command ");
         number(++commands);
         text(" ");
         text(current->name);
         text(" ");
-        text(obey(current, line));
+        text(reply);
         end_line();
     }
     return current;
 }
 
 int main(int argc, char **argv) {
-    char line[4096];
+    static char line[MOST_LINE];
     struct node *current = NULL;
     FILE *script = argc == 2 ? fopen(argv[1], "r") : NULL;
     if (!script) return 3;
-    setvbuf(stdout, NULL, _IONBF, 0);
     make_table();
     while (fgets(line, sizeof line, script)) current = read_line(line, current);
     text("done");

@@ -1,29 +1,50 @@
-"""Times `netlabel run` on two scripts over 1,000,000 packets beside a plain C program that does the same on one thread (bench/run.c).
+"""Times `netlabel run` beside a plain C program that does the same on one thread (bench/run.c), and measures its memory.
 
-    python3 bench/run.py [--packets N] [--runs N] [--keep FOLDER]
+    python3 bench/run.py [--packets N] [--runs N] [--only WORD] [--calls] [--keep FOLDER] [--program PROGRAM]
 
-The first script has one hop, a firewall that receives: labelled packets of both versions, packets without a label, some of which a static
-entry labels, broken headers and options, and frames that aren't IP. The second has two hops: packets without a label are labelled with
-CIPSO, go over a gateway that labels them under another DOI, and are written to an output; some can't be. Report and output are
-compared octet by octet, with 1 worker and with 4. A time is the least of several runs, the programs in turn, with the report thrown away: processor
-time, and beside it the time that passed. Memory is the most that the process held, in a run of its own.
+The program is the one that `./prove` proves and builds, or another build of it. A row is a script with one flow, whose capture has 1,000,000 packets,
+or fewer where the lines of a report are long:
+
+one hop         a firewall receives: labelled packets of both versions, packets without a label, some of which a static entry labels, broken headers
+                and options, frames that aren't IP
+two hops        packets without a label are labelled with CIPSO, and go over a gateway that labels them under another DOI; some can't be
+two translate   the same, with other numbers under each DOI
+four, sixteen   gateways in a row that label packets of all tag types under another DOI each, and a receiver behind them
+runs            each packet is delivered with a label of so many runs of categories: in CIPSO's tag 1 up to 120, in CALIPSO up to 976; 1,952 by a
+                definition that translates, or by a static entry
+receivers       labelled packets to so many receivers with different levels
+other work      one hop and four while all processors but one are busy with other work
+
+Where a name has "output", what passed is written to a capture. Reports and outputs of C and of the program with 1, 2 and 4 workers are compared
+octet by octet first. A time is the least of several runs, the programs in turn, with the report thrown away; the process's start is in it. Memory
+is the most that the process held, and system calls are counted, both in runs of their own.
 """
-import argparse
-import filecmp
-import os
 import pathlib
-import random
-import subprocess
-import tempfile
+from typing import Callable, NamedTuple
 
+import beside
+import frames
 import scratch
-import show
-from packets import header4
 
-TOP = scratch.TOP
-PROGRAM = show.PROGRAM
+PROGRAMS = ("C", "1", "2", "4")
+WORKERS = PROGRAMS[1:]
 
-RECEIVE = """node fw
+
+class Row(NamedTuple):
+    """A flow that is measured: its script, the frames of its capture, and the part of the packets that are asked for."""
+
+    name: str
+    script: str
+    frame: Callable
+    part: int = 1
+    has_other_work: bool = False
+
+
+# --- scripts and frames -----------------------------------------------------------------------------------------------------------------------
+
+
+def receiving(output="-"):
+    return f"""node fw
 cipsov4 add pass doi:16 tags:1,2,5
 calipso add pass doi:16
 map add default address:10.0.0.0/8 protocol:cipsov4,16
@@ -35,111 +56,186 @@ receiver add address:10.0.0.2 domain:httpd_t level:s6:c0.c65534
 receiver add address:10.0.0.53 domain:named_t level:s0
 receiver add address:fd00::2 domain:six_t level:s6:c0.c1951
 range add interface:eth0 range:s0-s7:c0.c65534
-flow in.pcap - receive:fw,eth0
+flow in.pcap {output} receive:fw,eth0
 """
 
-SEND = """node a
-cipsov4 add pass doi:16 tags:1,2
+
+def some_plain(plain):
+    """Mixed frames, and in so many cases of a hundred one with a packet without a label."""
+    def frame(chance):
+        if chance.randrange(100) >= plain:
+            return frames.mixed(chance)
+        return frames.framed(chance, frames.plain4(chance))
+    return frame
+
+
+def sending(output="-", under=("pass doi:16 tags:1,2", "pass doi:16 tags:1,2", "pass doi:17 tags:2,5")):
+    """A host and a gateway, with the definitions of the host, and of the gateway for either side."""
+    return f"""node a
+cipsov4 add {under[0]}
 map add domain:app_t address:10.0.0.0/8 protocol:cipsov4,16
 range add interface:eth0 range:s0-s3:c0.c1023
 node g
-cipsov4 add pass doi:16 tags:1,2
-cipsov4 add pass doi:17 tags:2,5
+cipsov4 add {under[1]}
+cipsov4 add {under[2]}
 map add default protocol:cipsov4,17
 range add interface:eth1 range:s0-s3:c0.c1023
-flow in.pcap out.pcap send:a,app_t,eth0,s2:c1,c3,c200 forward:g,eth0,eth1,any
+flow in.pcap {output} send:a,app_t,eth0,s2:c1,c3,c200 forward:g,eth0,eth1,any
 """
 
 
-def plain4(chance):
-    """A packet without a label between chosen addresses."""
-    between = chance.choice(("0a000001", "0a000009", "c0a80709", "ac100001")) + chance.choice(("0a000002", "0a000002", "0a000035", "0a000077"))
-    payload = chance.randbytes(chance.choice((8, 40, 100, 300)))
-    head = header4(chance.randrange(65536), b"", 28 + len(payload), chance.choice((1, 64, 64, 64, 64, 255)), between)
-    return head + bytes.fromhex("03e80035") + (8 + len(payload)).to_bytes(2, "big") + bytes(2) + payload
+def shifted(doi, by, tags="1,2"):
+    """A definition that translates: on the wire each level is one higher, and each of 256 categories is higher by so many."""
+    levels = ",".join(f"{level}={level + 1}" for level in range(8))
+    categories = ",".join(f"{category}={category + by}" for category in range(256))
+    return f"trans doi:{doi} tags:{tags} levels:{levels} categories:{categories}"
 
 
-def frame(chance, plain):
-    """A frame of bench/show.py, or in so many cases of a hundred one with a packet without a label."""
-    if chance.randrange(100) >= plain:
-        return show.frame(chance)
-    return chance.randbytes(12) + b"\x08\x00" + plain4(chance)
+def row_of_gateways(hops, output="-"):
+    """Gateways that take DOI 16 and give 17, or the other way about, and a receiver behind them."""
+    lines = []
+    for n in range(1, hops):
+        to = 16 + n % 2
+        lines += [f"node g{n}", "cipsov4 add pass doi:16 tags:1,2,5", "cipsov4 add pass doi:17 tags:1,2,5",
+                  f"map add default protocol:cipsov4,{to}", "range add interface:eth0 range:s0-s6:c0.c65534"]
+    lines += ["node r", f"cipsov4 add pass doi:{16 + (hops - 1) % 2} tags:1,2,5", f"map add default protocol:cipsov4,{16 + (hops - 1) % 2}",
+              "receiver add address:10.0.0.2 domain:httpd_t level:s5:c0.c65534", "range add interface:eth0 range:s0-s7:c0.c65534"]
+    way = " ".join(f"forward:g{n},eth0,eth1,any" for n in range(1, hops))
+    return "\n".join([*lines, f"flow in.pcap {output} {way} receive:r,eth0", ""])
 
 
-def make_capture(path, packets, plain):
-    chance = random.Random(11)
-    records = []
-    for n in range(show.FRAMES):
-        octets = frame(chance, plain)
-        size = len(octets).to_bytes(4, "little")
-        records.append(n.to_bytes(4, "little") + (n % 1000).to_bytes(4, "little") + size + size + octets)
-    with path.open("wb") as file:
-        file.write(bytes.fromhex("d4c3b2a102000400000000000000000000000400" "01000000"))
-        while packets:
-            count = min(packets, 50_000)
-            file.write(b"".join(chance.choices(records, k=count)))
-            packets -= count
+def for_gateways(chance):
+    """Labelled packets of IPv4, and some that are denied at the first gateway."""
+    if chance.randrange(10) == 0:
+        return frames.mixed(chance)
+    return frames.framed(chance, frames.packet4(chance, frames.cipso(chance, (16,))))
 
 
-def compared(commands):
-    """Runs each program once, and answers the status, the report's octets and how many the output has, which are the same for all."""
-    left = {}
-    for name, command in commands.items():
-        output = pathlib.Path("out.pcap")
-        output.unlink(missing_ok=True)
-        with open(f"{name}.txt", "wb") as out:
-            status = subprocess.run(command, stdout=out, stdin=subprocess.DEVNULL).returncode
-        left[name] = status, output.rename(f"{name}.pcap") if output.exists() else None
-    status, output = left["C"]
-    for name, (own, made) in left.items():
-        if own != status or not filecmp.cmp(f"{name}.txt", "C.txt", shallow=False):
-            raise SystemExit(f"the report of {name} differs (status {own}, in C {status})")
-        if (made is None) != (output is None) or (output and not filecmp.cmp(made, output, shallow=False)):
-            raise SystemExit(f"the output of {name} differs")
-    return status, pathlib.Path("C.txt").read_bytes(), output.stat().st_size if output else 0
+def delivering(*commands):
+    """A node that delivers whatever it understands."""
+    lines = ["node fw", *commands, "receiver add address:10.0.0.2 domain:httpd_t level:s7:c0.c65534",
+             "receiver add address:fd00::2 domain:six_t level:s7:c0.c65534", "range add interface:eth0 range:s0-s7:c0.c65534"]
+    return "\n".join([*lines, "flow in.pcap - receive:fw,eth0", ""])
 
 
-def bench(title, script, plain, asked, folder):
-    pathlib.Path("script").write_text(script)
-    make_capture(pathlib.Path("in.pcap"), asked.packets, plain)
-    commands = {"C": [folder / "c", "script"]}
-    commands |= {name: [asked.program, "run", "script", "-w", name.split()[0]] for name in ("1 worker", "4 workers")}
-    status, report, output = compared(commands)
-    print(f"{title}: {os.path.getsize('in.pcap') / 1e6:.0f} MB; all reports are the same {len(report):,} octets, all outputs the same {output:,}")
-    print(report.decode().splitlines()[-2] if status == 0 else f"status {status}, so no times")
-    if status:
-        return
-    least = {}
-    for _ in range(asked.runs):
-        for name, command in commands.items():
-            took = show.run(command, subprocess.DEVNULL)
-            least[name] = [min(pair) for pair in zip(took, least.get(name, took))]
-    print(f"{'':<12}{'processor':>12}{'passed':>12}{'memory':>12}{'of C: processor':>18}{'passed':>9}")
-    for name, (processor, passed) in least.items():
-        memory = show.memory(commands[name], len(report))
-        ratios = f"{processor / least['C'][0]:>18.2f}{passed / least['C'][1]:>9.2f}"
-        print(f"{name:<12}{processor * 1000:>9.0f} ms{passed * 1000:>9.0f} ms{memory / 1e6:>9.1f} MB{ratios}")
-    print(f"of the time that passes with 1 worker, 4 take {least['4 workers'][1] / least['1 worker'][1]:.2f}")
+PASSING = delivering("cipsov4 add pass doi:16 tags:1", "calipso add pass doi:16", "map add domain:httpd_t protocol:cipsov4,16",
+                     "map add domain:six_t protocol:calipso,16")
+
+
+def spread(runs):
+    """A definition of CALIPSO under which so many neighbouring categories on the wire are no neighbours in the node's numbers."""
+    categories = ",".join(f"{2 * category}={category}" for category in range(runs))
+    return delivering(f"calipso add trans doi:16 levels:{','.join(f'{level}={level}' for level in range(8))} categories:{categories}",
+                      "map add domain:six_t protocol:calipso,16")
+
+
+def of_one_run(categories):
+    """Packets of IPv6 that have so many categories, a multiple of 32, in one run."""
+    def frame(chance):
+        option = frames.calipso_option(chance.randrange(4), bytes([255]) * (categories // 8))
+        return frames.framed(chance, frames.packet6(chance, option), frames.TYPE6)
+    return frame
+
+
+def static(runs):
+    """An entry that gives packets without a label one of so many runs."""
+    label = "s1:" + ",".join(f"c{2 * run}" for run in range(runs))
+    return delivering("map add domain:httpd_t protocol:unlbl", "unlbl accept on", f"unlbl add interface:eth0 address:10.0.0.0/8 label:{label}")
+
+
+def unlabelled(chance):
+    return frames.framed(chance, frames.packet4(chance, b""))
+
+
+def receivers(count):
+    """So many receivers in four domains, with four levels."""
+    lines = ["node fw", "cipsov4 add pass doi:16 tags:1,2,5"]
+    lines += [f"map add domain:d{n} address:10.0.0.0/8 protocol:cipsov4,16" for n in range(4)]
+    lines += [f"receiver add address:10.0.1.{n} domain:d{n % 4} level:s{4 + n // 4 % 4}:c0.c65534" for n in range(count)]
+    return "\n".join([*lines, "range add interface:eth0 range:s0-s7:c0.c65534", "flow in.pcap - receive:fw,eth0", ""])
+
+
+def for_receivers(count):
+    def frame(chance):
+        between = f"0a0000010a0001{chance.randrange(count):02x}"
+        return frames.framed(chance, frames.packet4(chance, frames.cipso(chance, (16,)), between))
+    return frame
+
+
+TRANSLATING = (shifted(16, 4), shifted(16, 4), shifted(17, 8, "2,5"))
+
+ROWS = [
+    Row("one hop", receiving(), some_plain(30)),
+    Row("one hop, output", receiving("out.pcap"), some_plain(30)),
+    Row("two hops", sending(), some_plain(75)),
+    Row("two hops, output", sending("out.pcap"), some_plain(75)),
+    Row("two hops translate, output", sending("out.pcap", TRANSLATING), some_plain(75)),
+    Row("four hops", row_of_gateways(4), for_gateways),
+    Row("four hops, output", row_of_gateways(4, "out.pcap"), for_gateways),
+    Row("sixteen hops", row_of_gateways(16), for_gateways, 2),
+    Row("2 runs", PASSING, frames.of_runs(2)),
+    Row("120 runs", PASSING, frames.of_runs(120), 5),
+    Row("240 runs", PASSING, frames.of_runs(240), 10),
+    Row("976 runs", PASSING, frames.of_runs(976), 50),
+    Row("1,952 runs, translated", spread(1952), of_one_run(1952), 100),
+    Row("1,952 runs, static", static(1952), unlabelled, 100),
+    Row("8 receivers", receivers(8), for_receivers(8)),
+    Row("256 receivers", receivers(256), for_receivers(256)),
+    Row("one hop, other work", receiving(), some_plain(30), has_other_work=True),
+    Row("four hops, other work", row_of_gateways(4), for_gateways, has_other_work=True),
+]
+
+
+# --- measuring --------------------------------------------------------------------------------------------------------------------------------
+
+
+def print_head(has_calls):
+    of_times = ["C", "`-w 1`", "`-w 2`", "`-w 4`", "`-w 1` to C", "`-w 4` to `-w 1`"]
+    counted = ["C", "`-w 1`", "`-w 4`"]
+    cells = ["Flow", "Packets", f"Elapsed: {of_times[0]}", *of_times[1:], f"CPU: {of_times[0]}", *of_times[1:], f"Memory: {counted[0]}", *counted[1:]]
+    if has_calls:
+        cells += [f"System calls: {counted[0]}", *counted[1:]]
+    beside.print_head(cells)
+
+
+def cells_of_times(seconds, packets):
+    """Nanoseconds a packet of each program, and the ratios."""
+    cells = [f"{seconds[name] / packets * 1e9:,.0f}" for name in PROGRAMS]
+    return [*cells, f"{seconds['1'] / seconds['C']:.2f}", f"{seconds['4'] / seconds['1']:.2f}"]
+
+
+def measured(row, packets, runs, commands):
+    busy = beside.processors() - 1 if row.has_other_work else 0
+    with beside.other_work(busy):
+        took = beside.least(commands, runs)
+    elapsed, processor = ({name: both[which] for name, both in took.items()} for which in (1, 0))
+    return [f"{packets:,}", *cells_of_times(elapsed, packets), *cells_of_times(processor, packets)]
+
+
+def bench(row, asked, plain):
+    pathlib.Path("script").write_text(row.script)
+    packets = max(asked.packets // row.part, 1)
+    frames.write_capture(pathlib.Path("in.pcap"), row.frame, packets, 11)
+    commands = {"C": [plain, "script"]} | {count: [asked.program, "run", "script", "-w", count] for count in WORKERS}
+    size = beside.compared(commands).report.stat().st_size
+    cells = [row.name, *measured(row, packets, asked.runs, commands)]
+    counted = [commands[name] for name in ("C", "1", "4")]
+    cells += [f"{beside.memory(command, size) / 1e6:.1f}" for command in counted]
+    if asked.calls:
+        cells += [f"{beside.calls(command):,}" for command in counted]
+    beside.print_row(cells)
 
 
 def main():
-    options = argparse.ArgumentParser(description=__doc__, formatter_class=argparse.RawDescriptionHelpFormatter)
-    options.add_argument("--packets", type=int, default=1_000_000)
-    options.add_argument("--runs", type=int, default=9)
-    options.add_argument("--keep", metavar="FOLDER", help="make the files in this folder and leave them there")
-    options.add_argument("--program", default=PROGRAM, type=pathlib.Path, help="another build of the program")
-    asked = options.parse_args()
-    if asked.program == PROGRAM:
-        subprocess.run([TOP / "netlabel"], stdout=subprocess.DEVNULL)  # builds it where it isn't built
-    asked.program = asked.program.resolve()
-    with tempfile.TemporaryDirectory() as made:
-        folder = pathlib.Path(asked.keep or made).resolve()
-        folder.mkdir(exist_ok=True)
-        subprocess.run(["cc", "-O2", "-o", folder / "c", TOP / "bench/run.c"], check=True)
-        os.chdir(folder)
-        print(f"the least of {asked.runs} runs of {asked.packets:,} packets, the report thrown away; {scratch.load()}")
-        bench("one hop receives", RECEIVE, 30, asked, folder)
-        bench("two hops send and forward", SEND, 75, asked, folder)
+    asked = beside.asked(__doc__)
+    with beside.working_in(asked.keep) as folder:
+        plain = beside.built_c("run", folder)
+        print(f"nanoseconds a packet, the least of {asked.runs} runs; memory in MB; {scratch.load()}\n")
+        print_head(asked.calls)
+        for row in ROWS:
+            if asked.only in row.name:
+                bench(row, asked, plain)
+    print(f"\nat the end: {scratch.load()}")
 
 
 if __name__ == "__main__":

@@ -1,38 +1,49 @@
-/* What the C programs of the benchmarks share: the report, labels, label options, and what a capture's octets say. */
+/* What the C programs of the benchmarks share: the report, labels, label options, headers, options that are written, and captures. */
+#include <arpa/inet.h>
+#include <fcntl.h>
 #include <stdint.h>
 #include <stdio.h>
 #include <stdlib.h>
 #include <string.h>
+#include <unistd.h>
 
-enum { MOST_CAPTURED = 262144, MOST_PACKETS = 1048576, MOST_RUNS = 1952, PIECE = 16384 };
+enum { MOST_CAPTURED = 262144, MOST_PACKETS = 1048576, MOST_RUNS = 1952, MOST_OCTETS = 65535, PIECE = 16384, READ = 65536 };
 
 /* --- the report ---------------------------------------------------------------------------------------------------------- */
 
 static char out[65536];
 static size_t waiting;
 
+static void write_all(int file, const void *octets, size_t length) {
+    for (ssize_t n; length; octets = (const char *)octets + n, length -= n) {
+        n = write(file, octets, length);
+        if (n < 0) exit(4);
+    }
+}
+
 static void flush(void) {
-    if (fwrite(out, 1, waiting, stdout) != waiting) exit(4);
+    write_all(1, out, waiting);
     waiting = 0;
 }
 
 /* A line has at most some 25,000 octets: 1,952 runs of at most 13 each. */
-static void text(const char *s) {
-    size_t n = strlen(s);
+static void append(const char *s, size_t n) {
     memcpy(out + waiting, s, n);
     waiting += n;
 }
 
-static void number(uint64_t n) {
-    char digits[20];
-    int first = 20;
-    do {
-        digits[--first] = '0' + n % 10;
-        n /= 10;
-    } while (n);
-    memcpy(out + waiting, digits + first, 20 - first);
-    waiting += 20 - first;
+/* As a macro, so that the length of a literal is known where it is appended. */
+#define text(s) append(s, strlen(s))
+
+/* Puts a number's digits at a place, and answers the place behind them. */
+static char *put_number(char *to, uint64_t n) {
+    int digits = 1;
+    for (uint64_t power = 10; digits < 20 && n >= power; power *= 10) digits++;
+    for (int at = digits; at--; n /= 10) to[at] = '0' + n % 10;
+    return to + digits;
 }
+
+static void number(uint64_t n) { waiting = put_number(out + waiting, n) - out; }
 
 static void end_line(void) {
     out[waiting++] = '\n';
@@ -53,12 +64,6 @@ static void add_last(struct label *label, unsigned first, unsigned last) {
     }
 }
 
-static void assign(struct label *to, const struct label *from) {
-    to->level = from->level;
-    to->runs = from->runs;
-    memcpy(to->run, from->run, from->runs * sizeof from->run[0]);
-}
-
 static int dominates(const struct label *a, const struct label *b) {
     if (b->level > a->level) return 0;
     for (int i = 0, k = 0; k < b->runs;) {
@@ -70,21 +75,22 @@ static int dominates(const struct label *a, const struct label *b) {
     return 1;
 }
 
+static char *put_run(char *to, char separator, struct run run) {
+    *to++ = separator;
+    *to++ = 'c';
+    to = put_number(to, run.first);
+    if (run.last == run.first) return to;
+    *to++ = run.last - run.first == 1 ? ',' : '.';
+    *to++ = 'c';
+    return put_number(to, run.last);
+}
+
 static void write_label(const struct label *label) {
-    char separator = ':';
-    text("s");
-    number(label->level);
-    for (int i = 0; i < label->runs; i++) {
-        unsigned first = label->run[i].first, last = label->run[i].last;
-        out[waiting++] = separator;
-        out[waiting++] = 'c';
-        number(first);
-        if (last > first) {
-            text(last - first == 1 ? ",c" : ".c");
-            number(last);
-        }
-        separator = ',';
-    }
+    char *to = out + waiting;
+    *to++ = 's';
+    to = put_number(to, label->level);
+    for (int i = 0; i < label->runs; i++) to = put_run(to, i ? ',' : ':', label->run[i]);
+    waiting = to - out;
 }
 
 /* --- label options: -1, or the octet of the first fault ----------------------------------------------------------------- */
@@ -92,12 +98,29 @@ static void write_label(const struct label *label) {
 static unsigned u16_at(const uint8_t *s) { return s[0] << 8 | s[1]; }
 static uint32_t u32_at(const uint8_t *s) { return (uint32_t)u16_at(s) << 16 | u16_at(s + 2); }
 
+static int put_u16(uint8_t *s, unsigned n) {
+    s[0] = n >> 8;
+    s[1] = n;
+    return 2;
+}
+
+/* Up to four octets as one number, the first the most significant. */
+static uint32_t bits_at(const uint8_t *s, int octets) {
+    if (octets >= 4) return u32_at(s);
+    uint32_t bits = 0;
+    for (int i = 0; i < octets; i++) bits |= (uint32_t)s[i] << (24 - 8 * i);
+    return bits;
+}
+
+/* Of 32 bits at a time a run of ones after another: where it begins the bit before is 0, where it ends the bit behind. */
 static void read_bitmap(const uint8_t *bitmap, int octets, struct label *label) {
-    for (int i = 0; i < octets; i++) {
-        for (unsigned bits = bitmap[i]; bits;) {
-            int bit = __builtin_clz(bits) - 24;
-            add_last(label, 8 * i + bit, 8 * i + bit);
-            bits &= ~(0x80u >> bit);
+    for (int i = 0; i < octets; i += 4) {
+        uint32_t bits = bits_at(bitmap + i, octets - i), firsts = bits & ~(bits >> 1), lasts = bits & ~(bits << 1);
+        while (firsts) {
+            int first = __builtin_clz(firsts), last = __builtin_clz(lasts);
+            add_last(label, 8 * i + first, 8 * i + last);
+            firsts &= ~(0x80000000 >> first);
+            lasts &= ~(0x80000000 >> last);
         }
     }
 }
@@ -185,7 +208,195 @@ static int read_calipso(const uint8_t *s, int length, struct label *label, uint3
     return -1;
 }
 
+/* --- an option that is written ------------------------------------------------------------------------------------------- */
+
+static int can_express(int tag, const struct label *label) {
+    int count = 0;
+    if (tag == 1) return !label->runs || label->run[label->runs - 1].last < 240;
+    if (tag == 5) return label->runs <= 7;
+    for (int i = 0; i < label->runs && count <= 15; i++) count += label->run[i].last - label->run[i].first + 1;
+    return count <= 15;
+}
+
+/* The option of a label in a tag that can express it, and its length. */
+static int write_option(uint32_t doi, int tag, const struct label *label, uint8_t *s) {
+    int length = 10;
+    s[0] = 134;
+    put_u16(s + 2, doi >> 16);
+    put_u16(s + 4, doi);
+    s[6] = tag;
+    s[8] = 0;
+    s[9] = label->level;
+    if (tag == 1 && label->runs) {
+        length += label->run[label->runs - 1].last / 8 + 1;
+        memset(s + 10, 0, length - 10);
+        for (int i = 0; i < label->runs; i++) {
+            for (int c = label->run[i].first; c <= label->run[i].last; c++) s[10 + c / 8] |= 0x80 >> c % 8;
+        }
+    }
+    for (int i = 0; tag == 2 && i < label->runs; i++) {
+        for (int c = label->run[i].first; c <= label->run[i].last; c++) length += put_u16(s + length, c);
+    }
+    for (int i = label->runs - 1; tag == 5 && i >= 0; i--) {
+        length += put_u16(s + length, label->run[i].last);
+        if (label->run[i].first) length += put_u16(s + length, label->run[i].first);
+    }
+    s[1] = length;
+    s[7] = length - 6;
+    return length;
+}
+
+/* --- headers: -1, or the octet of the first fault ------------------------------------------------------------------------ */
+
+/* A packet whose header is right: its label option's place, 0 where there is none, and that of a second one. */
+struct packet { const uint8_t *octets; int is_six, header, total, place, length, second; };
+
+/* The one's complement sum of octets, a multiple of four of them: in any order of octets it is the same, in that order. */
+static unsigned sum_of(const uint8_t *s, int length) {
+    uint64_t sum = 0;
+    for (int i = 0; i < length; i += 4) {
+        uint32_t word;
+        memcpy(&word, s + i, 4);
+        sum += word;
+    }
+    while (sum >> 16) sum = (sum & 0xffff) + (sum >> 16);
+    return ntohs(sum);
+}
+
+static void found_label(struct packet *packet, int place, int length) {
+    if (!packet->place) packet->place = place, packet->length = length;
+    else if (!packet->second) packet->second = place;
+}
+
+static int read_header4(const uint8_t *s, int length, struct packet *packet) {
+    if (length < 20) return length;
+    int header = (s[0] & 15) * 4, total = u16_at(s + 2);
+    if (header < 20) return 0;
+    if (total < header || total > length) return 2;
+    if (sum_of(s, header) != 0xffff) return 10;
+    *packet = (struct packet){.octets = s, .header = header, .total = total};
+    for (int at = 20; at < header;) {
+        int size = 1;
+        if (s[at] == 0) break;
+        if (s[at] != 1) {
+            if (at + 1 >= header) return header;
+            size = s[at + 1];
+            if (size < 2 || at + size > header) return at + 1;
+            if (s[at] == 134) found_label(packet, at, size);
+        }
+        at += size;
+    }
+    return -1;
+}
+
+static int read_header6(const uint8_t *s, int length, struct packet *packet) {
+    if (length < 40) return length;
+    int payload = u16_at(s + 4), hop = s[6] == 0, jumbo = -1;
+    if (payload > length - 40 || (hop && payload < 8)) return 4;
+    *packet = (struct packet){.octets = s, .is_six = 1, .header = 40, .total = 40 + payload};
+    if (!hop) return -1;
+    if ((s[41] + 1) * 8 > payload) return 41;
+    int end = 40 + (s[41] + 1) * 8;
+    for (int at = 42; at < end;) {
+        int size = 1;
+        if (s[at] != 0) {
+            if (at + 1 >= end) return end;
+            size = s[at + 1] + 2;
+            if (at + size > end) return at + 1;
+            if (s[at] == 0xc2 && jumbo < 0) jumbo = at;
+            if (s[at] == 7) found_label(packet, at, size);
+        }
+        at += size;
+    }
+    packet->header = end;
+    return jumbo;
+}
+
+static int read_header(const uint8_t *s, int length, struct packet *packet) {
+    int version = length ? s[0] >> 4 : 0;
+    if (version == 4) return read_header4(s, length, packet);
+    if (version == 6) return read_header6(s, length, packet);
+    return 0;
+}
+
 /* --- captures ------------------------------------------------------------------------------------------------------------- */
+
+/* A capture that is read: what its header says, how far it was read, what was at fault there, and octets that wait. */
+struct capture {
+    int file, little, nanos;
+    uint32_t link;
+    uint64_t at;
+    const char *fault;
+    size_t next, end;
+    uint8_t octets[16 + MOST_CAPTURED + READ];
+};
+
+static uint32_t order_u32(const uint8_t *s, int little) {
+    return little ? s[0] | s[1] << 8 | s[2] << 16 | (uint32_t)s[3] << 24 : u32_at(s);
+}
+
+/* How many octets wait, up to so many that are wanted: fewer where the file ends. */
+static size_t fetch(struct capture *capture, size_t wanted) {
+    if (capture->end - capture->next < wanted) {
+        memmove(capture->octets, capture->octets + capture->next, capture->end - capture->next);
+        capture->end -= capture->next;
+        capture->next = 0;
+        for (ssize_t n = 1; n > 0 && capture->end < wanted; capture->end += n) {
+            n = read(capture->file, capture->octets + capture->end, READ);
+            if (n < 0) exit(3);
+        }
+    }
+    return capture->end - capture->next < wanted ? capture->end - capture->next : wanted;
+}
+
+static void is_bad(struct capture *capture, uint64_t octet, const char *fault) {
+    capture->at = octet;
+    capture->fault = fault;
+}
+
+/* Opens a capture and reads its header; 0 where it can't be opened. */
+static int open_capture(struct capture *capture, const char *name) {
+    capture->file = open(name, O_RDONLY);
+    if (capture->file < 0) return 0;
+    capture->fault = NULL;
+    capture->next = capture->end = 0;
+    size_t n = fetch(capture, 24);
+    const uint8_t *head = capture->octets;
+    uint32_t magic = order_u32(head, 1);
+    capture->little = magic == 0xa1b2c3d4 || magic == 0xa1b23c4d;
+    magic = order_u32(head, capture->little);
+    capture->nanos = magic == 0xa1b23c4d;
+    capture->link = order_u32(head + 20, capture->little);
+    int is_known = capture->link == 1 || capture->link == 101 || capture->link == 228 || capture->link == 229;
+    if (n < 24) is_bad(capture, n, "Short");
+    else if (magic != 0xa1b2c3d4 && magic != 0xa1b23c4d) is_bad(capture, 0, "Magic");
+    else if (order_u32(head + 4, capture->little) != (capture->little ? 0x00040002u : 0x00020004u)) is_bad(capture, 4, "Version");
+    else if (!is_known) is_bad(capture, 20, "LinkType");
+    else capture->at = capture->next = 24;
+    return 1;
+}
+
+/* The next record, its header first, or NULL where the capture ends or is at fault. It stays until the next one is read. */
+static const uint8_t *read_record(struct capture *capture, int *length) {
+    size_t n = fetch(capture, 16);
+    if (n == 0) return NULL;
+    const uint8_t *head = capture->octets + capture->next;
+    uint32_t captured = n < 16 ? 0 : order_u32(head + 8, capture->little);
+    if (n < 16) is_bad(capture, capture->at + n, "Short");
+    else if (captured > MOST_CAPTURED) is_bad(capture, capture->at + 8, "Captured");
+    else if (captured < order_u32(head + 12, capture->little)) is_bad(capture, capture->at + 8, "SnapCut");
+    if (capture->fault) return NULL;
+    n = fetch(capture, 16 + captured);
+    if (n < 16 + captured) {
+        is_bad(capture, capture->at + n, "Short");
+        return NULL;
+    }
+    head = capture->octets + capture->next;
+    capture->next += 16 + captured;
+    capture->at += 16 + captured;
+    *length = captured;
+    return head;
+}
 
 /* The packet of a frame, or NULL where it isn't IP. */
 static const uint8_t *ip_part(uint32_t link, const uint8_t *s, int *length) {
@@ -196,8 +407,4 @@ static const uint8_t *ip_part(uint32_t link, const uint8_t *s, int *length) {
     if (u16_at(s + at) != 0x0800 && u16_at(s + at) != 0x86dd) return NULL;
     *length -= at + 2;
     return s + at + 2;
-}
-
-static uint32_t order_u32(const uint8_t *s, int little) {
-    return little ? s[0] | s[1] << 8 | s[2] << 16 | (uint32_t)s[3] << 24 : u32_at(s);
 }
