@@ -27,9 +27,19 @@ impl Note {
         Note { version }
     }
 
-    pub(crate) fn version(&self) -> u32
+    /// The version that was reached.
+    pub fn version(&self) -> u32
         ensures { result ≡ self.now.version }
     {
         self.version
+    }
+
+    /// The same note once more.
+    pub fn again(&self) -> Note
+        ensures { result ≡ self.now }
+    {
+        Note {
+            version: self.version,
+        }
     }
 }

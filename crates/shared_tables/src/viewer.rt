@@ -85,6 +85,13 @@ impl Viewer {
         self.seen
     }
 
+    /// A note of that version, for another viewer of its board to learn.
+    pub fn tell(&self) -> Note
+        ensures { result ≡ record { board = self.now.board; version = self.now.seen } }
+    {
+        Note::of(self.seen)
+    }
+
     /// Takes in a note of its own board: from now on no look goes below the note's version.
     pub fn learn(&mut self, note: Note)
         requires { self.old.board ≡ note.board }
