@@ -1,17 +1,18 @@
 //! Labels as options of a protocol.
 
-ghost use Rattle.std.specs.Prelude.{◌≡◌, Err, OnOk, IfErr};
+ghost use Rattle.std.specs.Prelude.{◌≡◌, Ok, Err, OnOk, IfErr};
 ghost use Rattle.std.specs.Option.{option_copied};
 ghost use Rattle.domain_map.specs.declared.protocol.Protocol.TheVariants.{Calipso, Cipso};
 ghost use Rattle.ip_headers.specs.declared.version.Version.TheVariants.{V4, V6};
 ghost use Rattle.mls_label.specs.Label.{IsLabel};
 ghost use Rattle.label_send.specs.Outgoing.{IsExpressed, outgoing};
-ghost use Rattle.label_send.specs.inside.Option.{IsDefinedFor};
+ghost use Rattle.doi_table.specs.Translation.{wire_label};
+ghost use Rattle.label_send.specs.inside.Option.{IsDefinedFor, numbers_of};
 
 use arrayvec::ArrayVec;
 use calipso_option::{can_express, write_calipso};
 use cipso_option::{first_tag, write_cipso};
-use doi_table::{DoiDef, Proto, to_wire_into};
+use doi_table::{DoiDef, Proto, Unmapped, to_wire_into};
 use mls_label::Label;
 use node_tables::Tables;
 use packet_label::Denial;
@@ -36,6 +37,7 @@ pub fn cipso_for(
     let Some(def) = definition_for(tables, Proto::Cipso, doi, label, wire) else {
         return Err(Denial::Inexpressible);
     };
+    let wire = numbers_of(def, label, wire);
     let Some(tag) = first_tag(def.tags(), wire) else {
         return Err(Denial::Inexpressible);
     };
@@ -62,9 +64,10 @@ pub fn calipso_for(
     ensures err { IfErr result
         (λ why. outgoing tables.now.definitions (Calipso doi) label.now ≡ Err why) }
 {
-    let Some(_) = definition_for(tables, Proto::Calipso, doi, label, wire) else {
+    let Some(def) = definition_for(tables, Proto::Calipso, doi, label, wire) else {
         return Err(Denial::Inexpressible);
     };
+    let wire = numbers_of(def, label, wire);
     if !can_express(wire) {
         return Err(Denial::Inexpressible);
     }
@@ -73,7 +76,7 @@ pub fn calipso_for(
     Ok(())
 }
 
-// The definition of a DOI of the node that has numbers on the wire for the label. The label that is lent gets them.
+// The definition of a DOI of the node that has numbers on the wire for the label, which are then `numbers_of` it.
 fn definition_for<'a>(
     tables: &'a Tables,
     proto: Proto,
@@ -81,15 +84,34 @@ fn definition_for<'a>(
     label: &Label,
     wire: &mut Label,
 ) -> Option<&'a DoiDef>
-    ensures { IsDefinedFor tables.now.definitions proto doi label.now
-        (option_copied result) wire.new }
+    ensures { IsDefinedFor tables.now.definitions proto doi label.now wire.new
+        (option_copied result) }
 {
     let def = tables.dois().find(proto, doi)?;
-    let Ok(()) = to_wire_into(def, label, wire) else {
+    let Ok(()) = translate(def, label, wire) else {
         return None;
     };
-    is_label(wire);
+    is_label(numbers_of(def, label, wire));
     Some(def)
+}
+
+// Gives the label that is lent the numbers on the wire, where they are others: most definitions pass all numbers, and then nothing is copied.
+fn translate(def: &DoiDef, label: &Label, wire: &mut Label) -> Result<(), Unmapped>
+    ensures ok { OnOk result
+        (wire_label def.now label.now ≡ Ok (numbers_of def.now label.now wire.new)) }
+    ensures err { IfErr result (λ why. wire_label def.now label.now ≡ Err why) }
+{
+    if !def.plan().trans {
+        return Ok(());
+    }
+    to_wire_into(def, label, wire)
+}
+
+// The numbers on the wire, once they were translated.
+fn numbers_of<'a>(def: &DoiDef, label: &'a Label, wire: &'a Label) -> &'a Label
+    ensures { result.now ≡ numbers_of def.now label.now wire.now }
+{
+    if def.plan().trans { wire } else { label }
 }
 
 // Has nothing to do: each label keeps what its clause says.

@@ -1,5 +1,5 @@
 -- The octets of an option that goes out under a protocol, and the definition that it goes by.
-use Rattle.std.specs.Prelude.{◌≡◌, ℕ, ◌<◌, List, Option, Some, None, IfSome, Result, Ok, Err}
+use Rattle.std.specs.Prelude.{◌≡◌, ℕ, ◌<◌, List, Option, Some, None, IfSome, Result, Ok, Err, if◌then◌else◌}
 use Rattle.mls_label.specs.declared.label.Label.{Label}
 use Rattle.mls_label.specs.declared.label.Proto.{Proto}
 use Rattle.mls_label.specs.declared.label.Proto.TheVariants as Of
@@ -25,14 +25,18 @@ abbrev pub protocol_of : Proto → ℕ → Protocol
 protocol_of Of.Cipso doi = Cipso doi
 protocol_of Of.Calipso doi = Calipso doi
 
+-- the numbers of a label on the wire, once they were translated into the one that is lent: its own, where the definition passes all numbers
+abbrev pub numbers_of : DoiPlan → Label → Label → Label
+numbers_of plan label lent = if plan.trans then lent else label
+
 -- what goes out by a definition of the DOI, if there is one with numbers for the label, which are these
-abbrev pub said_by : Proto → ℕ → Label → Option DoiPlan → Result (Option Wire) Denial
-said_by proto doi wire None = Err Inexpressible
-said_by Of.Cipso doi wire (Some plan) = cipso_said doi plan.tags (Ok wire)
-said_by Of.Calipso doi wire (Some plan) = calipso_said doi (Ok wire)
+abbrev pub said_by : Proto → ℕ → Label → Label → Option DoiPlan → Result (Option Wire) Denial
+said_by proto doi label lent None = Err Inexpressible
+said_by Of.Cipso doi label lent (Some plan) = cipso_said doi plan.tags (Ok (numbers_of plan label lent))
+said_by Of.Calipso doi label lent (Some plan) = calipso_said doi (Ok (numbers_of plan label lent))
 
 -- a definition of the DOI was found with numbers for the label, which are these, or no option goes out
-pub record IsDefinedFor (definitions : Entries) (proto : Proto) (doi : ℕ) (label : Label) (found : Option DoiPlan) (wire : Label) : Type 0 where
-  pub said : outgoing definitions (protocol_of proto doi) label ≡ said_by proto doi wire found
+pub record IsDefinedFor (definitions : Entries) (proto : Proto) (doi : ℕ) (label lent : Label) (found : Option DoiPlan) : Type 0 where
+  pub said : outgoing definitions (protocol_of proto doi) label ≡ said_by proto doi label lent found
   pub named : IfSome found (λ plan. 0 < doi)
-  pub whole : IfSome found (λ plan. IsLabel wire)
+  pub whole : IfSome found (λ plan. IsLabel (numbers_of plan label lent))
