@@ -69,9 +69,11 @@ pub fn forward_into(
         (forward_of tables.now from.now to.now domain.now) result out.new.items }
 {
     out.clear();
-    match carried_into(packet, &mut room.wire) {
-        Ok(marked) => forward_marked(tables, from, to, domain, &marked, room, out),
-        Err(fault) => Err(Stop::Denied(fault_denial(fault))),
+    // Lent from where it was read: to move it out would copy it.
+    let read = carried_into(packet, &mut room.wire);
+    match &read {
+        Ok(marked) => forward_marked(tables, from, to, domain, marked, room, out),
+        Err(fault) => Err(Stop::Denied(fault_denial(*fault))),
     }
 }
 

@@ -34,6 +34,8 @@ pub fn label_is_outside(tables: &Tables, interface: &Name, label: &Label) -> boo
 }
 
 /// The same of the labels of a packet that comes in, by what is told of it and its high one.
+// Always inlined: it only chooses between two calls.
+#[inline(always)]
 pub fn arrival_is_outside(
     tables: &Tables,
     interface: &Name,

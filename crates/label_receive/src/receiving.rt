@@ -51,9 +51,11 @@ pub fn receive_into(
     ensures { IsJudged packet.now (receive_of tables.now interface.now)
         (left_in room.new.local result) }
 {
-    match carried_into(packet, &mut room.wire) {
-        Ok(marked) => receive_marked(tables, interface, &marked, &room.wire, &mut room.local),
-        Err(fault) => Err(fault_denial(fault)),
+    // Lent from where it was read: to move it out would copy it.
+    let read = carried_into(packet, &mut room.wire);
+    match &read {
+        Ok(marked) => receive_marked(tables, interface, marked, &room.wire, &mut room.local),
+        Err(fault) => Err(fault_denial(*fault)),
     }
 }
 

@@ -58,14 +58,16 @@ pub fn send_into(
     ensures in_room { IfOk (send_octets tables.now domain.now interface.now label.now packet.now)
         (λ sent. IsInRoom sent.packet) }
 {
-    let (packet, place) = match label_at(packet) {
+    // Lent from where it was read: to move it out would copy it.
+    let read = label_at(packet);
+    let (packet, place) = match &read {
         Ok(found) => found,
         Err(fault) => {
             return Err(denied(Denial::BadHeader { octet: fault.octet }, out));
         }
     };
-    match protocol_for(tables, domain, interface, label, &packet, place) {
-        Ok(protocol) => send_front(tables, protocol, label, &packet, wire, out),
+    match protocol_for(tables, domain, interface, label, packet, *place) {
+        Ok(protocol) => send_front(tables, protocol, label, packet, wire, out),
         Err(why) => Err(denied(why, out)),
     }
 }

@@ -69,7 +69,8 @@ pub(crate) fn denied(why: Denial, out: &mut Vec<u8>) -> Stop
     Stop::Denied(why)
 }
 
-// The packet with this option, or none, and these hops.
+// The packet with this option, or none, and these hops. Always inlined: what it answers stays in registers.
+#[inline(always)]
 fn rewrite(packet: &Packet, option: Option<&[u8]>, hops: u8, out: &mut Vec<u8>) -> Result<(), Stop>
     requires { IfSome option (λ o. IsLabelOption (version_of packet.now) o.now) }
     ensures { Writes (version_of packet.now)

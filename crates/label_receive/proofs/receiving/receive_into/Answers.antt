@@ -6,10 +6,10 @@ use Rattle.label_receive.proofs.receiving.receive_into.Goals as goal
 pub returns-in-Ok : goal.returns-in-Ok
 returns-in-Ok c =
     record {
-      read = Ok (labelled (headers_of c.in-Ok.marked.packet) (wire_with c.in-Ok.marked.mark c.carried_into.new.label));
-      reads = c.in-Ok.ensures.ok;
+      read = Ok (labelled (headers_of c.in-Ok.marked.packet) (wire_with c.in-Ok.marked.mark c.carried_into-read.new.label));
+      reads = rw c.in-Ok.is at c.carried_into-read.ensures.ok;
       is = sym c.receive_marked.ensures;
     }
 
 pub returns-in-Err : goal.returns-in-Err
-returns-in-Err c = record { read = Err c.in-Err.fault; reads = c.in-Err.ensures.err; is = ap Err c.fault_denial.ensures }
+returns-in-Err c = record { read = Err c.in-Err.fault; reads = rw c.in-Err.is at c.carried_into-read.ensures.err; is = ap Err c.fault_denial.ensures }

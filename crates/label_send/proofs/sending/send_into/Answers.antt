@@ -9,4 +9,4 @@ returns-in-Ok-protocol_for-clause-in_room c =
     let octets = c.args.packet.now in
     let front = c.in-Ok.found.0 in
     read_in_room c.args.tables.now c.args.domain.now c.args.interface.now c.args.label.now octets (headers_of front) (version_of front) c.in-Ok-protocol_for.protocol
-    (octets_of octets c.type_inv.packet) c.in-Ok.ensures.ok c.in-Ok.ensures.version (sym c.in-Ok-protocol_for.ensures) c.send_front.ensures.octet c.send_front.ensures.said
+    (octets_of octets c.type_inv.packet) (rw c.in-Ok.is at c.label_at-read.ensures.ok) (rw c.in-Ok.is at c.label_at-read.ensures.version) (sym c.in-Ok-protocol_for.ensures) c.send_front.ensures.octet c.send_front.ensures.said
