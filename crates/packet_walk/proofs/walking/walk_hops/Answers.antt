@@ -10,7 +10,7 @@ pub returns-in-Arrives-clause-ok : goal.returns-in-Arrives-clause-ok
 returns-in-Arrives-clause-ok g c =
     let h = c.loop-at.invariant in
     let judged = rw (h.plan, c.coming.ensures, rw c.deref.ensures at c.in-Arrives.is) at c.in_ok-lent.ensures.ok in
-    rw (← c.hops-hops.ensures.hops, c.deliver.ensures, c.deref-in-Arrives.ensures, c.judged_under.ensures, c.seen.ensures)
+    rw (← c.hops-hops.ensures.hops, c.in_ok-deliver-in-Arrives.ensures, c.deref-in-Arrives.ensures, c.judged_under.ensures, c.seen.ensures)
     (goes_here _ _ _ _ _ _ _ _ _ h.goes _ _ _ _ _ _ c.loop-at-test.true c.index-hops-at.is judged c.in_ok-leave-in-Arrives.ensures)
 
 pub returns-in-Denied-clause-ok : goal.returns-in-Denied-clause-ok
