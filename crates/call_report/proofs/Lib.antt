@@ -4,3 +4,4 @@ pub mod Listing
 pub mod Flows
 pub mod Shown
 pub mod Pieces
+pub mod Counting

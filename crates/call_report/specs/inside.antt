@@ -1,3 +1,4 @@
 pub mod Extends
 pub mod Versions
 pub mod Seen
+pub mod Kept

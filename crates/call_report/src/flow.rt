@@ -2,7 +2,7 @@
 
 ghost use Rattle.std.specs.Prelude.{◌≡◌, ◌++◌, OnOk, OnErr};
 ghost use Rattle.flow_lines.specs.Hop.{node_of};
-ghost use Rattle.call_report.specs.Lines.Flow.{flow_line, carrier_text, hop_node, versions_text, end_text, walked_line, flow_end_line};
+ghost use Rattle.call_report.specs.Lines.Flow.{flow_line, carrier_text, hop_node, versions_text, end_text, flow_end_line};
 ghost use Rattle.call_report.specs.inside.Versions.{versions_behind};
 ghost use Rattle.call_report.specs.inside.Extends.{Extends};
 
@@ -13,7 +13,7 @@ use flow_lines::{FileName, Hop};
 use mls_label::OutOfMemory;
 use octet_grammar::write_decimal;
 use packet_label::Carrier;
-use packet_walk::{End, Walked};
+use packet_walk::End;
 
 /// Appends the line with which the flow of this number begins, with the capture that it reads. After an error `line` is as it was.
 pub fn write_flow(flow: u64, input: &FileName, line: &mut Vec<u8>) -> Result<(), OutOfMemory>
@@ -39,53 +39,8 @@ fn append_flow(flow: u64, input: &FileName, line: &mut Vec<u8>) -> Result<(), Ou
     Ok(())
 }
 
-/// Appends the line that tells what became of a packet of a flow, over these hops of the nodes of these names.
-/// After an error `line` is as it was.
-pub fn write_walked(
-    flow: u64,
-    number: u64,
-    names: &[Name],
-    hops: &[Hop],
-    walked: &Walked,
-    line: &mut Vec<u8>,
-) -> Result<(), OutOfMemory>
-    ensures ok { OnOk result
-        (line.new.items ≡ line.old.items ++ walked_line flow number names.now hops.now walked.now) }
-    ensures err { OnErr result (line.new.items ≡ line.old.items) }
-{
-    let before = line.len();
-    let written = append_walked(flow, number, names, hops, walked, line);
-    all_or_nothing(written, before, line)
-}
-
-/// Appends it, or a part of it where memory runs out.
-#[tactic(auto, unfolding(crate::specs::Lines::Flow::walked_line))]
-fn append_walked(
-    flow: u64,
-    number: u64,
-    names: &[Name],
-    hops: &[Hop],
-    walked: &Walked,
-    line: &mut Vec<u8>,
-) -> Result<(), OutOfMemory>
-    ensures ok { OnOk result
-        (line.new.items ≡ line.old.items ++ walked_line flow number names.now hops.now walked.now) }
-    ensures err { OnErr result (Extends line.old.items line.new.items) }
-{
-    line.extend_from_slice(b"packet ")?;
-    write_decimal(flow, line)?;
-    line.extend_from_slice(b".")?;
-    write_decimal(number, line)?;
-    line.extend_from_slice(b" ")?;
-    append_end(names, hops, &walked.end, line)?;
-    line.extend_from_slice(b" versions ")?;
-    append_versions(walked.versions.as_slice(), line)?;
-    line.push(b'\n')?;
-    Ok(())
-}
-
 /// Appends how a walk ended.
-fn append_end(
+pub(crate) fn append_end(
     names: &[Name],
     hops: &[Hop],
     end: &End,

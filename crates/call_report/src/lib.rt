@@ -8,8 +8,10 @@
 #![tactic(auto)]
 
 mod agreement;
+mod beginning;
 mod capture;
 mod denial;
+mod ending;
 mod fixed;
 mod flow;
 pub mod laws;
@@ -21,13 +23,14 @@ mod report;
 mod script;
 mod seen;
 mod status;
+mod walked;
 mod whole;
 
 pub use agreement::{agree_or_disagree, bad_versions, no_flow, write_hops};
 pub use capture::write_capture;
 pub use denial::write_verdict;
 pub use fixed::{done, packet_limit, packets_limit, usage};
-pub use flow::{write_flow, write_flow_end, write_walked};
+pub use flow::{write_flow, write_flow_end};
 pub use made::write_made;
 pub use mls_label::OutOfMemory;
 pub use packet::{write_packet, write_packets_end};
@@ -36,6 +39,7 @@ pub use report::Report;
 pub use script::{write_ok, write_script_stop};
 pub use seen::{FlowSeen, Seen};
 pub use status::Status;
+pub use walked::WalkLines;
 
 #[cfg(test)]
 mod tests;

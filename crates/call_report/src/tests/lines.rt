@@ -1,10 +1,12 @@
 //! Worked lines.
 
+use crate::beginning::Beginning;
+use crate::ending::Ending;
 use crate::flow::append_versions;
 use crate::{
-    agree_or_disagree, bad_versions, done, no_flow, packet_limit, packets_limit, write_capture,
-    write_flow, write_flow_end, write_hops, write_made, write_ok, write_packets_end,
-    write_script_stop, write_verdict, write_walked,
+    WalkLines, agree_or_disagree, bad_versions, done, no_flow, packet_limit, packets_limit,
+    write_capture, write_flow, write_flow_end, write_hops, write_made, write_ok, write_packets_end,
+    write_script_stop, write_verdict,
 };
 use address_text::{Address, read_name};
 use flow_lines::{Hop, read_file_name};
@@ -157,9 +159,12 @@ fn prints_flows(rt: HostRuntime) {
         },
     ];
     let mut line = Vec::new(alloc);
+    let mut lines = WalkLines::new(alloc);
     write_flow(1, &input, &mut line).expect(&rt, "there is memory");
     for end in ends {
-        write_walked(1, 1, &names, &hops, &walked(end), &mut line).expect(&rt, "there is memory");
+        lines
+            .write(1, 1, &names, &hops, &walked(end), &mut line)
+            .expect(&rt, "there is memory");
     }
     write_flow_end(1, 6, 4, 2, &mut line).expect(&rt, "there is memory");
     append_versions(&[15, 15, 16, 4294967295], &mut line).expect(&rt, "there is memory");
@@ -167,6 +172,54 @@ fn prints_flows(rt: HostRuntime) {
         line.as_slice(),
         b"flow 1 one.pcap\npacket 1.1 delivered s2:c7,c8 to 10.0.0.2 versions -\npacket 1.1 sent calipso,9 versions -\npacket 1.1 sent cipsov4,16 versions -\npacket 1.1 sent unlbl versions -\npacket 1.1 denied 22 NotIp hop 0 node - versions -\npacket 1.1 denied 10 NoReceiver hop 1 node r versions -\nend 1 packets 6 passed 4 denied 2\n15,15,16,4294967295".as_slice()
     );
+}
+
+/// Packets one after the other, and how their lines begin: over each number of digits, in another flow, in front, and at the largest one.
+const BEGINNINGS: [(u64, u64, &str); 14] = [
+    (1, 9, "packet 1.9 "),
+    (1, 10, "packet 1.10 "),
+    (1, 11, "packet 1.11 "),
+    (1, 99, "packet 1.99 "),
+    (1, 100, "packet 1.100 "),
+    (1, 109, "packet 1.109 "),
+    (1, 110, "packet 1.110 "),
+    (1, 999, "packet 1.999 "),
+    (1, 1000, "packet 1.1000 "),
+    (12, 1001, "packet 12.1001 "),
+    (12, 1001, "packet 12.1001 "),
+    (12, 1, "packet 12.1 "),
+    (12, u64::MAX, "packet 12.18446744073709551615 "),
+    (12, 0, "packet 12.0 "),
+];
+
+#[test]
+fn beginnings_go_on(rt: HostRuntime) {
+    let mut beginning = Beginning::new(rt.alloc());
+    for (flow, number, text) in BEGINNINGS {
+        beginning
+            .turn_to(flow, number)
+            .expect(&rt, "there is memory");
+        assert_eq!(rt; beginning.text(), text.as_bytes());
+    }
+}
+
+/// The versions of packets one after the other, and how their lines end.
+const ENDINGS: [(&[u32], &str); 6] = [
+    (&[15, 15], " versions 15,15\n"),
+    (&[15, 15], " versions 15,15\n"),
+    (&[15, 16], " versions 15,16\n"),
+    (&[15], " versions 15\n"),
+    (&[], " versions -\n"),
+    (&[], " versions -\n"),
+];
+
+#[test]
+fn endings_stay(rt: HostRuntime) {
+    let mut ending = Ending::new(rt.alloc());
+    for (versions, text) in ENDINGS {
+        ending.turn_to(versions).expect(&rt, "there is memory");
+        assert_eq!(rt; ending.text(), text.as_bytes());
+    }
 }
 
 #[test]
