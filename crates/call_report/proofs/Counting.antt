@@ -1,10 +1,11 @@
 -- A decimal number that is counted up in place, from its last digit on.
-use Rattle.std.proofs.Common.{◌≡◌, ℕ, ◌+◌, ◌-◌, ◌/◌, ◌%◌, ◌^◌, ◌<◌, ◌≤◌, List, [], ◌∷◌, ◌++◌, length, get_or, set, take, sym, ap, ◌∙◌, arith, inl, inr, ◌⊎◌}
+use Rattle.std.proofs.Common.{◌≡◌, ℕ, ◌+◌, ◌/◌, ◌%◌, ◌^◌, ◌<◌, ◌≤◌, List, [], ◌∷◌, ◌++◌, length, get_or, set, take, drop, sym, ap, ◌∙◌, arith, inl, inr, ◌⊎◌}
 use Rattle.std.specs.Fmt.{decimal}
 use Rattle.std.proofs.Math.Seq.{get_or-append_seam, set-append_seam, take-append_seam}
 use Rattle.std.proofs.lemmas.Bool.{cases_lt}
-use Rattle.std.proofs.lemmas.List.{length-append}
+use Rattle.std.proofs.lemmas.List.{length-append, drop_all}
 use Rattle.std.proofs.lemmas.Fmt.{decimal_digit, decimal_step}
+use Rattle.octet_grammar.proofs.Digits.{drop-set}
 
 -- digits are those in front and a last one
 record EndsIn (digits : List ℕ) (last : ℕ) (front : List ℕ) (digit : ℕ) : Type 0 where
@@ -53,16 +54,16 @@ digit_up number last digits small len below spelled = by_size (cases_lt number 1
         ∙ sym (decimal_step (number + 1) (omega arith) small)
 
 -- a last digit 9 becomes 0, and those in front are counted up
-pub digit_carried : (number last : ℕ) (digits part : List ℕ) → number + 1 < 2 ^ 64 → last + 1 ≡ length digits → 57 ≤ get_or digits last 0 → 0 < last
-    → digits ≡ decimal number
+pub digit_carried : (number last : ℕ) (digits part : List ℕ) → number + 1 < 2 ^ 64 → last + 1 ≡ length digits → 57 ≤ get_or digits last 0
+    → 0 < length (take last (set digits last 48)) → digits ≡ decimal number
     → ((tens : ℕ) → tens + 1 < 2 ^ 64 → take last (set digits last 48) ≡ decimal tens → part ≡ decimal (tens + 1))
-    → part ++ 48 ∷ [] ≡ decimal (number + 1)
+    → part ++ drop last (set digits last 48) ≡ decimal (number + 1)
 digit_carried number last digits part small len nine some spelled counts = by_size (cases_lt number 10)
   where
-    by_size : (number < 10) ⊎ (10 ≤ number) → part ++ 48 ∷ [] ≡ decimal (number + 1)
+    by_size : (number < 10) ⊎ (10 ≤ number) → part ++ drop last (set digits last 48) ≡ decimal (number + 1)
     by_size (inl one) =
         let e = ends digits last [] (48 + number) len (spelled ∙ decimal_digit number one) in
-        absurd (omega (arith, e.at, some))
+        absurd (omega (arith, some, ap length (in_front digits last [] (48 + number) 48 e)))
     by_size (inr many) =
         let front = decimal (number / 10) in
         let d = 48 + number % 10 in
@@ -70,7 +71,8 @@ digit_carried number last digits part small len nine some spelled counts = by_si
         let digit = last_digit digits last front d e in
         let tens : number / 10 + 1 ≡ (number + 1) / 10 = omega (arith, digit) in
         let zero_left : 48 ≡ 48 + (number + 1) % 10 = omega (arith, digit) in
-        ap (λ p. p ++ 48 ∷ []) (counts (number / 10) (omega arith) (in_front digits last front d 48 e))
+        ap (λ ds. part ++ ds) (drop-set digits last 48 (omega (arith, len)) ∙ ap (λ ds. 48 ∷ ds) (drop_all (last + 1) digits (omega (arith, len))))
+        ∙ ap (λ p. p ++ 48 ∷ []) (counts (number / 10) (omega arith) (in_front digits last front d 48 e))
         ∙ ap (λ m. decimal m ++ 48 ∷ []) tens
         ∙ ap (λ x. decimal ((number + 1) / 10) ++ x ∷ []) zero_left
         ∙ sym (decimal_step (number + 1) (omega arith) small)
