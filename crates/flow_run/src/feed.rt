@@ -12,7 +12,7 @@ use crate::judged::Judged;
 use crate::lines::print_judged;
 use crate::output::{add_frame, is_denied};
 use crate::source::{Source, fetch_batch};
-use call_report::{FlowSeen, Report};
+use call_report::{FlowSeen, Report, WalkLines};
 use label_flow::{Feed, PacketIn, Walked};
 use net_io::{Depot, IoFault, Sink};
 use std::alloc::Global;
@@ -34,6 +34,7 @@ pub struct RunFeed<'d, 'o, 'r, 'f, D, S> {
     /// What waits for the output.
     pub octets: Vec<u8>,
     pub seen: FlowSeen,
+    pub lines: WalkLines,
     pub passed: u64,
     pub denied: u64,
     pub stop: Option<FlowStop>,
@@ -75,6 +76,7 @@ fn hand_on<D: Depot, S: Sink>(
     out: &mut S,
     report: &mut Report,
     octets: &mut Vec<u8>,
+    lines: &mut WalkLines,
     place: &FlowPlace<'_>,
     judged: &Judged<'_>,
 ) -> Result<(), FlowStop>
@@ -85,7 +87,7 @@ fn hand_on<D: Depot, S: Sink>(
         (outlets (D.state depot.old) (S.state out.old) report.old.waiting.items octets.old.items)
         (outlets (D.state depot.new) (S.state out.new) report.new.waiting.items octets.new.items) }
 {
-    match print_judged(report, out, place, judged) {
+    match print_judged(report, out, lines, place, judged) {
         Ok(()) => add_frame(depot, &place.flow.output, octets, judged),
         Err(IoFault::Failed) => Err(FlowStop::Print),
         Err(IoFault::OutOfMemory) => Err(FlowStop::OutOfMemory),
@@ -153,6 +155,7 @@ impl<'d, 'o, 'r, 'f, D: Depot, S: Sink> Feed for RunFeed<'d, 'o, 'r, 'f, D, S> {
             self.out,
             self.report,
             octets,
+            &mut self.lines,
             &self.place,
             &judged,
         ) {

@@ -5,7 +5,7 @@ ghost use Rattle.flow_run.specs.inside.Judged.{judged_line};
 
 use crate::end::FlowPlace;
 use crate::judged::Judged;
-use call_report::{Report, write_walked};
+use call_report::{Report, WalkLines};
 use mls_label::OutOfMemory;
 use net_io::{IoFault, Sink};
 
@@ -13,6 +13,7 @@ use net_io::{IoFault, Sink};
 pub(crate) fn print_judged<S: Sink>(
     report: &mut Report,
     out: &mut S,
+    lines: &mut WalkLines,
     place: &FlowPlace<'_>,
     judged: &Judged<'_>,
 ) -> Result<(), IoFault>
@@ -22,7 +23,7 @@ pub(crate) fn print_judged<S: Sink>(
 {
     let flow = u64::from(place.number);
     let hops = place.flow.hops.hops();
-    match write_walked(
+    match lines.write(
         flow,
         judged.number,
         place.names,

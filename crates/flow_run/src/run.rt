@@ -19,7 +19,7 @@ use crate::feed::RunFeed;
 use crate::output::{append_rest, create_output};
 use crate::runner::Runner;
 use crate::source::{Behind, Source, begin_source};
-use call_report::{FlowSeen, Report, write_flow, write_flow_end};
+use call_report::{FlowSeen, Report, WalkLines, write_flow, write_flow_end};
 use label_flow::{Gate, RoundStop, round};
 use net_io::{Depot, Sink};
 use node_tables::{Network, Reply};
@@ -241,6 +241,7 @@ fn run_source<D: Depot + Send, S: Sink + Send, G: Gate + Sync, R: Threads + Wait
         source,
         octets: Vec::new(alloc),
         seen: FlowSeen::new(alloc),
+        lines: WalkLines::new(alloc),
         passed: 0,
         denied: 0,
         stop: None,
@@ -253,6 +254,7 @@ fn run_source<D: Depot + Send, S: Sink + Send, G: Gate + Sync, R: Threads + Wait
         source: _source,
         octets: _octets,
         seen,
+        lines: _lines,
         ..
     } = feed;
     end_loans(depot, out, report);
