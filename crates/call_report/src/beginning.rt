@@ -29,7 +29,8 @@ impl Model for Beginning {
 
     ghost view = { λ b. b.text.items };
 
-    ghost invariant = { λ b. IsTrue b.is_written → IsBeginning b.flow b.number b.front b.text.items };
+    ghost invariant = { λ b. IsTrue b.is_written
+        → IsBeginning b.flow b.number b.front b.text.items };
 }
 
 impl Beginning {

@@ -44,7 +44,8 @@ impl WalkLines {
         line: &mut Vec<u8>,
     ) -> Result<(), OutOfMemory>
         ensures ok { OnOk result
-            (line.new.items ≡ line.old.items ++ walked_line flow number names.now hops.now walked.now) }
+            (line.new.items ≡ line.old.items
+            ++ walked_line flow number names.now hops.now walked.now) }
         ensures err { OnErr result (line.new.items ≡ line.old.items) }
     {
         self.beginning.turn_to(flow, number)?;
