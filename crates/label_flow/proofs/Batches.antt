@@ -15,7 +15,8 @@ use Rattle.packet_label.specs.declared.denial.Denial.TheVariants.{NotIp}
 use Rattle.flow_lines.specs.Hop.{node_of}
 use Rattle.label_flow.specs.Feed.{MayAccept, IsDeniedBy, AreFetched, IsOver, AreBegun, AreWhole}
 use Rattle.label_flow.specs.Round.{pick, IsWork, AreLater, AreRounds, IsRound}
-use Rattle.label_flow.specs.inside.Work.{AreWorks, AreFirst, HasRoom, AllFit, HasNodes, HasViewers}
+use Rattle.label_flow.specs.inside.Work.{AreWorks, AreFirst, HasRoom, HasNodes, HasViewers}
+use Rattle.label_flow.specs.inside.Crew.{IsShort}
 use Rattle.label_flow.proofs.Rising.{rises_later}
 use Rattle.label_flow.proofs.Works.{pick-append, work-append}
 
@@ -37,7 +38,7 @@ work_prefix p hops seen now [] ys (r ∷ rs) ss len h = absurd (omega (arith, le
 work_prefix p hops seen now (x ∷ xs) ys [] ss len h = absurd (omega (arith, len))
 work_prefix p hops seen now (x ∷ xs) ys (r ∷ rs) ss len h = (h.0, h.1, work_prefix p hops h.0 now xs ys rs ss (omega (arith, len)) h.2)
 
-pick_length : {X Y : Type 0} (k w n : ℕ) (xs : List X) (ys : List Y) → length xs ≡ length ys → length (pick k w n xs) ≡ length (pick k w n ys)
+pub pick_length : {X Y : Type 0} (k w n : ℕ) (xs : List X) (ys : List Y) → length xs ≡ length ys → length (pick k w n xs) ≡ length (pick k w n ys)
 pick_length k w n [] [] len = refl
 pick_length k w n [] (y ∷ ys) len = absurd (omega (arith, len))
 pick_length k w n (x ∷ xs) [] len = absurd (omega (arith, len))
@@ -116,19 +117,16 @@ walked_fits plan hops seen now x w out few h =
     ] in
     record { short = left_short x.bytes out few h.short; hop = cases x.is_ip h.walk }
 
-abbrev Short : PacketIn → Type 0
-Short x = length x.bytes ≤ 262144
-
-all_tail : (x : PacketIn) (xs : List PacketIn) → All Short (x ∷ xs) → All Short xs
+all_tail : (x : PacketIn) (xs : List PacketIn) → All IsShort (x ∷ xs) → All IsShort xs
 all_tail x xs h k d lt = h (suc k) d (omega (arith, lt))
 
-pick_all : (k w n : ℕ) (xs : List PacketIn) → All Short xs → All Short (pick k w n xs)
+pub pick_all : (k w n : ℕ) (xs : List PacketIn) → All IsShort xs → All IsShort (pick k w n xs)
 pick_all k w n [] h = h
 pick_all k w n (x ∷ xs) h =
     let t = pick_all k w (n + 1) xs (all_tail x xs h) in
-    elim (nat_eq (n % w) k) as (λ b. All Short (cond b (x ∷ pick k w (n + 1) xs) (pick k w (n + 1) xs))) [ true ↦ All-cons Short x (pick k w (n + 1) xs) (h 0 x (omega arith)) t | false ↦ t ]
+    elim (nat_eq (n % w) k) as (λ b. All IsShort (cond b (x ∷ pick k w (n + 1) xs) (pick k w (n + 1) xs))) [ true ↦ All-cons IsShort x (pick k w (n + 1) xs) (h 0 x (omega arith)) t | false ↦ t ]
 
-work_fits : (p : PlanState) (hops : List Hop) (seen now : ℕ) (xs : List PacketIn) (rs : List PairState) → All Short xs → IsWork p hops seen xs rs now
+pub work_fits : (p : PlanState) (hops : List Hop) (seen now : ℕ) (xs : List PacketIn) (rs : List PairState) → All IsShort xs → IsWork p hops seen xs rs now
     → (j : ℕ) (r : PairState) → slice_get rs j ≡ Some r → MayAccept (length hops) r.walked.end r.octets
 work_fits p hops seen now [] [] short h j r at = absurd (cc)
 work_fits p hops seen now [] (q ∷ rs) short h j r at = absurd h
@@ -138,27 +136,14 @@ work_fits p hops seen now (x ∷ xs) (q ∷ rs) short h zero r at =
     subst (λ (t : PairState). MayAccept (length hops) t.walked.end t.octets) same (walked_fits p hops seen h.0 x q.walked q.octets (short 0 x (omega arith)) h.1)
 work_fits p hops seen now (x ∷ xs) (q ∷ rs) short h (suc j) r at = work_fits p hops h.0 now xs rs (all_tail x xs short) h.2 j r at
 
-works_fit : (hops : List Hop) (w n : ℕ) (batch : List PacketIn) (k : ℕ) (vs : List ViewerState) (ds : List (List PairState)) (us : List ViewerState) → All Short batch → AreWorks hops w n batch k vs ds us
-    → (i j : ℕ) (r : PairState) → slice_get (get_or ds i []) j ≡ Some r → MayAccept (length hops) r.walked.end r.octets
-works_fit hops w n batch k vs [] us short h i j r at = absurd (cc)
-works_fit hops w n batch k [] (d ∷ ds) us short h i j r at = absurd h
-works_fit hops w n batch k (v ∷ vs) (d ∷ ds) [] short h i j r at = absurd h
-works_fit hops w n batch k (v ∷ vs) (d ∷ ds) (u ∷ us) short h zero j r at = work_fits v.plan hops v.seen u.seen (pick k w n batch) d (pick_all k w n batch short) h.0 j r at
-works_fit hops w n batch k (v ∷ vs) (d ∷ ds) (u ∷ us) short h (suc i) j r at = works_fit hops w n batch (k + 1) vs ds us short h.1 i j r at
-
-pub all_fit : (hops : List Hop) (w n : ℕ) (batch : List PacketIn) (vs : List ViewerState) (ds : List (List PairState)) (us : List ViewerState) → All Short batch → AreWorks hops w n batch 0 vs ds us → AllFit (length hops) ds
-all_fit hops w n batch vs ds us short h = record { each = works_fit hops w n batch 0 vs ds us short h }
-
 pub has_room : (hops : List Hop) (n : ℕ) (batch : List PacketIn) (vs : List ViewerState) (ds : List (List PairState)) (us : List ViewerState) → AreWorks hops (length vs) n batch 0 vs ds us → HasRoom (length ds) n batch ds
 has_room hops n batch vs ds us h =
     let len = works_length hops (length vs) n batch 0 vs ds us h in
     rw len (record { each = λ k lt. works_room hops (length vs) n batch 0 vs ds us h k lt ∙ ap (λ i. length (pick i (length vs) n batch)) (omega arith) })
 
--- all workers there are
-pub all_works : (hops : List Hop) (k w n : ℕ) (batch : List PacketIn) (vs : List ViewerState) (ds : List (List PairState)) (us : List ViewerState) → k ≡ 0 → w ≡ length vs
-    → AreWorks hops w n batch k vs ds us → AreWorks hops (length vs) n batch 0 vs ds us
-all_works hops k w n batch vs ds us first all h =
-    subst (λ (m : ℕ). AreWorks hops m n batch 0 vs ds us) all (subst (λ (j : ℕ). AreWorks hops w n batch j vs ds us) first h)
+-- of as many packets each worker has as many
+pub room_same : (w n : ℕ) (ps batch : List PacketIn) (ds : List (List PairState)) → length ps ≡ length batch → HasRoom w n ps ds → HasRoom w n batch ds
+room_same w n ps batch ds len h = record { each = λ k lt. h.each k lt ∙ pick_length k w n ps batch len }
 
 -- what was handed over is a round of the first packets
 pub handed_round : (hops : List Hop) (n : ℕ) (batch : List PacketIn) (vs : List ViewerState) (ds : List (List PairState)) (us : List ViewerState) (rs : List PairState) → AreWorks hops (length vs) n batch 0 vs ds us

@@ -2,6 +2,9 @@ pub mod Rising
 pub mod Works
 pub mod Handing
 pub mod Batches
+pub mod Told
+pub mod Shares
+pub mod Learning
 pub mod Dealt
 pub mod Schedules
 pub mod Lawful

@@ -1,7 +1,7 @@
 -- Works that follow one another, and the packets of a worker.
-use Rattle.std.proofs.Common.{◌≡◌, ◌≢◌, ℕ, ◌+◌, ◌%◌, ◌<◌, ◌≤◌, true, false, List, [], ◌∷◌, ◌++◌, length, take, Result, Ok, Err, OnOk, IsOk, Some, get_or, nat_eq, cond, refl, sym, ◌∙◌, ap, subst, le_refl, le_trans, arith, add-zero, append-nil}
+use Rattle.std.proofs.Common.{◌≡◌, ◌≢◌, ℕ, ◌+◌, ◌%◌, ◌<◌, ◌≤◌, true, false, List, [], ◌∷◌, ◌++◌, length, take, Some, get_or, nat_eq, cond, sym, ◌∙◌, ap, subst, le_refl, le_trans, arith, add-zero, append-nil}
 use Rattle.std.proofs.lemmas.Bool.Decides.{nat_tests}
-use Rattle.std.proofs.lemmas.List.{take_more, length-take, length-append}
+use Rattle.std.proofs.lemmas.List.{take_more, length-take}
 use Rattle.shared_tables.specs.Plan.{PlanState, reply_after}
 use Rattle.node_tables.specs.declared.reply.Reply.{Reply}
 use Rattle.flow_lines.specs.declared.hop.Hop.{Hop}
@@ -10,8 +10,6 @@ use Rattle.packet_walk.specs.declared.packet.PacketIn.{PacketIn}
 use Rattle.packet_walk.specs.Walk.{IsWalked}
 use Rattle.shared_tables.specs.Board.{ViewerState}
 use Rattle.label_flow.specs.Round.{pick, IsWork, AreLater, AreReplies}
-use Rattle.label_flow.specs.declared.work.Batch.{Batch}
-use Rattle.label_flow.specs.inside.Work.{AreWorks, HaveWorked}
 use Rattle.label_flow.proofs.Rising.{rises_lower}
 
 walked_lower : (p : PlanState) (hops : List Hop) (low seen now : ℕ) (x : PacketIn) (r : PairState) → low ≤ seen → IsWalked p hops seen now x r.walked r.octets → IsWalked p hops low now x r.walked r.octets
@@ -83,35 +81,6 @@ later-append [] [] ws zs h k = k
 later-append [] (u ∷ us) ws zs h k = absurd h
 later-append (v ∷ vs) [] ws zs h k = absurd h
 later-append (v ∷ vs) (u ∷ us) ws zs h k = (h.0, later-append vs us ws zs h.1 k)
-
-pub works-append : (hops : List Hop) (w n : ℕ) (batch : List PacketIn) (k : ℕ) (vs : List ViewerState) (ds : List (List PairState)) (us : List ViewerState)
-    (l : ℕ) (ws : List ViewerState) (es : List (List PairState)) (zs : List ViewerState)
-    → AreWorks hops w n batch k vs ds us → l ≡ k + length vs → AreWorks hops w n batch l ws es zs → AreWorks hops w n batch k (vs ++ ws) (ds ++ es) (us ++ zs)
-works-append hops w n batch k [] [] [] l ws es zs h is t = subst (λ (j : ℕ). AreWorks hops w n batch j ws es zs) (is ∙ add-zero k) t
-works-append hops w n batch k [] [] (u ∷ us) l ws es zs h is t = absurd h
-works-append hops w n batch k [] (d ∷ ds) us l ws es zs h is t = absurd h
-works-append hops w n batch k (v ∷ vs) [] us l ws es zs h is t = absurd h
-works-append hops w n batch k (v ∷ vs) (d ∷ ds) [] l ws es zs h is t = absurd h
-works-append hops w n batch k (v ∷ vs) (d ∷ ds) (u ∷ us) l ws es zs h is t = (h.0, works-append hops w n batch (k + 1) vs ds us l ws es zs h.1 (omega arith) t)
-
--- the two halves as one
-pub works_both : {A B C E : Type 0} (hops : List Hop) (w n : ℕ) (batch : List PacketIn) (k l : ℕ) (vs ws us zs all : List ViewerState) (ds es : List (List PairState)) (a : Result A E) (b : Result B E) (r : Result C E)
-    → all ≡ vs ++ ws → l ≡ k + length vs → OnOk a (AreWorks hops w n batch k vs ds us) → OnOk b (AreWorks hops w n batch l ws es zs) → OnOk r (IsOk a × IsOk b)
-    → OnOk r (AreWorks hops w n batch k all (ds ++ es) (us ++ zs))
-works_both hops w n batch k l vs ws us zs all ds es (Ok a) (Ok b) (Ok r) split is h t e =
-    subst (λ (xs : List ViewerState). AreWorks hops w n batch k xs (ds ++ es) (us ++ zs)) (sym split) (works-append hops w n batch k vs ds us l ws es zs h is t)
-works_both hops w n batch k l vs ws us zs all ds es (Ok a) (Err b) (Ok r) split is h t e = absurd (cc)
-works_both hops w n batch k l vs ws us zs all ds es (Err a) b (Ok r) split is h t e = absurd (cc)
-works_both hops w n batch k l vs ws us zs all ds es a b (Err r) split is h t e = tt
-
-pub halves_worked : {A B C E : Type 0} (hops : List Hop) (k : ℕ) (batch : Batch) (vs vs' ws ws' all : List ViewerState) (ds ds' es es' whole : List (List PairState)) (a : Result A E) (b : Result B E) (r : Result C E)
-    → all ≡ vs ++ ws → whole ≡ ds ++ es → HaveWorked hops k batch vs vs' ds ds' a → HaveWorked hops (k + length vs) batch ws ws' es es' b → OnOk r (IsOk a × IsOk b)
-    → HaveWorked hops k batch all (vs' ++ ws') whole (ds' ++ es') r
-halves_worked hops k batch vs vs' ws ws' all ds ds' es es' whole a b r split cut front back both = record {
-  later = subst (λ (xs : List ViewerState). AreLater xs (vs' ++ ws')) (sym split) (later-append vs vs' ws ws' front.later back.later);
-  same = omega (arith, length-append ds' es', length-append ds es, ap (λ (zs : List (List PairState)). length zs) cut, front.same, back.same);
-  ok = works_both hops batch.workers batch.base batch.packets.items k (k + length vs) vs ws vs' ws' all ds' es' a b r split refl front.ok back.ok both;
-}
 
 pub replies_more : (plan : PlanState) (k : ℕ) (rs : List Reply) (r : Reply) → AreReplies plan k rs → reply_after plan (k + length rs) ≡ Some r → AreReplies plan k (rs ++ r ∷ [])
 replies_more plan k [] r h is = (ap (reply_after plan) (sym (add-zero k)) ∙ is, tt)

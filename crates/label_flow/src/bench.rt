@@ -11,6 +11,7 @@ use packet_walk::{Gate, PacketIn, WalkRoom, Worker};
 use shared_tables::Viewer;
 use std::alloc::Global;
 use std::marker::Model;
+use std::mem;
 
 /// What a worker needs for its walks, and what it made of the packets of a batch: the places are filled again for the next batch.
 /// Contracts see it as the list of what it made.
@@ -45,6 +46,12 @@ impl Bench {
             filled: 0,
             _apart: CachePadded::new(()),
         }
+    }
+
+    /// The bench, in whose place an empty one is left. It takes no memory.
+    pub fn take(&mut self) -> Bench {
+        let alloc = *self.places.allocator();
+        mem::replace(self, Bench::new(alloc))
     }
 
     /// Forgets what was made.

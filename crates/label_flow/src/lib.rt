@@ -4,11 +4,16 @@
 //! `rounds.rt`, with a case of `IsStop` in `specs/Stops.antt`.
 #![tactic(auto)]
 
+mod agreed;
 mod bench;
+mod crew;
+mod desk;
 mod feed;
 pub mod laws;
+mod order;
 mod pair;
 mod rounds;
+mod staff;
 mod work;
 
 pub use feed::Feed;

@@ -1,26 +1,32 @@
 //! A round: the steps beside the packets, and the workers beside each other.
 
 ghost use Rattle.std.specs.Prelude.{◌≡◌, ◌+◌, ◌<◌, ◌≤◌, ◌^◌, List, [], ◌++◌, length, All, IfOk, IfErr, OnOk, Some, None, true, false};
+ghost use Rattle.std.specs.Arc.{arc_value};
 ghost use Rattle.flow_lines.specs.Hop.{node_of};
 ghost use Rattle.packet_walk.specs.declared.packet.PacketIn.{PacketIn};
 ghost use Rattle.label_flow.specs.Pair.{PairState};
-ghost use Rattle.label_flow.specs.Feed.{AreFetched, IsOver, AreBegun, AreWhole};
-ghost use Rattle.label_flow.specs.Round.{AreReplies, AreLater, IsRound};
+ghost use Rattle.label_flow.specs.Feed.{AreFetched, HasFetched, IsOver, AreBegun, AreWhole};
+ghost use Rattle.label_flow.specs.Round.{AreReplies, IsLater, AreLater, IsRound};
 ghost use Rattle.label_flow.specs.Stops.{IsStop};
 ghost use Rattle.label_flow.specs.inside.Work.{AreFirst, HasRoom, AllFit};
 ghost use Rattle.label_flow.specs.inside.Work.{HasViewers, HasCrew};
 ghost use Rattle.label_flow.specs.inside.Work.{IsReadyFor, LeavesFeed, TakesRound};
+ghost use Rattle.label_flow.specs.inside.Crew.{IsServant, IsTold, IsShort, IsAt, MayLead, HasLed};
+ghost use Rattle.label_flow.specs.inside.Crew.{AreOfOne};
 
-use crate::bench::Bench;
+use crate::agreed::{Agreed, Seen, Shift};
+use crate::crew::judge;
+use crate::desk::Desk;
 use crate::feed::Feed;
-use crate::work::{Batch, next_turn, spread};
+use crate::staff::all_batches;
+use crate::work::{Batch, next_turn};
 use flow_lines::FlowLine;
 use mls_label::OutOfMemory;
 use node_tables::Reply;
-use packet_walk::{Gate, ShownWalks, Worker};
+use packet_walk::{Gate, ShownWalks};
 use shared_tables::{Publisher, Viewer};
 use std::alloc::Global;
-use std::sync::Wait;
+use std::sync::{Arc, Wait};
 use std::thread::{Threads, join_mut};
 
 /// Why a round stopped.
@@ -63,9 +69,9 @@ fn step_to<G: Gate, R: Wait>(
 }
 
 // Hands what the workers made to the feed, in the order of the packets.
-fn hand_over<Q: Feed>(
+fn hand_over<A: Agreed, Q: Feed>(
     batch: &Batch,
-    done: &[Bench],
+    done: &[Desk<A>],
     shown: &mut ShownWalks,
     feed: &mut Q,
 ) -> Result<(), RoundStop<Q::Stop>>
@@ -104,120 +110,152 @@ fn hand_over<Q: Feed>(
     Ok(())
 }
 
-// Judges a batch that was fetched, with a worker for each viewer, and hands it over.
-fn judge_batch<Q: Feed, G: Gate + Sync, R: Threads + Sync>(
-    rt: &R,
-    worker: &Worker<'_, '_, G>,
-    batch: &Batch,
+// Judges a batch that was fetched, with a worker for each desk, and hands it over.
+fn judge_batch<A: Agreed, Q: Feed, G: Gate, R: Wait>(
+    shift: &Shift<'_, '_, '_, R, G>,
+    batch: &Arc<Batch>,
+    viewer: &mut Viewer,
     feed: &mut Q,
-    viewers: &mut [Viewer],
-    benches: &mut [Bench],
+    desks: &mut [Desk<A>],
+    seens: &mut [Seen<A>],
     shown: &mut ShownWalks,
 ) -> Result<(), RoundStop<Q::Stop>>
-    requires crew { HasCrew worker.now.flow.now.hops worker.now.number batch.now.workers
-        viewers.old benches.old }
-    requires numbers { batch.now.base + length batch.now.packets.items < 2 ^ 63 }
-    requires feed { IsReadyFor worker.now.flow.now.hops (length batch.now.packets.items)
+    requires viewer { IsServant A.board A.plan A.hops shift.now.flow.now.hops viewer.old }
+    requires crew { HasCrew shift.now.flow.now.hops (arc_value batch.now).workers
+        (length desks.old) seens.old }
+    requires numbers { (arc_value batch.now).base
+        + length (arc_value batch.now).packets.items < 2 ^ 63 }
+    requires told { IsTold A.left (arc_value batch.now).base
+        (arc_value batch.now).packets.items }
+    requires feed { IsReadyFor shift.now.flow.now.hops
+        (length (arc_value batch.now).packets.items)
         (Q.hops feed.old) (Q.due feed.old) (Q.ready feed.old) }
-    requires short { All (λ p. length p.bytes ≤ 262144) batch.now.packets.items }
-    ensures benches { length benches.new ≡ length benches.old }
-    ensures later { AreLater viewers.old viewers.new }
+    requires short { All IsShort (arc_value batch.now).packets.items }
+    ensures desks { length desks.new ≡ length desks.old }
+    ensures later { IsLater viewer.old viewer.new }
+    ensures seens { AreLater seens.old seens.new }
     ensures left { Q.left feed.new ≡ Q.left feed.old }
     ensures feed { LeavesFeed result (Q.hops feed.old) (Q.hops feed.new) (Q.due feed.new)
         (Q.stop feed.old) (Q.stop feed.new) (Q.ready feed.new) }
-    ensures took { TakesRound Q.took feed.old feed.new worker.now.flow.now.hops batch.now.base
-        (Some batch.now.packets.items)
-        (λ packets. OnOk result (packets ≡ batch.now.packets.items))
-        viewers.old viewers.new }
+    ensures took { TakesRound Q.took feed.old feed.new shift.now.flow.now.hops
+        (arc_value batch.now).base None
+        (λ packets. IsTold A.left (arc_value batch.now).base packets
+        × OnOk result (length packets ≡ length (arc_value batch.now).packets.items))
+        seens.old seens.new }
 {
-    let Ok(()) = spread(rt, worker, batch, viewers, benches) else {
+    let Ok(()) = judge(shift, batch, viewer, desks, seens) else {
         return Err(RoundStop::OutOfMemory);
     };
-    hand_over(batch, benches, shown, feed)
-}
-
-// One batch: true if there was one.
-fn batch_round<Q: Feed, G: Gate + Sync, R: Threads + Sync>(
-    rt: &R,
-    worker: &Worker<'_, '_, G>,
-    batch: &mut Batch,
-    feed: &mut Q,
-    viewers: &mut [Viewer],
-    benches: &mut [Bench],
-    shown: &mut ShownWalks,
-) -> Result<bool, RoundStop<Q::Stop>>
-    requires crew { HasCrew worker.now.flow.now.hops worker.now.number batch.old.workers
-        viewers.old benches.old }
-    requires numbers { batch.old.base < 2 ^ 62 }
-    requires feed { IsReadyFor worker.now.flow.now.hops 0
-        (Q.hops feed.old) (Q.due feed.old) (Q.ready feed.old) }
-    ensures base { batch.new.base ≡ batch.old.base }
-    ensures workers { batch.new.workers ≡ batch.old.workers }
-    ensures benches { length benches.new ≡ length benches.old }
-    ensures later { AreLater viewers.old viewers.new }
-    ensures feed { LeavesFeed result (Q.hops feed.old) (Q.hops feed.new) (Q.due feed.new)
-        (Q.stop feed.old) (Q.stop feed.new) (Q.ready feed.new) }
-    ensures ok { OnOk result ((length batch.new.packets.items ≤ 1024)
-        × AreFetched (Q.left feed.old) batch.new.packets.items (Q.left feed.new)) }
-    ensures none { IfOk result (λ more. more ≡ false
-        → (batch.new.packets.items ≡ []) × IsOver (Q.left feed.new) × (Q.ended feed.new ≡ true)) }
-    ensures took { TakesRound Q.took feed.old feed.new worker.now.flow.now.hops batch.old.base
-        (Q.left feed.old) (λ packets. OnOk result (packets ≡ batch.new.packets.items))
-        viewers.old viewers.new }
-{
-    match feed.fetch(&mut batch.packets) {
-        Ok(true) => match judge_batch(rt, worker, batch, feed, viewers, benches, shown) {
-            Ok(()) => Ok(true),
-            Err(stop) => Err(stop),
-        },
-        Ok(false) => Ok(false),
-        Err(stop) => Err(RoundStop::Feed(stop)),
-    }
+    hand_over(batch, desks, shown, feed)
 }
 
 const MOST: u64 = 1 << 62;
 
-// All batches.
-fn all_batches<Q: Feed, G: Gate + Sync, R: Threads + Wait + Sync>(
-    rt: &R,
-    alloc: Global,
-    flow: &FlowLine,
-    gate: &G,
-    feed: &mut Q,
-    viewers: &mut [Viewer],
-) -> Result<(), RoundStop<Q::Stop>>
-    requires viewers { HasViewers flow.now.hops viewers.old }
-    requires feed { IsReadyFor flow.now.hops 0
-        (Q.hops feed.old) (Q.due feed.old) (Q.ready feed.old) }
-    ensures later { AreLater viewers.old viewers.new }
-    ensures feed { LeavesFeed result (Q.hops feed.old) (Q.hops feed.new) (Q.due feed.new)
-        (Q.stop feed.old) (Q.stop feed.new) (Q.ready feed.new) }
-    ensures ok { OnOk result (IsOver (Q.left feed.new) × (Q.ended feed.new ≡ true)) }
-    ensures took { TakesRound Q.took feed.old feed.new flow.now.hops 0
-        (Q.left feed.old) (λ packets. OnOk result (AreWhole (Q.left feed.old) packets))
-        viewers.old viewers.new }
+// The next packets in place of those that the batch has.
+fn fetch_next<Q: Feed>(batch: &mut Arc<Batch>, feed: &mut Q) -> Result<bool, RoundStop<Q::Stop>>
+    requires few { length (arc_value batch.old).packets.items ≤ 1024 }
+    requires due { Q.due feed.old ≡ 0 }
+    requires ready { Q.ready feed.old }
+    ensures workers { (arc_value batch.new).workers ≡ (arc_value batch.old).workers }
+    ensures base { OnOk result (((arc_value batch.old).base < 2 ^ 62)
+        × ((arc_value batch.new).base
+        ≡ (arc_value batch.old).base + length (arc_value batch.old).packets.items)) }
+    ensures ok { IfOk result (λ more.
+        HasFetched (Q.left feed.old) more (arc_value batch.new).packets.items
+        (Q.left feed.new) (Q.due feed.new)) }
+    ensures ended { IfOk result (λ more. more ≡ false → Q.ended feed.new ≡ true) }
+    ensures stop { OnOk result (Q.stop feed.new ≡ Q.stop feed.old) }
+    ensures err { IfErr result (λ e. IsStop e (Q.stop feed.old) (Q.stop feed.new)) }
+    ensures ready { Q.ready feed.new }
+    ensures hops { Q.hops feed.new ≡ Q.hops feed.old }
+    ensures took { (was : Q) (h : List PairState)
+        → Q.took was feed.old h → Q.took was feed.new h }
 {
-    let Ok(mut benches) = benches_for(alloc, viewers.len()) else {
+    let Some(batch) = Arc::get_mut(batch) else {
         return Err(RoundStop::OutOfMemory);
     };
-    let benches = benches.as_mut_slice();
+    if batch.base >= MOST {
+        return Err(RoundStop::OutOfMemory);
+    }
+    batch.base += batch.packets.len() as u64;
+    match feed.fetch(&mut batch.packets) {
+        Ok(more) => Ok(more),
+        Err(stop) => Err(RoundStop::Feed(stop)),
+    }
+}
+
+// One batch: true if there was one.
+fn batch_round<A: Agreed, Q: Feed, G: Gate, R: Wait>(
+    shift: &Shift<'_, '_, '_, R, G>,
+    batch: &mut Arc<Batch>,
+    viewer: &mut Viewer,
+    feed: &mut Q,
+    desks: &mut [Desk<A>],
+    seens: &mut [Seen<A>],
+    shown: &mut ShownWalks,
+) -> Result<bool, RoundStop<Q::Stop>>
+    requires viewer { IsServant A.board A.plan A.hops shift.now.flow.now.hops viewer.old }
+    requires crew { HasCrew shift.now.flow.now.hops (arc_value batch.old).workers
+        (length desks.old) seens.old }
+    requires few { length (arc_value batch.old).packets.items ≤ 1024 }
+    requires at { IsAt A.left (Q.left feed.old)
+        ((arc_value batch.old).base + length (arc_value batch.old).packets.items) }
+    requires feed { IsReadyFor shift.now.flow.now.hops 0
+        (Q.hops feed.old) (Q.due feed.old) (Q.ready feed.old) }
+    ensures workers { (arc_value batch.new).workers ≡ (arc_value batch.old).workers }
+    ensures base { OnOk result ((arc_value batch.new).base
+        ≡ (arc_value batch.old).base + length (arc_value batch.old).packets.items) }
+    ensures desks { length desks.new ≡ length desks.old }
+    ensures later { IsLater viewer.old viewer.new }
+    ensures seens { AreLater seens.old seens.new }
+    ensures feed { LeavesFeed result (Q.hops feed.old) (Q.hops feed.new) (Q.due feed.new)
+        (Q.stop feed.old) (Q.stop feed.new) (Q.ready feed.new) }
+    ensures ok { OnOk result ((length (arc_value batch.new).packets.items ≤ 1024)
+        × AreFetched (Q.left feed.old) (arc_value batch.new).packets.items (Q.left feed.new)) }
+    ensures none { IfOk result (λ more. more ≡ false → ((arc_value batch.new).packets.items ≡ [])
+        × IsOver (Q.left feed.new)
+        × (Q.ended feed.new ≡ true)) }
+    ensures took { TakesRound Q.took feed.old feed.new shift.now.flow.now.hops
+        ((arc_value batch.old).base + length (arc_value batch.old).packets.items)
+        (Q.left feed.old)
+        (λ packets. OnOk result (AreFetched (Q.left feed.old) packets (Q.left feed.new)
+        × (length packets ≡ length (arc_value batch.new).packets.items)))
+        seens.old seens.new }
+{
+    match fetch_next(batch, feed) {
+        Ok(true) => match judge_batch(shift, batch, viewer, feed, desks, seens, shown) {
+            Ok(()) => Ok(true),
+            Err(stop) => Err(stop),
+        },
+        Ok(false) => Ok(false),
+        Err(stop) => Err(stop),
+    }
+}
+
+/// All batches, by the workers at these desks. The viewer is that of the one who leads.
+pub(crate) fn each_batch<A: Agreed, Q: Feed, G: Gate, R: Wait>(
+    shift: &Shift<'_, '_, '_, R, G>,
+    viewer: &mut Viewer,
+    feed: &mut Q,
+    desks: &mut [Desk<A>],
+    seens: &mut [Seen<A>],
+) -> Result<(), RoundStop<Q::Stop>>
+    requires viewer { IsServant A.board A.plan A.hops shift.now.flow.now.hops viewer.old }
+    requires lead { MayLead A.hops shift.now.flow.now.hops A.left (Q.left feed.old)
+        seens.old (length desks.old) }
+    requires feed { IsReadyFor shift.now.flow.now.hops 0
+        (Q.hops feed.old) (Q.due feed.old) (Q.ready feed.old) }
+    ensures later { IsLater viewer.old viewer.new }
+    ensures led { HasLed Q.took Q.left Q.ended Q.due Q.stop Q.hops Q.ready
+        shift.now.flow.now.hops result feed.old feed.new seens.old seens.new }
+{
+    let Ok(mut batch) = no_packets(shift.alloc, seens.len()) else {
+        return Err(RoundStop::OutOfMemory);
+    };
     let mut shown = ShownWalks::new();
-    let worker = Worker {
-        flow,
-        number: 0,
-        gate,
-    };
-    let mut batch = Batch {
-        workers: viewers.len() as u32,
-        base: 0,
-        packets: Vec::new(alloc),
-    };
-    for _ in rt.forever() {
-        if batch.base >= MOST {
-            return Err(RoundStop::OutOfMemory);
-        }
-        match batch_round(rt, &worker, &mut batch, feed, viewers, benches, &mut shown) {
-            Ok(true) => batch.base += batch.packets.len() as u64,
+    for _ in shift.rt.forever() {
+        match batch_round(shift, &mut batch, viewer, feed, desks, seens, &mut shown) {
+            Ok(true) => {}
             Ok(false) => return Ok(()),
             Err(stop) => return Err(stop),
         }
@@ -225,17 +263,22 @@ fn all_batches<Q: Feed, G: Gate + Sync, R: Threads + Wait + Sync>(
     unreachable!()
 }
 
-// A bench for each worker.
-fn benches_for(alloc: Global, workers: usize) -> Result<Vec<Bench>, OutOfMemory>
-    ensures { IfOk result (λ benches. length benches.items ≡ workers) }
+// A batch of no packets at the feed's start.
+fn no_packets(alloc: Global, workers: usize) -> Result<Arc<Batch>, OutOfMemory>
+    requires { workers ≤ 16 }
+    ensures { IfOk result (λ batch. ((arc_value batch).workers ≡ workers)
+        × ((arc_value batch).base ≡ 0)
+        × ((arc_value batch).packets.items ≡ [])) }
 {
-    let mut benches = Vec::new(alloc);
-    for _ in 0..workers {
-        benches.push(Bench::new(alloc)).map_err(|_| OutOfMemory)?;
-    }
-    Ok(benches)
+    let batch = Batch {
+        workers: workers as u32,
+        base: 0,
+        packets: Vec::new(alloc),
+    };
+    Ok(Arc::new(alloc, batch)?)
 }
 
+#[tactic(auto, using(crate::proofs::Learning::all_of_one))]
 /// Makes the steps up to a version on one side, and judges the feed's packets on the other, with a worker for each viewer.
 pub fn round<Q: Feed + Send, G: Gate + Sync, R: Threads + Wait + Sync>(
     rt: &R,
@@ -280,6 +323,7 @@ pub fn round<Q: Feed + Send, G: Gate + Sync, R: Threads + Wait + Sync>(
     let mut steps = || step_to(rt, alloc, upto, gate, publisher);
     let mut packets = ||
         requires { HasViewers flow.now.hops viewers.now
+            × AreOfOne viewers.now
             × IsReadyFor flow.now.hops 0 (Q.hops feed.now) (Q.due feed.now) (Q.ready feed.now) }
     { all_batches(rt, alloc, flow, gate, feed, viewers) };
     let (replies, fed) = join_mut(rt, &mut steps, &mut packets);

@@ -1,15 +1,14 @@
 -- What the workers made of a batch, and what is handed over of it.
-use Rattle.std.specs.Prelude.{◌≡◌, ℕ, ◌+◌, ◌<◌, ◌≤◌, ◌^◌, List, [], ◌∷◌, ◌++◌, length, take, slice_index_or, slice_get, Option, Some, All, Result, IfErr, OnOk}
+use Rattle.std.specs.Prelude.{◌≡◌, ℕ, ◌+◌, ◌<◌, ◌≤◌, List, [], ◌∷◌, ◌++◌, length, take, slice_index_or, slice_get, Option, Some, All, Result, IfErr, OnOk}
 use Rattle.flow_lines.specs.declared.hop.Hop.{Hop}
 use Rattle.flow_lines.specs.Hop.{node_of}
 use Rattle.shared_tables.specs.Board.{ViewerState}
 use Rattle.packet_walk.specs.declared.packet.PacketIn.{PacketIn}
 use Rattle.packet_walk.specs.Walk.{IsWalked}
 use Rattle.label_flow.specs.declared.rounds.RoundStop.{RoundStop}
-use Rattle.label_flow.specs.declared.work.Batch.{Batch}
 use Rattle.label_flow.specs.Pair.{PairState}
 use Rattle.label_flow.specs.Feed.{MayAccept, AreBegun}
-use Rattle.label_flow.specs.Round.{pick, IsWork, IsRound, AreLater}
+use Rattle.label_flow.specs.Round.{pick, IsWork, IsRound}
 use Rattle.label_flow.specs.Stops.{IsStop}
 
 -- each hop's node is in the viewer's network
@@ -24,7 +23,7 @@ IsWalkedBy hops v u packet pair = IsWalked v.plan hops v.seen u.seen packet pair
 abbrev pub IsOneMore : List Hop → ViewerState → ViewerState → PacketIn → List PairState → List PairState → Type 0
 IsOneMore hops v u packet old new = (pair : PairState) × (new ≡ old ++ pair ∷ []) × IsWalkedBy hops v u packet pair
 
--- worker k and those after it, each with its packets of a batch that begins at number n
+-- worker k and those after it, each with what it made of its packets of these, which begin at number n
 abbrev pub AreWorks : List Hop → ℕ → ℕ → List PacketIn → ℕ → List ViewerState → List (List PairState) → List ViewerState → Type 0
 AreWorks hops w n batch k [] [] [] = Unit {0}
 AreWorks hops w n batch k (v ∷ vs) (d ∷ ds) (u ∷ us) = IsWork v.plan hops v.seen (pick k w n batch) d u.seen × AreWorks hops w n batch (k + 1) vs ds us
@@ -42,33 +41,16 @@ pub record HasRoom (w n : ℕ) (batch : List PacketIn) (ds : List (List PairStat
 pub record AllFit (hops : ℕ) (ds : List (List PairState)) : Type 0 where
   pub each : (k j : ℕ) (r : PairState) → slice_get (slice_index_or ds k []) j ≡ Some r → MayAccept hops r.walked.end r.octets
 
--- worker k and those after it can take their packets of a batch: one for each of these viewers, with a bench for each
-pub record CanWork (hops : List Hop) (k : ℕ) (batch : Batch) (viewers : List ViewerState) (benches : List (List PairState)) : Type 0 where
-  pub some : 0 < length viewers
-  pub same : length benches ≡ length viewers
-  pub nodes : All (HasNodes hops) viewers
-  pub workers : k + length viewers ≤ batch.workers
-  pub few : batch.workers ≤ 16
-  pub numbers : batch.base + length batch.packets.items < 2 ^ 63
-
--- they took them, or memory ran out
-pub record HaveWorked {A E : Type 0} (hops : List Hop) (k : ℕ) (batch : Batch) (olds news : List ViewerState) (benches made : List (List PairState))
-    (result : Result A E) : Type 0 where
-  pub later : AreLater olds news
-  pub same : length made ≡ length benches
-  pub ok : OnOk result (AreWorks hops batch.workers batch.base batch.packets.items k olds made news)
-
 -- there are 1 to 16 viewers, each with the nodes of these hops
 pub record HasViewers (hops : List Hop) (viewers : List ViewerState) : Type 0 where
   pub some : 0 < length viewers
   pub few : length viewers ≤ 16
   pub nodes : All (HasNodes hops) viewers
 
--- w workers, the first of which is worker k, are all there are: one for each viewer, with a bench for each
-pub record HasCrew (hops : List Hop) (k w : ℕ) (viewers : List ViewerState) (benches : List (List PairState)) : Type 0 where
-  pub first : k ≡ 0
+-- w workers, each with a desk, and these viewers
+pub record HasCrew (hops : List Hop) (w desks : ℕ) (viewers : List ViewerState) : Type 0 where
   pub all : w ≡ length viewers
-  pub same : length benches ≡ length viewers
+  pub same : desks ≡ length viewers
   pub viewers_are : HasViewers hops viewers
 
 -- a feed is ready, with so many packets due, and its flow has these hops
