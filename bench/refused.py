@@ -279,7 +279,7 @@ def main():
                 if "wrong" in told or run.returncode not in (0, 1):
                     raise SystemExit(f"allocation {number}: status {run.returncode}, {told}")
                 if not number:
-                    count = int.from_bytes((top / "counted").read_bytes(), sys.byteorder)
+                    count = int.from_bytes((top / "counted").read_bytes()[:8], sys.byteorder)
             number += 1
         print(f"{count} allocations, each refused {asked.times} times")
         for (status, told), times in found.most_common():

@@ -1,19 +1,20 @@
-"""Refuses one allocation after another of calls of the built program, and checks how each call ends.
+"""Refuses one allocation after another of calls of the built program, and one thread after another, and checks how each call ends.
 
-    python3 bench/refused_program.py [--times N]
+    python3 bench/refused_program.py [--times N] [--program PROGRAM]
 
 The calls are the examples of `judge`, `show`, `check`, `agree` and `make`, the one that crosses from version to version and back, and a script with a
 command between its flows. Of each call every allocation is refused in turn, those of its threads too, by bench/refused.c, which is loaded before the
 program. The status has to be 6 with a beginning of the report, and of each output; or the report and the outputs have to be whole, with their
 status. Where commands run beside packets, each of the reports that are lawful will do. Each call has to have an allocation that was refused, and one
-of them to end with 6.
+of them to end with 6. Then each thread of a call is refused in turn, alone and with all behind it: the call has to end whole. A call that doesn't end
+within a minute is told as one that hangs.
 """
 import argparse
 import collections
 import pathlib
 import shutil
+import struct
 import subprocess
-import sys
 import tempfile
 
 import scratch
@@ -81,39 +82,67 @@ def commands_between(folder):
     return Call(folder, ["run", "between"], [between(*DELIVERED), between(*DENIED)], 0, {})
 
 
-def refused(call, refuser, number, counted):
-    """How a call ends one of whose allocations is refused, and how many there were."""
-    with tempfile.TemporaryDirectory() as made:
-        here = shutil.copytree(call.folder, pathlib.Path(made) / "here")
-        given = {path.name for path in here.iterdir()}
-        words = {"LD_PRELOAD": str(refuser), "REFUSE": str(number), "COUNTED": str(counted)}
-        run = subprocess.run([PROGRAM, *call.words], cwd=here, env=words, capture_output=True, timeout=60)
-        left = {path.name: path.read_bytes() for path in here.iterdir() if path.name not in given}
-    if not call.is_right(run.returncode, run.stdout, left):
-        raise SystemExit(f"{' '.join(call.words)}, allocation {number}: status {run.returncode}, {run.stdout!r}, {sorted(left)}, {run.stderr!r}")
-    return run.returncode, int.from_bytes(counted.read_bytes(), sys.byteorder)
+class Refuser:
+    """Runs calls of a program, of which something is refused."""
+
+    def __init__(self, program, top):
+        self.program, self.library, self.counted = program, top / "refused.so", top / "counted"
+        subprocess.run(["cc", "-O2", "-shared", "-fPIC", "-o", self.library, scratch.TOP / "bench/refused.c"], check=True)
+
+    def run(self, call, **what):
+        """The status that a call ends with, and how many allocations and threads it asked for."""
+        with tempfile.TemporaryDirectory() as made:
+            here = shutil.copytree(call.folder, pathlib.Path(made) / "here")
+            given = {path.name for path in here.iterdir()}
+            words = {"LD_PRELOAD": str(self.library), "COUNTED": str(self.counted)} | {name: str(number) for name, number in what.items()}
+            try:
+                run = subprocess.run([self.program, *call.words], cwd=here, env=words, capture_output=True, timeout=60)
+            except subprocess.TimeoutExpired:
+                raise SystemExit(f"{' '.join(call.words)}, {what}: hangs")
+            left = {path.name: path.read_bytes() for path in here.iterdir() if path.name not in given}
+        if not call.is_right(run.returncode, run.stdout, left):
+            raise SystemExit(f"{' '.join(call.words)}, {what}: status {run.returncode}, {run.stdout!r}, {sorted(left)}, {run.stderr!r}")
+        return run.returncode, *struct.unpack("ll", self.counted.read_bytes())
+
+
+def refuse_memory(refuser, call, times):
+    """Refuses each allocation of a call so often, and tells what came of it."""
+    _, count, _ = refuser.run(call)
+    ends, reached = collections.Counter(), 0
+    for number in range(1, count + 1):
+        for _ in range(times):
+            status, asked_for, _ = refuser.run(call, REFUSE=number)
+            ends[status] += 1
+            reached += asked_for >= number
+    if not reached or not ends[NO_MEMORY]:
+        raise SystemExit(f"{' '.join(call.words)}: of {count} allocations {reached} were refused, and {ends[NO_MEMORY]} of these calls ended with 6")
+    told = ", ".join(f"status {status} {times} times" for status, times in sorted(ends.items()))
+    return f"{count} allocations, each refused {times} times: {told}"
+
+
+def refuse_threads(refuser, call, times):
+    """Refuses each thread of a call so often, alone and with all behind it. Each call has to end whole."""
+    _, _, count = refuser.run(call)
+    for number in range(1, count + 1):
+        for behind in ({}, {"ALL_BEHIND": 1}):
+            for _ in range(times):
+                status, _, _ = refuser.run(call, REFUSE_THREAD=number, **behind)
+                if status != call.status:
+                    raise SystemExit(f"{' '.join(call.words)}, thread {number}: status {status}")
+    return f"{count} threads, each refused {times} times alone and {times} with all behind it: ended whole"
 
 
 def main():
     options = argparse.ArgumentParser(description=__doc__, formatter_class=argparse.RawDescriptionHelpFormatter)
-    options.add_argument("--times", type=int, default=3, help="how often each allocation is refused, as threads go in different orders")
+    options.add_argument("--times", type=int, default=3, help="how often each is refused, as threads go in different orders")
+    options.add_argument("--program", type=pathlib.Path, default=PROGRAM, help="another build of the program")
     asked = options.parse_args()
     with tempfile.TemporaryDirectory() as made:
         top = pathlib.Path(made)
-        refuser = top / "refused.so"
-        subprocess.run(["cc", "-O2", "-shared", "-fPIC", "-o", refuser, scratch.TOP / "bench/refused.c"], check=True)
+        refuser = Refuser(asked.program.resolve(), top)
         for call in [*map(example, EXAMPLES), commands_between(top / "between")]:
-            _, count = refused(call, refuser, 0, top / "counted")
-            ends, reached = collections.Counter(), 0
-            for number in range(1, count + 1):
-                for _ in range(asked.times):
-                    status, asked_for = refused(call, refuser, number, top / "counted")
-                    ends[status] += 1
-                    reached += asked_for >= number
-            if not reached or not ends[NO_MEMORY]:
-                raise SystemExit(f"{' '.join(call.words)}: of {count} allocations {reached} were refused, and {ends[NO_MEMORY]} of these calls ended with 6")
-            told = ", ".join(f"status {status} {times} times" for status, times in sorted(ends.items()))
-            print(f"{' '.join(call.words)}: {count} allocations, each refused {asked.times} times: {told}")
+            said = refuse_memory(refuser, call, asked.times), refuse_threads(refuser, call, asked.times)
+            print(f"{' '.join(call.words)}: {'; '.join(said)}", flush=True)
 
 
 if __name__ == "__main__":
