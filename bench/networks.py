@@ -7,8 +7,8 @@ its own, and else translates them. Commands between the flows give receivers oth
 import dataclasses
 from typing import Dict, List, NamedTuple, Optional
 
+from frames import bitmap, crc, numbers
 from packets import header4
-from show import bitmap, crc, numbers
 
 ADDRESSES = {4: "10.0.0.{}", 6: "fd00::{}"}
 PREFIXES = {4: "0.0.0.0/0", 6: "::/0"}
