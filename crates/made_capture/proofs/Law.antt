@@ -1,6 +1,6 @@
 -- The laws of src/laws.rt under their names, for the crates above.
 use Rattle.std.proofs.Common.{◌≡◌, ℕ, ◌+◌, ◌^◌, ◌<◌, ◌≤◌, false, List, ◌++◌, length, None}
-use Rattle.pcap_frames.specs.declared.order.OctetOrder.TheVariants.{Little}
+use Rattle.file_window.specs.declared.order.OctetOrder.TheVariants.{Little}
 use Rattle.pcap_frames.specs.Capture.{IsCapture}
 use Rattle.pcap_frames.specs.Written.{capture_head_octets, frame_octets}
 use Rattle.pcap_frames.proofs.Law.{a_written_capture_reads_back}

@@ -1,7 +1,7 @@
 //! Laws: what is true of made captures. Each is a function with nothing to do, whose clause is the law.
 
 ghost use Rattle.std.specs.Prelude.{◌≡◌, ℕ, ◌+◌, ◌^◌, ◌<◌, ◌≤◌, false, List, ◌++◌, length, None};
-ghost use Rattle.pcap_frames.specs.declared.order.OctetOrder.TheVariants.{Little};
+ghost use Rattle.file_window.specs.declared.order.OctetOrder.TheVariants.{Little};
 ghost use Rattle.pcap_frames.specs.Capture.{IsCapture};
 ghost use Rattle.pcap_frames.specs.Written.{capture_head_octets, frame_octets};
 ghost use Rattle.packet_label.specs.Packet.{IsPacket};

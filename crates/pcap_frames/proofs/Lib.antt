@@ -1,4 +1,3 @@
-pub mod Numbers
 pub mod Windows
 pub mod Readers
 pub mod Chains

@@ -2,12 +2,13 @@
 use Rattle.std.proofs.Common.{arith, ◌≡◌, ◌≤◌, ◌+◌, ℕ, List, [], ◌∷◌, ◌++◌, length, take, drop, Result, Ok, Err, Option, Some, None, refl, ap, sym, ◌∙◌}
 use Rattle.std.proofs.lemmas.Bool.Decides.{nat_tests}
 use Rattle.std.proofs.lemmas.List.{take_at, take-append-le, drop-append-le, length-drop}
-use Rattle.pcap_frames.specs.declared.order.OctetOrder.{OctetOrder}
+use Rattle.file_window.specs.declared.order.OctetOrder.{OctetOrder}
 use Rattle.pcap_frames.specs.declared.record.RecordHead.{RecordHead}
 use Rattle.pcap_frames.specs.declared.fault.CaptureFault.{CaptureFault}
 use Rattle.pcap_frames.specs.Record.{Frame, head_at, behind_head, record_at, record_size}
 use Rattle.pcap_frames.specs.Reader.{Reader, AreRecords, ReaderStandsIn}
-use Rattle.pcap_frames.proofs.Windows.{front_within, head_longer, header_longer, held_octets}
+use Rattle.file_window.proofs.Law.{a_window_has_no_more_than_the_rest}
+use Rattle.pcap_frames.proofs.Windows.{head_longer, header_longer, held_octets}
 use Rattle.pcap_frames.proofs.Bounds.{record_fits, header_long, place_within}
 
 -- the octets of a record that is whole
@@ -45,6 +46,6 @@ stands_longer reader file more stands =
       frames = stands.frames;
       whole = records_longer reader.header.order file more 24 stands.frames reader.place long stands.whole;
       ahead = ap (take (length reader.ahead)) (drop-append-le reader.place file more place)
-          ∙ take-append-le (length reader.ahead) (drop reader.place file) more (front_within (drop reader.place file) reader.ahead stands.ahead)
+          ∙ take-append-le (length reader.ahead) (drop reader.place file) more (a_window_has_no_more_than_the_rest file reader.place reader.ahead stands.ahead)
           ∙ stands.ahead;
     }

@@ -1,7 +1,8 @@
 -- A reader of a capture, and how its answers follow from the file.
-use Rattle.std.specs.Prelude.{◌≡◌, ℕ, ◌+◌, IsTrue, IsSome, List, [], ◌∷◌, length, take, drop, Option, Some, Result, Ok, Err}
+use Rattle.std.specs.Prelude.{◌≡◌, ℕ, ◌+◌, IsTrue, IsSome, List, [], ◌∷◌, drop, Option, Some, Result, Ok, Err}
 use Rattle.net_io.specs.Depot.{DepotState, octets_of}
-use Rattle.pcap_frames.specs.declared.order.OctetOrder.{OctetOrder}
+use Rattle.file_window.specs.declared.order.OctetOrder.{OctetOrder}
+use Rattle.file_window.specs.Window.{IsFrom}
 use Rattle.pcap_frames.specs.declared.header.CaptureHeader.{CaptureHeader}
 use Rattle.pcap_frames.specs.declared.fault.CaptureFault.{CaptureFault}
 use Rattle.pcap_frames.specs.declared.fault.FrameStop.{FrameStop}
@@ -15,10 +16,6 @@ pub record Reader : Type 0 where
   pub header : CaptureHeader
   pub place : ℕ
   pub ahead : List ℕ
-
--- these octets stand in a file from the octet `at` on
-abbrev pub IsFrom : List ℕ → ℕ → List ℕ → Type 0
-IsFrom file at octets = take (length octets) (drop at file) ≡ octets
 
 -- these are the records of a file from one place to another, whole and one behind another
 abbrev pub AreRecords : OctetOrder → List ℕ → ℕ → List Frame → ℕ → Type 0

@@ -7,8 +7,8 @@ ghost use Rattle.pcap_frames.specs.Reader.{IsReady, IsAnswerOf, SpeaksOf};
 
 use crate::header::CAPTURE_HEAD;
 use crate::reading::{read_record, read_start};
-use crate::window::Window;
 use crate::{CaptureHeader, FrameHead, FrameStop};
+use file_window::Window;
 use net_io::Depot;
 use std::alloc::Global;
 use std::marker::Model;

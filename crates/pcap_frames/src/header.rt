@@ -9,7 +9,6 @@
 ghost use Rattle.std.specs.Prelude.{◌≡◌, ◌≤◌, length, OnOk};
 ghost use Rattle.pcap_frames.specs.Header.{nanos_in, magic_of, is_link, capture_header};
 
-use crate::order::{u16_at, u32_at};
 use crate::{CaptureFault, CaptureKind, OctetOrder};
 
 /// How many octets the header has.
@@ -37,7 +36,7 @@ fn read_nanos(order: OctetOrder, octets: &[u8]) -> Option<bool>
     requires { 4 ≤ length octets.now }
     ensures { result ≡ nanos_in order octets.now }
 {
-    match u32_at(order, octets, 0) {
+    match order.u32_at(octets, 0) {
         MICROSECONDS => Some(false),
         NANOSECONDS => Some(true),
         _ => None,
@@ -84,14 +83,14 @@ pub fn read_header(octets: &[u8]) -> Result<CaptureHeader, CaptureFault>
             kind: CaptureKind::Magic,
         });
     };
-    let version = (u16_at(order, octets, 4), u16_at(order, octets, 6));
+    let version = (order.u16_at(octets, 4), order.u16_at(octets, 6));
     if version.0 != 2 || version.1 != 4 {
         return Err(CaptureFault {
             octet: 4,
             kind: CaptureKind::Version,
         });
     }
-    let link = u32_at(order, octets, 20);
+    let link = order.u32_at(octets, 20);
     if !is_known_link(link) {
         return Err(CaptureFault {
             octet: 20,

@@ -3,7 +3,6 @@ ghost use Rattle.std.specs.Prelude.{◌≡◌, ◌≤◌, length, option_copied}
 ghost use Rattle.pcap_frames.specs.Ip.{has_vlan_tag, typed_part, ethernet_part, ip_part_of};
 
 use crate::OctetOrder;
-use crate::order::u16_at;
 
 /// The EtherType of a tag of IEEE 802.1Q.
 const VLAN: u16 = 0x8100;
@@ -13,7 +12,7 @@ fn behind_type(octets: &[u8]) -> Option<&[u8]>
     requires { 2 ≤ length octets.now }
     ensures { option_copied result ≡ typed_part octets.now }
 {
-    match u16_at(OctetOrder::Big, octets, 0) {
+    match OctetOrder::Big.u16_at(octets, 0) {
         0x0800 | 0x86DD => Some(&octets[2..]),
         _ => None,
     }
@@ -24,7 +23,7 @@ fn is_vlan_tagged(octets: &[u8]) -> bool
     requires { 14 ≤ length octets.now }
     ensures { result ≡ has_vlan_tag octets.now }
 {
-    u16_at(OctetOrder::Big, octets, 12) == VLAN && octets.len() >= 18
+    OctetOrder::Big.u16_at(octets, 12) == VLAN && octets.len() >= 18
 }
 
 /// The IP packet of an Ethernet frame.

@@ -8,18 +8,16 @@ mod frames;
 mod header;
 mod ip;
 pub mod laws;
-mod order;
 mod reading;
 mod record;
 #[cfg(test)]
 mod tests;
-mod window;
 mod write;
 
 pub use fault::{CaptureFault, CaptureKind, FrameStop};
+pub use file_window::OctetOrder;
 pub use frames::Frames;
 pub use header::CaptureHeader;
 pub use ip::ip_part;
-pub use order::OctetOrder;
 pub use record::FrameHead;
 pub use write::{write_frame, write_head};

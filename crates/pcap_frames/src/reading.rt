@@ -1,15 +1,16 @@
 //! Reading the header and the records of a capture through a window of its file.
 ghost use Rattle.std.specs.Prelude.{◌≡◌, ◌+◌, ◌-◌, ◌<◌, ◌≤◌, ◌^◌, IsTrue, [], length, drop, take, min, ◌++◌, Option, Some, None, Ok, option_map, is_ok, is_some, if◌then◌else◌, vec_len, vec_capacity, OnOk, OnErr, IfOk, IfSome};
 ghost use Rattle.net_io.specs.Depot.{octets_of, OnlyReads};
+ghost use Rattle.file_window.specs.Window.{IsFrom};
 ghost use Rattle.pcap_frames.specs.Header.{capture_header};
 ghost use Rattle.pcap_frames.specs.Record.{head_at, behind_head, record_at};
-ghost use Rattle.pcap_frames.specs.Reader.{IsFrom, IsAnswerOf, SpeaksOf};
+ghost use Rattle.pcap_frames.specs.Reader.{IsAnswerOf, SpeaksOf};
 
 use crate::header::{CAPTURE_HEAD, read_header};
 use crate::record::{RECORD_HEAD, RecordHead, read_record_head};
-use crate::window::{WINDOW, Window};
 use crate::{CaptureFault, CaptureHeader, CaptureKind, FrameHead, FrameStop, OctetOrder};
-use net_io::{Depot, IoFault, read_full};
+use file_window::{WINDOW, Window, take_behind};
+use net_io::Depot;
 
 /// The file ends at this octet, too early.
 fn short(octet: u64) -> FrameStop
@@ -19,33 +20,6 @@ fn short(octet: u64) -> FrameStop
         octet,
         kind: CaptureKind::Short,
     })
-}
-
-/// Reads on where the window has fewer than `need` octets, so that it has them or all that the file has from `place` on.
-fn look<D: Depot>(
-    depot: &mut D,
-    name: &str,
-    place: u64,
-    window: &mut Window,
-    need: usize,
-) -> Result<(), IoFault>
-    requires need { need ≤ 65536 }
-    requires ahead { IsTrue (D.state depot.old).tells
-        → IsFrom (octets_of ((D.state depot.old).held name.now)) place window.old }
-    requires place { place + length window.old < 2 ^ 64 }
-    ensures ahead { IsTrue (D.state depot.old).tells
-        → IsFrom (octets_of ((D.state depot.old).held name.now)) place window.new }
-    ensures enough { OnOk result (IsTrue (D.state depot.old).tells → length window.new < need
-        → length window.new ≡ length (drop place (octets_of ((D.state depot.old).held name.now)))) }
-    ensures place { place + length window.new < 2 ^ 64 }
-    ensures frame { OnlyReads IoFault.Failed result name.now
-        (D.state depot.old)
-        (D.state depot.new) }
-{
-    if window.ahead().len() < need {
-        window.fill(depot, name, place)?;
-    }
-    Ok(())
 }
 
 /// Reads the head of the record at `place`; None at the file's end.
@@ -71,7 +45,7 @@ fn read_head<D: Depot>(
         (D.state depot.old)
         (D.state depot.new) }
 {
-    look(depot, name, place, window, RECORD_HEAD)?;
+    window.reach(depot, name, place, RECORD_HEAD)?;
     Ok(read_record_head(order, place, window.ahead())?)
 }
 
@@ -106,7 +80,7 @@ fn take_held<D: Depot>(
         (D.state depot.new) }
 {
     let size = RECORD_HEAD + head.captured as usize;
-    look(depot, name, *place, window, size)?;
+    window.reach(depot, name, *place, size)?;
     let ahead = window.ahead();
     if ahead.len() < size {
         return Err(short(*place + ahead.len() as u64));
@@ -115,35 +89,6 @@ fn take_held<D: Depot>(
     window.pass(size);
     *place += size as u64;
     Ok(())
-}
-
-/// Reads octets of the file from `from` on straight behind those of `into`, up to `whole` of them in all, and answers how many.
-fn read_behind<D: Depot>(
-    depot: &mut D,
-    name: &str,
-    from: u64,
-    whole: usize,
-    into: &mut Vec<u8>,
-) -> Result<usize, IoFault>
-    requires { vec_len into.old ≤ whole }
-    ensures len { OnOk result (vec_len into.new ≡ whole) }
-    ensures count { IfOk result (λ n. n ≤ whole - vec_len into.old) }
-    ensures end { IfOk result (λ n. IsTrue (D.state depot.old).tells
-        → n ≡ min (whole - vec_len into.old)
-        (length (octets_of ((D.state depot.old).held name.now)) - from)) }
-    ensures octets { IfOk result (λ n. IsTrue (D.state depot.old).tells
-        → take (vec_len into.old + n) into.new.items ≡ into.old.items
-        ++ take n (drop from (octets_of ((D.state depot.old).held name.now)))) }
-    ensures memory { vec_capacity into.old ≤ vec_capacity into.new }
-    ensures place { IfOk result (λ n. from + n < 2 ^ 64) }
-    ensures frame { OnlyReads IoFault.Failed result name.now
-        (D.state depot.old)
-        (D.state depot.new) }
-{
-    let have = into.len();
-    into.resize(whole, 0)?;
-    let n = read_full(depot, name, from, &mut into[have..])?;
-    Ok(n)
 }
 
 /// Takes the octets of a record that is longer than a window: those of the window, and the rest by a read of its own.
@@ -177,16 +122,13 @@ fn take_long<D: Depot>(
         (D.state depot.new) }
 {
     let captured = head.captured as usize;
-    let ahead = window.ahead();
-    let from = *place + ahead.len() as u64;
-    into.extend_from_slice(&ahead[RECORD_HEAD..])?;
-    let have = into.len();
-    let n = read_behind(depot, name, from, captured, into)?;
-    if have + n < captured {
-        return Err(short(from + n as u64));
+    let n = take_behind(depot, name, *place, window, RECORD_HEAD, captured, into)?;
+    let end = *place + (RECORD_HEAD + n) as u64;
+    if n < captured {
+        return Err(short(end));
     }
     window.clear();
-    *place = from + n as u64;
+    *place = end;
     Ok(())
 }
 

@@ -2,7 +2,6 @@
 ghost use Rattle.std.specs.Prelude.{◌≡◌, ◌+◌, ◌<◌, ◌≤◌, ◌^◌, length, IfOk, IfSome};
 ghost use Rattle.pcap_frames.specs.Record.{head_at};
 
-use crate::order::u32_at;
 use crate::{CaptureFault, CaptureKind, OctetOrder};
 
 /// How many octets the head of a record has.
@@ -48,22 +47,22 @@ pub fn read_record_head(
             kind: CaptureKind::Short,
         });
     }
-    let captured = u32_at(order, octets, 8);
+    let captured = order.u32_at(octets, 8);
     if captured > MOST_CAPTURED {
         return Err(CaptureFault {
             octet: at + 8,
             kind: CaptureKind::Captured,
         });
     }
-    if captured < u32_at(order, octets, 12) {
+    if captured < order.u32_at(octets, 12) {
         return Err(CaptureFault {
             octet: at + 8,
             kind: CaptureKind::SnapCut,
         });
     }
     let frame = FrameHead {
-        seconds: u32_at(order, octets, 0),
-        fraction: u32_at(order, octets, 4),
+        seconds: order.u32_at(octets, 0),
+        fraction: order.u32_at(octets, 4),
     };
     Ok(Some(RecordHead { frame, captured }))
 }

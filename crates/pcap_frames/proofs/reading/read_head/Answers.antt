@@ -10,7 +10,7 @@ returns-in_err-read_record_head-clause-answer g c = λ told.
     let file = octets_of ((g.D.Depot.state c.args.depot.now).held c.args.name.now) in
     let head = head_at c.args.order c.args.place in
     let same : head (drop c.args.place file) ≡ head c.ahead.result.now =
-    head_front c.args.order c.args.place (drop c.args.place file) c.look.new.window (c.in_ok-look.ensures.ahead told) (c.in_ok-look.ensures.enough told)
+    head_front c.args.order file c.args.place c.reach.new.self (c.in_ok-reach.ensures.ahead told) (c.in_ok-reach.ensures.enough told)
     ∙ ap head (sym c.ahead.ensures.value) in
     let p = err_from_is_err_and c.from_residual-in_err-read_record_head.result c.from_residual-in_err-read_record_head.ensures.1 in
     rw (p.1, p.2) (same ∙ sym c.read_record_head.ensures.value ∙ c.in_err-read_record_head.was)
@@ -19,6 +19,6 @@ pub returns-clause-answer : goal.returns-clause-answer
 returns-clause-answer g c = λ told.
     let file = octets_of ((g.D.Depot.state c.args.depot.now).held c.args.name.now) in
     let head = head_at c.args.order c.args.place in
-    head_front c.args.order c.args.place (drop c.args.place file) c.look.new.window (c.in_ok-look.ensures.ahead told) (c.in_ok-look.ensures.enough told)
+    head_front c.args.order file c.args.place c.reach.new.self (c.in_ok-reach.ensures.ahead told) (c.in_ok-reach.ensures.enough told)
     ∙ ap head (sym c.ahead.ensures.value)
     ∙ sym c.read_record_head.ensures.value ∙ c.in_ok-read_record_head.was

@@ -3,7 +3,8 @@ use Rattle.std.proofs.lemmas.Result.{err_from_is_err_and}
 use Rattle.std.proofs.lemmas.List.{length-drop}
 use Rattle.net_io.specs.Depot.{octets_of}
 use Rattle.pcap_frames.specs.Header.{capture_header}
-use Rattle.pcap_frames.proofs.Windows.{header_front, passed}
+use Rattle.file_window.proofs.Law.{a_window_goes_on_behind_octets}
+use Rattle.pcap_frames.proofs.Windows.{header_front}
 use Rattle.pcap_frames.proofs.reading.read_start.Goals as goal
 
 pub returns-in_err-header-clause-answer : goal.returns-in_err-header-clause-answer
@@ -26,7 +27,7 @@ returns-clause-answer g c = λ told.
 pub returns-clause-ahead : goal.returns-clause-ahead
 returns-clause-ahead g c = λ told.
     let file = octets_of ((g.D.Depot.state c.args.depot.now).held c.args.name.now) in
-    rw c.pass.ensures (passed file 0 24 c.fill.new.self (omega (arith, ap length c.ahead.ensures.value, c.in_ok-header.ensures.long)) (c.in_ok-fill.ensures.octets told))
+    rw c.pass.ensures (a_window_goes_on_behind_octets file 0 24 c.fill.new.self (c.in_ok-fill.ensures.octets told))
 
 pub returns-clause-place : goal.returns-clause-place
 returns-clause-place g c =

@@ -1,8 +1,8 @@
--- The numbers of a capture, in the order of octets that its magic names.
+-- Numbers in either order of octets, as a file's magic names one.
 use Rattle.std.specs.Prelude.{ℕ, List}
 use Rattle.byteorder.specs.Endian.{big_number, little_number}
-use Rattle.pcap_frames.specs.declared.order.OctetOrder.{OctetOrder}
-use Rattle.pcap_frames.specs.declared.order.OctetOrder.TheVariants.{Little, Big}
+use Rattle.file_window.specs.declared.order.OctetOrder.{OctetOrder}
+use Rattle.file_window.specs.declared.order.OctetOrder.TheVariants.{Little, Big}
 
 -- the number in the first n octets
 unfoldable pub ordered_number : OctetOrder → ℕ → List ℕ → ℕ

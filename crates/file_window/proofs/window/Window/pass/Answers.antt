@@ -1,6 +1,6 @@
 use Rattle.std.proofs.Common.{arith, ◌≡◌, ◌≤◌, ◌∙◌, sym, ap, ◌+◌, ◌-◌, length, take, drop}
 use Rattle.std.proofs.lemmas.List.{drop-drop, drop-take, length-take}
-use Rattle.pcap_frames.proofs.window.Window.pass.Goals as goal
+use Rattle.file_window.proofs.window.Window.pass.Goals as goal
 
 pub returns : goal.returns
 returns c =

@@ -1,7 +1,7 @@
 //! The part of a file that a reader keeps: what one read gave, from the octet at which the reader stands on.
 ghost use Rattle.std.specs.Prelude.{◌≡◌, ◌+◌, ◌-◌, ◌<◌, ◌≤◌, ◌^◌, IsTrue, IsSome, [], length, take, drop, min, vec_len, OnOk, OnErr, IfOk};
 ghost use Rattle.net_io.specs.Depot.{octets_of, OnlyReads};
-ghost use Rattle.pcap_frames.specs.Reader.{IsFrom};
+ghost use Rattle.file_window.specs.Window.{IsFrom};
 
 use net_io::{Depot, IoFault, read_full_over};
 use std::alloc::{AllocError, Global};
@@ -64,6 +64,17 @@ impl Window {
         self.start += n;
     }
 
+    /// Goes behind `n` octets, also where the window has fewer.
+    pub fn skip(&mut self, n: usize)
+        ensures { self.new ≡ drop n self.old }
+    {
+        if n <= self.ahead().len() {
+            self.pass(n);
+        } else {
+            self.clear();
+        }
+    }
+
     /// Lets go of all octets.
     pub fn clear(&mut self)
         ensures { self.new ≡ [] }
@@ -90,6 +101,35 @@ impl Window {
         self.start = 0;
         self.end = 0;
         self.end = read_full_over(depot, name, place, &mut self.octets)?;
+        Ok(())
+    }
+
+    /// Reads on where the window, which stands at `place`, has fewer than `need` octets, so that it has them or all that the
+    /// file has from there on.
+    pub fn reach<D: Depot>(
+        &mut self,
+        depot: &mut D,
+        name: &str,
+        place: u64,
+        need: usize,
+    ) -> Result<(), IoFault>
+        requires need { need ≤ 65536 }
+        requires ahead { IsTrue (D.state depot.old).tells
+            → IsFrom (octets_of ((D.state depot.old).held name.now)) place self.old }
+        requires place { place + length self.old < 2 ^ 64 }
+        ensures ahead { IsTrue (D.state depot.old).tells
+            → IsFrom (octets_of ((D.state depot.old).held name.now)) place self.new }
+        ensures enough { OnOk result
+            (IsTrue (D.state depot.old).tells → length self.new < need → length self.new
+            ≡ length (drop place (octets_of ((D.state depot.old).held name.now)))) }
+        ensures place { place + length self.new < 2 ^ 64 }
+        ensures frame { OnlyReads IoFault.Failed result name.now
+            (D.state depot.old)
+            (D.state depot.new) }
+    {
+        if self.ahead().len() < need {
+            self.fill(depot, name, place)?;
+        }
         Ok(())
     }
 }

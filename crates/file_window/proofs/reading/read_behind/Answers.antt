@@ -1,7 +1,7 @@
 use Rattle.std.proofs.Common.{arith, ◌≡◌, ◌≤◌, ◌+◌, ◌∙◌, ap, length, take}
 use Rattle.std.proofs.lemmas.List.{take_at, take_all, take_rest, length-drop}
-use Rattle.pcap_frames.proofs.Windows.{read_behind_it}
-use Rattle.pcap_frames.proofs.reading.read_behind.Goals as goal
+use Rattle.file_window.proofs.Parts.{read_behind_it}
+use Rattle.file_window.proofs.reading.read_behind.Goals as goal
 
 pub returns-clause-octets : goal.returns-clause-octets
 returns-clause-octets g c = λ told.
