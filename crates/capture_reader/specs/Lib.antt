@@ -1,0 +1,4 @@
+pub mod Frame
+pub mod CaptureFile
+pub mod Reader
+pub mod Written

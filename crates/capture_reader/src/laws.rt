@@ -1,0 +1,17 @@
+//! Laws over the definitions of capture files.
+
+ghost use Rattle.std.specs.Prelude.{◌≡◌, ◌≤◌, ◌^◌, List, All, map, length, None};
+ghost use Rattle.pcap_frames.specs.Record.{Frame};
+ghost use Rattle.pcap_frames.specs.Written.{IsWritableFrame};
+ghost use Rattle.capture_reader.specs.declared.format.CaptureFormat.{CaptureFormat};
+ghost use Rattle.capture_reader.specs.CaptureFile.{IsCaptureFile, frame_of_record};
+ghost use Rattle.capture_reader.specs.Written.{IsTime, file_octets};
+
+/// What is written of frames is a capture of these frames in that format, of link type 101. A pcapng file has at most 2^40 octets.
+pub fn a_written_file_reads_back()
+    ensures { (format : CaptureFormat) (frames : List Frame) → All IsWritableFrame frames
+        → All (λ frame. IsTime format frame.head) frames
+        → length (file_octets format frames) ≤ 2 ^ 40
+        → IsCaptureFile (file_octets format frames)
+        (record { format = format; frames = map (frame_of_record 101) frames; fault = None }) }
+{}
