@@ -17,25 +17,24 @@ use mls_label::{Label, OutOfMemory, Tag};
 use mls_range::write_label;
 use octet_grammar::write_decimal;
 use packet_label::{CarryFault, Mark, carried_into};
-use pcap_frames::ip_part;
+use packet_walk::PacketIn;
 use std::alloc::AllocError;
 
-/// Appends the line of a packet by its number: what its frame, of this link type, carries. The label is lent.
+/// Appends the line of a packet by its number: what it carries, or that it is a frame without a packet of IP. The label is lent.
 /// After an error `line` is as it was.
 pub fn write_packet(
     number: u64,
-    link: u32,
-    frame: &[u8],
+    packet: &PacketIn,
     label: &mut Label,
     line: &mut Vec<u8>,
 ) -> Result<(), OutOfMemory>
     ensures ok { OnOk result
-        ((text : List ℕ) × IsShown link frame.now text
+        ((text : List ℕ) × IsShown packet.now text
         × (line.new.items ≡ line.old.items ++ shown_line number text)) }
     ensures err { OnErr result (line.new.items ≡ line.old.items) }
 {
     let before = line.len();
-    let written = append_packet(number, link, frame, label, line);
+    let written = append_packet(number, packet, label, line);
     all_or_nothing(written, before, line)
 }
 
@@ -43,41 +42,39 @@ pub fn write_packet(
 #[tactic(auto, unfolding(crate::specs::Lines::Packet::shown_line))]
 fn append_packet(
     number: u64,
-    link: u32,
-    frame: &[u8],
+    packet: &PacketIn,
     label: &mut Label,
     line: &mut Vec<u8>,
 ) -> Result<(), OutOfMemory>
     ensures ok { OnOk result
-        ((text : List ℕ) × IsShown link frame.now text
+        ((text : List ℕ) × IsShown packet.now text
         × (line.new.items ≡ line.old.items ++ shown_line number text)) }
     ensures err { OnErr result (Extends line.old.items line.new.items) }
 {
     line.extend_from_slice(b"packet ")?;
     write_decimal(number, line)?;
     line.extend_from_slice(b" ")?;
-    append_frame(link, frame, label, line)?;
+    append_text(packet, label, line)?;
     line.push(b'\n')?;
     Ok(())
 }
 
-/// Appends what a frame carries.
-fn append_frame(
-    link: u32,
-    frame: &[u8],
+/// Appends what a packet carries, or that it is none of IP.
+fn append_text(
+    packet: &PacketIn,
     label: &mut Label,
     line: &mut Vec<u8>,
 ) -> Result<(), OutOfMemory>
     ensures ok { OnOk result
-        ((text : List ℕ) × IsShown link frame.now text
+        ((text : List ℕ) × IsShown packet.now text
         × (line.new.items ≡ line.old.items ++ text)) }
     ensures err { OnErr result (Extends line.old.items line.new.items) }
 {
-    let Some(packet) = ip_part(link, frame) else {
+    if !packet.is_ip {
         line.extend_from_slice(b"NotIp")?;
         return Ok(());
-    };
-    match carried_into(packet, label) {
+    }
+    match carried_into(packet.bytes.as_slice(), label) {
         Ok(marked) => append_option(marked.mark, label, line),
         Err(CarryFault::Header { octet }) => append_fault(b"BadHeader", octet, line),
         Err(CarryFault::Option { octet }) => append_fault(b"BadOption", octet, line),

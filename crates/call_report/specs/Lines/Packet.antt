@@ -1,5 +1,5 @@
 -- Lines of the packets of a capture that is shown.
-use Rattle.std.specs.Prelude.{ℕ, ◌≡◌, List, ◌++◌, codes, Option, Some, None, MatchOption, Result, Ok, Err}
+use Rattle.std.specs.Prelude.{ℕ, ◌≡◌, List, ◌++◌, codes, Option, Some, None, MatchBool, Result, Ok, Err}
 use Rattle.std.specs.Fmt.{decimal}
 use Rattle.mls_range.specs.LabelText.{label_text}
 use Rattle.cipso_tags.specs.Tag.{tag_type}
@@ -9,7 +9,7 @@ use Rattle.packet_label.specs.declared.packet.Wire.TheVariants.{Cipso, Calipso}
 use Rattle.packet_label.specs.declared.fault.CarryFault.{CarryFault}
 use Rattle.packet_label.specs.declared.fault.CarryFault.TheVariants as carry
 use Rattle.packet_label.specs.Written.{IsReadAs}
-use Rattle.pcap_frames.specs.Ip.{ip_part_of}
+use Rattle.packet_walk.specs.declared.packet.PacketIn.{PacketIn}
 use Rattle.call_report.specs.Lines.Parts.{line_of, octet_detail}
 
 -- what a label option says and where it stands, or that there is none
@@ -25,10 +25,10 @@ packet_text (Ok packet) = option_text packet.label
 packet_text (Err (carry.Header octet)) = codes "BadHeader" ++ octet_detail octet
 packet_text (Err (carry.Option octet)) = codes "BadOption" ++ octet_detail octet
 
--- the text of a frame of this link type: that it has no IP packet, or what is read of its packet
-abbrev pub IsShown : ℕ → List ℕ → List ℕ → Type 0
-IsShown link octets text =
-    MatchOption (ip_part_of link octets) (text ≡ codes "NotIp") (λ packet. (answer : Result (ParsedPacket Wire) CarryFault) × IsReadAs packet answer × (text ≡ packet_text answer))
+-- the text of what a frame gave: what is read of its packet, or that it has no packet of IP
+abbrev pub IsShown : PacketIn → List ℕ → Type 0
+IsShown packet text =
+    MatchBool packet.is_ip ((answer : Result (ParsedPacket Wire) CarryFault) × IsReadAs packet.bytes answer × (text ≡ packet_text answer)) (text ≡ codes "NotIp")
 
 unfoldable pub shown_line : ℕ → List ℕ → List ℕ
 shown_line number text = line_of (codes "packet " ++ decimal number ++ codes " " ++ text)
