@@ -1,5 +1,5 @@
 -- What a capture file holds, in either format.
-use Rattle.std.specs.Prelude.{ℕ, ◌≡◌, Bool, true, false, if◌then◌else◌, List, ◌∷◌, map, Option, None, Result, Ok, Err}
+use Rattle.std.specs.Prelude.{ℕ, ◌≡◌, Bool, if◌then◌else◌, List, [], ◌∷◌, take, map, bytes_eq, Option, None, Result, Ok, Err}
 use Rattle.std.specs.Option.{option_map}
 use Rattle.pcap_frames.specs.declared.record.FrameHead.{FrameHead}
 use Rattle.pcap_frames.specs.declared.fault.CaptureFault.{CaptureFault}
@@ -48,8 +48,7 @@ by_pcapng (Ok block) capture =
 
 -- a file is pcapng where its first four octets are 0a 0d 0d 0a
 abbrev pub is_pcapng : List ℕ → Bool
-is_pcapng (0x0a ∷ 0x0d ∷ 0x0d ∷ 0x0a ∷ octets) = true
-is_pcapng octets = false
+is_pcapng file = bytes_eq (take 4 file) (0x0a ∷ 0x0d ∷ 0x0d ∷ 0x0a ∷ [])
 
 -- What a file holds: by its first four octets the one or the other format; or the fault of its beginning, which is a libpcap file's header or a
 -- pcapng file's first section header.

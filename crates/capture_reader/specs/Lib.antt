@@ -2,3 +2,4 @@ pub mod Frame
 pub mod CaptureFile
 pub mod Reader
 pub mod Written
+pub mod inside

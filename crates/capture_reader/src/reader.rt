@@ -1,10 +1,16 @@
 //! A reader of one capture, in either format.
 
-ghost use Rattle.std.specs.Prelude.{◌≡◌, ◌≤◌, ℕ, List, IsTrue, [], length, None, OnErr, IfOk, IfSome};
+ghost use Rattle.std.specs.Prelude.{◌≡◌, ◌≤◌, ℕ, List, IsTrue, [], length, None, OnErr, IfOk, IfSome, vec_len, option_map};
+ghost use Rattle.std.specs.Result.{result_map_both};
 ghost use Rattle.net_io.specs.Depot.{octets_of, OnlyReads};
-ghost use Rattle.capture_reader.specs.Reader.{name_of, format_of, left_of, IsReadable, IsBegun, IsNext};
+ghost use Rattle.capture_reader.specs.declared.format.CaptureFormat.{CaptureFormat as Format};
+ghost use Rattle.capture_reader.specs.Reader.{FramesLeft, name_of, format_of, left_of, IsReadable, IsBegun, IsNext};
 ghost use Rattle.capture_reader.specs.Written.{IsTime};
+ghost use Rattle.capture_reader.specs.inside.Given.{IsGiven};
 
+use crate::begin::begin_frames;
+use crate::frames::{LinkedHead, next_packet, next_record};
+use crate::packet::{no_packet, packet_of, taken};
 use crate::{CaptureFormat, ReadStop};
 use net_io::Depot;
 use packet_walk::PacketIn;
@@ -24,6 +30,8 @@ pub enum AnyFrames {
 #[derive(Drop)]
 pub struct CaptureReader {
     frames: AnyFrames,
+    /// For a packet of no octets, which is lent while its memory is filled.
+    alloc: Global,
 }
 
 impl Model for CaptureReader {
@@ -32,6 +40,69 @@ impl Model for CaptureReader {
     ghost Value = { AnyFrames };
 
     ghost view = { λ reader. reader.frames };
+}
+
+/// Reads the next frame.
+fn next_frame<D: Depot>(
+    frames: &mut AnyFrames,
+    depot: &mut D,
+    into: &mut Vec<u8>,
+) -> Result<Option<LinkedHead>, ReadStop>
+    requires ready { IsReadable (D.state depot.old) frames.old }
+    ensures answer { IsTrue (D.state depot.old).tells → IsGiven result into.new.items
+        (left_of frames.old (octets_of ((D.state depot.old).held (name_of frames.old))))
+        (left_of frames.new (octets_of ((D.state depot.old).held (name_of frames.old)))) }
+    ensures short { vec_len into.new ≤ 262144 }
+    ensures time { IfOk result (λ read. IfSome read
+        (λ given. IsTime (format_of frames.old) given.head)) }
+    ensures none { IfOk result (λ read. read ≡ None → into.new.items ≡ []) }
+    ensures empty { OnErr result (into.new.items ≡ []) }
+    ensures stands { OnErr result
+        ((file : List ℕ) → left_of frames.new file ≡ left_of frames.old file) }
+    ensures name { name_of frames.new ≡ name_of frames.old }
+    ensures format { format_of frames.new ≡ format_of frames.old }
+    ensures ready { IsReadable (D.state depot.new) frames.new }
+    ensures frame { OnlyReads ReadStop.ReadFault result (name_of frames.old) (D.state depot.old)
+        (D.state depot.new) }
+{
+    match frames {
+        AnyFrames::Pcap(records) => next_record(records, depot, into),
+        AnyFrames::Pcapng(packets) => next_packet(packets, depot, into),
+    }
+}
+
+/// Puts what was read into `into`: the packet in the octets of a frame, or no octets.
+fn put(
+    read: Result<Option<LinkedHead>, ReadStop>,
+    octets: Vec<u8>,
+    into: &mut PacketIn,
+) -> Result<Option<FrameHead>, ReadStop>
+    requires none { IfOk read (λ given. given ≡ None → octets.items ≡ []) }
+    requires empty { OnErr read (octets.items ≡ []) }
+    ensures same { result ≡ result_map_both (option_map (λ given. given.head)) (λ stop. stop) read }
+    ensures answer { (left left' : FramesLeft) → IsGiven read octets.items left left'
+        → IsNext result into.new left left' }
+    ensures short { length into.new.bytes ≤ length octets.items }
+    ensures time { (format : Format)
+        → IfOk read (λ given. IfSome given (λ linked. IsTime format linked.head))
+        → IfOk result (λ given. IfSome given (λ head. IsTime format head)) }
+    ensures none { IfOk result (λ given. given ≡ None → into.new.bytes ≡ []) }
+    ensures empty { OnErr result (into.new.bytes ≡ []) }
+{
+    match read {
+        Ok(Some(LinkedHead { head, link })) => {
+            *into = packet_of(link, octets);
+            Ok(Some(head))
+        }
+        Ok(None) => {
+            *into = no_packet(octets);
+            Ok(None)
+        }
+        Err(stop) => {
+            *into = no_packet(octets);
+            Err(stop)
+        }
+    }
 }
 
 impl CaptureReader {
@@ -51,7 +122,8 @@ impl CaptureReader {
         ensures frame { OnlyReads ReadStop.ReadFault result name.now (D.state depot.old)
             (D.state depot.new) }
     {
-        todo!()
+        let frames = begin_frames(alloc, depot, name)?;
+        Ok(CaptureReader { frames, alloc })
     }
 
     /// Reads the next frame and goes behind it: its packet of IP into `into`, or all its octets where it has none, in place of what
@@ -78,13 +150,20 @@ impl CaptureReader {
         ensures frame { OnlyReads ReadStop.ReadFault result (name_of self.old) (D.state depot.old)
             (D.state depot.new) }
     {
-        todo!()
+        let mut octets = taken(self.alloc, into);
+        let read = next_frame(&mut self.frames, depot, &mut octets);
+        put(read, octets, into)
     }
 
     /// The capture's format, which an output of its packets has too.
     pub fn format(&self) -> CaptureFormat
         ensures { result ≡ format_of self.now }
     {
-        todo!()
+        match &self.frames {
+            AnyFrames::Pcap(records) => CaptureFormat::Pcap {
+                nanos: records.nanos(),
+            },
+            AnyFrames::Pcapng(_) => CaptureFormat::Pcapng,
+        }
     }
 }
