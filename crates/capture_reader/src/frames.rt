@@ -59,10 +59,10 @@ pub(crate) fn next_record<D: Depot>(
         (D.state depot.new) }
 {
     let link = frames.link();
-    let Some(head) = frames.next(depot, into)? else {
-        return Ok(None);
-    };
-    Ok(Some(LinkedHead { head, link }))
+    match frames.next(depot, into)? {
+        Some(head) => Ok(Some(LinkedHead { head, link })),
+        None => Ok(None),
+    }
 }
 
 /// Reads the next packet of a pcapng file.
@@ -88,8 +88,8 @@ pub(crate) fn next_packet<D: Depot>(
     ensures frame { OnlyReads ReadStop.ReadFault result frames.old.name (D.state depot.old)
         (D.state depot.new) }
 {
-    let Some(given) = frames.next(depot, into)? else {
-        return Ok(None);
-    };
-    Ok(Some(linked(given)))
+    match frames.next(depot, into)? {
+        Some(given) => Ok(Some(linked(given))),
+        None => Ok(None),
+    }
 }

@@ -90,9 +90,9 @@ fn put(
     ensures empty { OnErr result (into.new.bytes ≡ []) }
 {
     match read {
-        Ok(Some(LinkedHead { head, link })) => {
-            *into = packet_of(link, octets);
-            Ok(Some(head))
+        Ok(Some(given)) => {
+            *into = packet_of(given.link, octets);
+            Ok(Some(given.head))
         }
         Ok(None) => {
             *into = no_packet(octets);

@@ -1,19 +1,23 @@
-use Rattle.std.proofs.Common.{rules, ◌≡◌, ◌≤◌, ◌<◌, IsTrue, [], None, OnErr, IfOk, IfSome, vec_len, ℕ, ◌+◌, ◌-◌, ◌*◌, length, ◌/◌, ◌%◌, Bool, true, false, nat_eq, nat_lt, List, ◌∷◌, ◌++◌, slice_index_or, slice_set, bit_and, bit_or, Fits, w8, w32, w64, Bor, MutBor}
-use Rattle.net_io.specs.Depot.{octets_of, OnlyReads}
-use Rattle.pcap_frames.specs.Reader.{IsReady}
-use Rattle.pcapng_frames.specs.Reader.{IsNgReady}
+use Rattle.std.proofs.Common.{rules}
+use Rattle.std.proofs.lemmas.Result.{err_from_is_err_and}
+use Rattle.net_io.specs.Depot.{octets_of}
+use Rattle.capture_reader.specs.declared.reader.AnyFrames.TheVariants.{Pcap}
 use Rattle.capture_reader.specs.Reader.{left_of}
-use Rattle.capture_reader.specs.inside.Given.{IsGiven}
+use Rattle.capture_reader.proofs.Leaving.{record_stop, no_record, one_record}
 use Rattle.capture_reader.proofs.frames.next_record.Goals as goal
 
--- src/frames.rt:62:22
 pub returns-in_err-head-clause-answer : goal.returns-in_err-head-clause-answer
-returns-in_err-head-clause-answer g c = ?
+returns-in_err-head-clause-answer g c told =
+    let file = octets_of ((g.D.Depot.state c.args.depot.now).held c.args.frames.now.name) in
+    let p = err_from_is_err_and c.from_residual.result c.from_residual.ensures.1 in
+    rw (p.1, p.2) (record_stop c.args.frames.now file c.next.new.into.items (left_of (Pcap c.next.new.self) file) c.in_err-head.field-0.0 (c.in_err-head.ensures.answer told))
 
--- src/frames.rt:63:9
-pub returns-in_default-clause-answer : goal.returns-in_default-clause-answer
-returns-in_default-clause-answer g c = ?
+pub returns-in-Some-clause-answer : goal.returns-in-Some-clause-answer
+returns-in-Some-clause-answer g c told =
+    let clauses = rw c.in-Some.is at c.in_ok-head.ensures in
+    one_record c.args.frames.now (octets_of ((g.D.Depot.state c.args.depot.now).held c.args.frames.now.name)) c.next.new.self c.link-link.result c.next.new.into.items c.in-Some.head c.link-link.ensures
+    clauses.header (search (rules, clauses.moved)) (clauses.answer told)
 
--- src/frames.rt:41:1
-pub returns-clause-answer : goal.returns-clause-answer
-returns-clause-answer g c = ?
+pub returns-in-None-clause-answer : goal.returns-in-None-clause-answer
+returns-in-None-clause-answer g c told =
+    no_record c.args.frames.now (octets_of ((g.D.Depot.state c.args.depot.now).held c.args.frames.now.name)) ((rw c.in-None.is at c.in_ok-head.ensures).answer told)
