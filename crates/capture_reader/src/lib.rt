@@ -9,6 +9,8 @@ mod frames;
 pub mod laws;
 mod packet;
 mod reader;
+#[cfg(test)]
+mod tests;
 
 pub use fault::{FileFault, ReadStop};
 pub use format::CaptureFormat;
