@@ -60,11 +60,7 @@ fn append_packet(
 }
 
 /// Appends what a packet carries, or that it is none of IP.
-fn append_text(
-    packet: &PacketIn,
-    label: &mut Label,
-    line: &mut Vec<u8>,
-) -> Result<(), OutOfMemory>
+fn append_text(packet: &PacketIn, label: &mut Label, line: &mut Vec<u8>) -> Result<(), OutOfMemory>
     ensures ok { OnOk result
         ((text : List ℕ) × IsShown packet.now text
         × (line.new.items ≡ line.old.items ++ text)) }

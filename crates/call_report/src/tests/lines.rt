@@ -5,10 +5,11 @@ use crate::ending::Ending;
 use crate::flow::append_versions;
 use crate::{
     WalkLines, agree_or_disagree, bad_versions, done, no_flow, packet_limit, packets_limit,
-    write_capture, write_flow, write_flow_end, write_hops, write_made, write_ok, write_packets_end,
-    write_script_stop, write_verdict,
+    write_capture, write_flow, write_flow_end, write_hops, write_made, write_ok, write_packet,
+    write_packets_end, write_script_stop, write_verdict,
 };
 use address_text::{Address, read_name};
+use capture_reader::FileFault;
 use flow_lines::{Hop, read_file_name};
 use ip_headers::Cause;
 use label_commands::{LimitName, ScriptFault, ScriptKind, ScriptStop};
@@ -16,8 +17,11 @@ use mls_label::{Label, Proto};
 use mls_range::read_label_into;
 use node_agreement::Disagree;
 use packet_label::{Carrier, Denial};
-use packet_walk::{End, Versions, Walked};
+use packet_walk::{End, Octets, PacketIn, Versions, Walked};
 use pcap_frames::{CaptureFault, CaptureKind};
+use pcapng_frames::{NgFault, NgKind};
+use std::alloc::Global;
+use std::process::Abort;
 
 /// Each denial, and what is printed of it.
 const DENIALS: [(Denial, &str); 10] = [
@@ -66,7 +70,7 @@ fn prints_denials(rt: HostRuntime) {
     }
 }
 
-/// Captures, scripts and limits that stop a call.
+/// Scripts and limits that stop a call.
 const STOPS: [(ScriptStop, &str); 3] = [
     (
         ScriptStop::Fault(ScriptFault {
@@ -95,20 +99,99 @@ fn prints_stops(rt: HostRuntime) {
         assert_eq!(rt; line.as_slice(), text.as_bytes());
     }
     line.clear();
-    let fault = CaptureFault {
-        octet: 4294967296,
-        kind: CaptureKind::SnapCut,
-    };
-    write_capture(256, fault, &mut line).expect(&rt, "there is memory");
-    write_packets_end(1048576, &mut line).expect(&rt, "there is memory");
     write_ok(32, 16384, 256, &mut line).expect(&rt, "there is memory");
     assert_eq!(rt;
         line.as_slice(),
-        b"capture 256 octet 4294967296 SnapCut\nend packets 1048576\nok 32 nodes 16384 commands 256 flows\n".as_slice()
+        b"ok 32 nodes 16384 commands 256 flows\n".as_slice()
     );
     assert_eq!(rt; packet_limit(), b"limit packet 65575\n".as_slice());
     assert_eq!(rt; packets_limit(), b"limit packets 1048576\n".as_slice());
     assert_eq!(rt; done(), b"done\n".as_slice());
+}
+
+/// Each fault of a libpcap file, and what is printed of it.
+const BROKEN: [(u64, CaptureKind, &str); 6] = [
+    (0, CaptureKind::Magic, "octet 0 Magic"),
+    (4, CaptureKind::Version, "octet 4 Version"),
+    (20, CaptureKind::LinkType, "octet 20 LinkType"),
+    (32, CaptureKind::Captured, "octet 32 Captured"),
+    (4294967296, CaptureKind::SnapCut, "octet 4294967296 SnapCut"),
+    (3, CaptureKind::Short, "octet 3 Short"),
+];
+
+/// Each fault of a pcapng file, and what is printed of it.
+const NG_BROKEN: [(u64, NgKind, &str); 14] = [
+    (4, NgKind::Short, "octet 4 Short"),
+    (1099511627776, NgKind::Long, "octet 1099511627776 Long"),
+    (8, NgKind::Magic, "octet 8 Magic"),
+    (5, NgKind::BlockLength, "octet 5 BlockLength"),
+    (116, NgKind::Trailer, "octet 116 Trailer"),
+    (12, NgKind::Version, "octet 12 Version"),
+    (60, NgKind::Block, "octet 60 Block"),
+    (44, NgKind::Options, "octet 44 Options"),
+    (68, NgKind::Interface, "octet 68 Interface"),
+    (68, NgKind::LinkType, "octet 68 LinkType"),
+    (68, NgKind::Resolution, "octet 68 Resolution"),
+    (80, NgKind::Captured, "octet 80 Captured"),
+    (80, NgKind::SnapCut, "octet 80 SnapCut"),
+    (72, NgKind::Time, "octet 72 Time"),
+];
+
+/// Whether this is printed of a fault of capture 256, behind the capture's number.
+fn prints(rt: &impl Abort, alloc: Global, fault: FileFault, text: &str) -> bool {
+    let mut line = Vec::new(alloc);
+    write_capture(256, fault, &mut line).expect(rt, "there is memory");
+    let Some(rest) = line.strip_prefix(b"capture 256 ") else {
+        return false;
+    };
+    rest.strip_suffix(b"\n") == Some(text.as_bytes())
+}
+
+#[test]
+fn prints_faults_of_captures(rt: HostRuntime) {
+    for (octet, kind, text) in BROKEN {
+        let fault = FileFault::Pcap(CaptureFault { octet, kind });
+        assert!(rt; prints(&rt, rt.alloc(), fault, text));
+    }
+    for (octet, kind, text) in NG_BROKEN {
+        let fault = FileFault::Pcapng(NgFault { octet, kind });
+        assert!(rt; prints(&rt, rt.alloc(), fault, text));
+    }
+}
+
+/// UDP in IPv4 without a label.
+const PACKET: [u8; 28] = [
+    0x45, 0, 0, 0x1c, 0, 0, 0x40, 0, 0x40, 0x11, 0x26, 0xcf, 10, 0, 0, 1, 10, 0, 0, 2, 3, 0xe8, 0,
+    0x35, 0, 8, 0xe7, 0xbe,
+];
+
+/// How many octets of it were read, whether as a packet of IP, and what is printed.
+const SHOWN: [(usize, bool, &str); 4] = [
+    (28, true, "packet 7 unlbl\n"),
+    (28, false, "packet 7 NotIp\n"),
+    (3, true, "packet 7 BadHeader octet 3\n"),
+    (0, false, "packet 7 NotIp\n"),
+];
+
+#[test]
+fn prints_packets(rt: HostRuntime) {
+    let alloc = rt.alloc();
+    let mut label = Label::lowest();
+    let mut line = Vec::new(alloc);
+    for (count, is_ip, text) in SHOWN {
+        let octets = &PACKET[..count.min(28)];
+        let octets = Vec::from_slice(alloc, octets).expect(&rt, "there is memory");
+        let packet = PacketIn {
+            bytes: Octets::of(octets),
+            is_ip,
+        };
+        line.clear();
+        write_packet(7, &packet, &mut label, &mut line).expect(&rt, "there is memory");
+        assert_eq!(rt; line.as_slice(), text.as_bytes());
+    }
+    line.clear();
+    write_packets_end(1048576, &mut line).expect(&rt, "there is memory");
+    assert_eq!(rt; line.as_slice(), b"end packets 1048576\n".as_slice());
 }
 
 /// What became of a packet under no version.
