@@ -1,5 +1,5 @@
 -- How the reading of a pcapng file begins.
-use Rattle.std.proofs.Common.{◌≡◌, ℕ, List, ◌+◌, drop, true, Option, Some, None, Result, Ok, Err, refl, sym, ap, ◌∙◌, if◌then◌else◌, arith}
+use Rattle.std.proofs.Common.{◌≡◌, ℕ, List, ◌+◌, drop, true, Option, Some, None, Result, Ok, refl, ap, ◌∙◌, if◌then◌else◌, arith}
 use Rattle.net_io.specs.Depot.{octets_of}
 use Rattle.pcapng_frames.specs.declared.fault.NgFault.{NgFault}
 use Rattle.pcapng_frames.specs.Section.{no_section}
@@ -10,7 +10,7 @@ use Rattle.pcapng_frames.proofs.Law.{blocks_come_one_behind_another}
 use Rattle.pcap_frames.specs.Capture.{capture_of}
 use Rattle.capture_reader.specs.declared.reader.AnyFrames.TheVariants.{Pcapng}
 use Rattle.capture_reader.specs.CaptureFile.{by_pcapng, by_pcap, is_pcapng, capture_file}
-use Rattle.capture_reader.specs.Reader.{begun_file, IsBegun}
+use Rattle.capture_reader.specs.Reader.{IsBegun}
 
 pub file_of_pcapng : (file : List ℕ) → is_pcapng file ≡ true → capture_file file ≡ by_pcapng (block_at no_section 0 file) (ng_of file)
 file_of_pcapng file is = ap (λ ng. if ng then by_pcapng (block_at no_section 0 file) (ng_of file) else by_pcap (capture_of file)) is

@@ -1,12 +1,12 @@
 -- The laws, each under the name of its function.
-use Rattle.std.proofs.Common.{◌≤◌, ◌^◌, List, length, map, None}
+use Rattle.std.proofs.Common.{◌≡◌, ◌≤◌, ◌^◌, List, [], ◌∷◌, ◌++◌, length, map, None, refl, sym, ap, ◌∙◌, append_assoc}
 use Rattle.std.specs.Prelude.{All}
 use Rattle.pcap_frames.specs.Record.{Frame}
 use Rattle.pcap_frames.specs.Written.{IsWritableFrame}
 use Rattle.capture_reader.specs.declared.format.CaptureFormat.{CaptureFormat}
 use Rattle.capture_reader.specs.declared.format.CaptureFormat.TheVariants.{Pcap, Pcapng}
 use Rattle.capture_reader.specs.CaptureFile.{IsCaptureFile, frame_of_record}
-use Rattle.capture_reader.specs.Written.{IsTime, file_octets}
+use Rattle.capture_reader.specs.Written.{IsTime, file_frame, file_frames, file_octets}
 use Rattle.capture_reader.proofs.Written.{pcap_back, pcapng_back}
 
 pub a_written_file_reads_back : (format : CaptureFormat) (frames : List Frame) → All IsWritableFrame frames → All {X = Frame} (λ frame. IsTime format frame.head) frames
@@ -14,3 +14,9 @@ pub a_written_file_reads_back : (format : CaptureFormat) (frames : List Frame) �
     → IsCaptureFile (file_octets format frames) (record { format = format; frames = map (frame_of_record 101) frames; fault = None })
 a_written_file_reads_back (Pcap nanos) frames writable times few = pcap_back nanos frames writable
 a_written_file_reads_back Pcapng frames writable times few = pcapng_back frames writable times few
+
+pub frames_of_a_file_are_written_in_their_order : (format : CaptureFormat) (frames more : List Frame) → file_frames format (frames ++ more) ≡ file_frames format frames ++ file_frames format more
+frames_of_a_file_are_written_in_their_order format [] more = refl
+frames_of_a_file_are_written_in_their_order format (frame ∷ frames) more =
+    let one = file_frame format frame.head frame.octets in
+    ap (λ octets. one ++ octets) (frames_of_a_file_are_written_in_their_order format frames more) ∙ sym (append_assoc one (file_frames format frames) (file_frames format more))

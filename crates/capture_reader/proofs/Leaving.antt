@@ -1,5 +1,5 @@
 -- What a reader gives, and what it leaves, by the answers of its format's reader.
-use Rattle.std.proofs.Common.{◌≡◌, ℕ, ◌+◌, ◌<◌, List, [], ◌∷◌, length, map, drop, Option, Some, None, Result, Ok, Err, refl, sym, ap, ◌∙◌}
+use Rattle.std.proofs.Common.{◌≡◌, ℕ, ◌+◌, ◌<◌, List, [], ◌∷◌, length, map, drop, Option, Some, None, Result, Ok, Err, sym, ap, ◌∙◌}
 use Rattle.std.specs.Option.{option_map}
 use Rattle.std.proofs.lemmas.List.{drop-drop}
 use Rattle.pcap_frames.specs.declared.header.CaptureHeader.{CaptureHeader}
@@ -7,7 +7,7 @@ use Rattle.pcap_frames.specs.declared.record.FrameHead.{FrameHead}
 use Rattle.pcap_frames.specs.declared.fault.CaptureFault.{CaptureFault}
 use Rattle.pcap_frames.specs.declared.fault.FrameStop.{FrameStop}
 use Rattle.pcap_frames.specs.declared.fault.FrameStop.TheVariants as pcap_stops
-use Rattle.pcap_frames.specs.Record.{Frame, record_size, record_at}
+use Rattle.pcap_frames.specs.Record.{Frame, record_at}
 use Rattle.pcap_frames.specs.Capture.{Records, go_on, records_at}
 use Rattle.pcap_frames.specs.Reader.{Reader, IsAnswerOf}
 use Rattle.pcap_frames.proofs.Law.{records_come_one_behind_another}

@@ -1,11 +1,11 @@
 -- What is written is read back.
-use Rattle.std.proofs.Common.{◌≡◌, ◌≤◌, ◌<◌, ◌^◌, ℕ, Bool, true, false, List, [], ◌∷◌, ◌++◌, length, take, map, if◌then◌else◌, Option, Some, None, Result, Ok, Err, refl, ap, sym, subst, ◌∙◌}
+use Rattle.std.proofs.Common.{◌≡◌, ◌≤◌, ◌^◌, ℕ, Bool, true, false, List, [], ◌∷◌, ◌++◌, length, take, map, if◌then◌else◌, Option, None, Result, Ok, Err, refl, ap, sym, subst, ◌∙◌}
 use Rattle.std.specs.Prelude.{All}
 use Rattle.std.specs.Option.{option_map}
 use Rattle.std.proofs.lemmas.List.Elements.{All-map}
 use Rattle.std.proofs.lemmas.Slice.Eq.{bytes_eq-Decides}
 use Rattle.pcap_frames.specs.Record.{Frame}
-use Rattle.pcap_frames.specs.Capture.{Capture, capture_of}
+use Rattle.pcap_frames.specs.Capture.{capture_of}
 use Rattle.pcap_frames.specs.Written.{IsWritableFrame, capture_head_octets, frame_octets, frames_octets}
 use Rattle.pcap_frames.proofs.Law.{a_written_capture_reads_back}
 use Rattle.pcapng_frames.specs.declared.fault.NgFault.{NgFault}

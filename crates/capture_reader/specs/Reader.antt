@@ -1,5 +1,5 @@
 -- A reader of a capture file, and how its answers follow from the file.
-use Rattle.std.specs.Prelude.{ℕ, ◌≡◌, IsTrue, List, [], ◌∷◌, map, drop, Option, Some, None, Result, Ok, Err}
+use Rattle.std.specs.Prelude.{ℕ, ◌≡◌, List, [], ◌∷◌, map, drop, Option, Some, None, Result, Ok, Err}
 use Rattle.std.specs.Option.{option_map}
 use Rattle.net_io.specs.Depot.{DepotState}
 use Rattle.pcap_frames.specs.declared.record.FrameHead.{FrameHead}

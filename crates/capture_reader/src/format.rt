@@ -28,7 +28,8 @@ impl CaptureFormat {
         }
     }
 
-    /// Appends a frame of at most 262,144 octets. After an error `out` is as it was.
+    /// Appends a frame of raw IP with at most 262,144 octets. In pcapng the fraction of its time is nanoseconds, below a second.
+    /// After an error `out` is as it was.
     pub fn write_frame(
         self,
         head: FrameHead,

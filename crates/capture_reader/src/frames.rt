@@ -19,7 +19,8 @@ pub struct LinkedHead {
     pub link: u32,
 }
 
-/// The head of a packet of pcapng. Its nanoseconds are below a second; where a folder doesn't tell what it holds, no clause says so.
+/// The head of a packet of pcapng. Its nanoseconds are below a second. Where a folder doesn't tell what it holds, no clause of the
+/// reader below says so, and they are bounded here.
 fn linked(given: NgHead) -> LinkedHead
     ensures below { result.head.fraction < 1000000000 }
     ensures same { given.nanos < 1000000000 → result ≡ record {

@@ -1,11 +1,11 @@
 //! Laws over the definitions of capture files.
 
-ghost use Rattle.std.specs.Prelude.{◌≡◌, ◌≤◌, ◌^◌, List, All, map, length, None};
+ghost use Rattle.std.specs.Prelude.{◌≡◌, ◌≤◌, ◌^◌, ◌++◌, List, All, map, length, None};
 ghost use Rattle.pcap_frames.specs.Record.{Frame};
 ghost use Rattle.pcap_frames.specs.Written.{IsWritableFrame};
 ghost use Rattle.capture_reader.specs.declared.format.CaptureFormat.{CaptureFormat};
 ghost use Rattle.capture_reader.specs.CaptureFile.{IsCaptureFile, frame_of_record};
-ghost use Rattle.capture_reader.specs.Written.{IsTime, file_octets};
+ghost use Rattle.capture_reader.specs.Written.{IsTime, file_frames, file_octets};
 
 /// What is written of frames is a capture of these frames in that format, of link type 101. A pcapng file has at most 2^40 octets.
 pub fn a_written_file_reads_back()
@@ -14,4 +14,11 @@ pub fn a_written_file_reads_back()
         → length (file_octets format frames) ≤ 2 ^ 40
         → IsCaptureFile (file_octets format frames)
         (record { format = format; frames = map (frame_of_record 101) frames; fault = None }) }
+{}
+
+/// Frames are written one behind another.
+pub fn frames_of_a_file_are_written_in_their_order()
+    ensures { (format : CaptureFormat) (frames more : List Frame)
+        → file_frames format (frames ++ more)
+        ≡ file_frames format frames ++ file_frames format more }
 {}

@@ -30,7 +30,7 @@ pub enum AnyFrames {
 #[derive(Drop)]
 pub struct CaptureReader {
     frames: AnyFrames,
-    /// For a packet of no octets, which is lent while its memory is filled.
+    /// Makes the packet without octets that stands in for one whose memory is being filled.
     alloc: Global,
 }
 

@@ -1,4 +1,3 @@
-use Rattle.std.proofs.Common.{false}
 use Rattle.capture_reader.proofs.Beginning.{begins_pcapng}
 use Rattle.capture_reader.proofs.begin.begin_pcapng.Goals as goal
 
