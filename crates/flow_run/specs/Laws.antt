@@ -1,13 +1,14 @@
 -- What the laws on outputs say.
 use Rattle.std.specs.Prelude.{◌≡◌, ℕ, suc, false, List, ◌++◌, take, drop, slice_get, Some}
 use Rattle.pcap_frames.specs.Record.{Frame}
+use Rattle.capture_reader.specs.Frame.{CapturedFrame}
 use Rattle.label_flow.specs.Pair.{PairState}
 use Rattle.flow_run.specs.Run.{FlowRun, is_denied}
 
 -- A frame of an output has the time of a frame that came, and what the walk of its packet left, which wasn't denied.
-pub record IsOfPassed (frames : List Frame) (pairs : List PairState) (kept : Frame) : Type 0 where
+pub record IsOfPassed (frames : List CapturedFrame) (pairs : List PairState) (kept : Frame) : Type 0 where
   pub number : ℕ
-  pub frame : Frame
+  pub frame : CapturedFrame
   pub judged : PairState
   pub came : slice_get frames number ≡ Some frame
   pub became : slice_get pairs number ≡ Some judged

@@ -4,7 +4,8 @@ use Rattle.std.specs.Option.{option_map}
 use Rattle.flow_lines.specs.declared.flow.FlowLine.{FlowLine}
 use Rattle.flow_lines.specs.declared.hop.Hop.{Hop}
 use Rattle.pcap_frames.specs.Record.{Frame}
-use Rattle.pcap_frames.specs.Written.{capture_octets}
+use Rattle.capture_reader.specs.Frame.{CapturedFrame}
+use Rattle.capture_reader.specs.Written.{file_octets}
 use Rattle.packet_walk.specs.declared.walked.End.{End}
 use Rattle.packet_walk.specs.declared.walked.End.TheVariants as the_end
 use Rattle.shared_tables.specs.Plan.{PlanState}
@@ -33,7 +34,7 @@ is_judged run = length run.pairs == length run.input.frames
 
 -- and nothing ends the call there, so that the next flow comes
 abbrev pub goes_on : FlowRun → Bool
-goes_on run = is_judged run && is_some run.input.header && not (is_some run.input.event)
+goes_on run = is_judged run && is_some run.input.format && not (is_some run.input.event)
 
 -- a packet was denied on its way
 abbrev pub is_denied : End → Bool
@@ -64,16 +65,16 @@ abbrev pub run_end : FlowRun → List ℕ
 run_end run = flow_end_line run.number (length run.pairs) (passed_in run.pairs) (denied_in run.pairs)
 
 -- the packets that weren't denied, as their walks left them, each with the time of its frame
-abbrev pub kept_frames : List Frame → List PairState → List Frame
+abbrev pub kept_frames : List CapturedFrame → List PairState → List Frame
 kept_frames [] pairs = []
 kept_frames (frame ∷ frames) [] = []
 kept_frames (frame ∷ frames) (pair ∷ pairs) =
     if is_denied pair.walked.end then kept_frames frames pairs
     else record { head = frame.head; octets = pair.octets } ∷ kept_frames frames pairs
 
--- the output capture, in the resolution of the input; there is none where the input couldn't be begun
+-- the output capture, in the format of the input; there is none where the input couldn't be begun
 abbrev pub output_capture : FlowRun → Option (List ℕ)
-output_capture run = option_map (λ header. capture_octets header.nanos (kept_frames run.input.frames run.pairs)) run.input.header
+output_capture run = option_map (λ format. file_octets format (kept_frames run.input.frames run.pairs)) run.input.format
 
 -- what the file is to hold that a flow makes, if it makes one
 abbrev pub run_output : FlowRun → Option Output

@@ -1,9 +1,9 @@
 //! Where a flow stands in its script, and how it ends.
 
 use address_text::Name;
+use capture_reader::FileFault;
 use flow_lines::FlowLine;
 use node_tables::{Network, Reply};
-use pcap_frames::CaptureFault;
 use script_lines::Step;
 
 /// Where a flow stands in its script.
@@ -48,7 +48,7 @@ pub enum FlowEnd {
         replies: Vec<Reply>,
     },
     /// Its capture has a fault behind its last packet.
-    Broken(CaptureFault),
+    Broken(FileFault),
     /// Its capture has more packets than may be read.
     TooMany,
     /// It was stopped.

@@ -1,6 +1,7 @@
 //! The feed of a flow.
 
 ghost use Rattle.std.specs.Prelude.{◌≡◌, ◌≤◌, ◌<◌, ◌+◌, ◌^◌, ◌++◌, ◌∷◌, [], length, OnOk, OnErr, IfErr, if◌then◌else◌};
+ghost use Rattle.capture_reader.specs.Written.{IsTime};
 ghost use Rattle.flow_run.specs.declared.end.FlowStop.TheVariants.{OutOfMemory as NoMemoryStop};
 ghost use Rattle.flow_run.specs.Run.{is_denied as is_denied_end};
 ghost use Rattle.flow_run.specs.inside.Output.{IsThere};
@@ -82,6 +83,7 @@ fn hand_on<D: Depot, S: Sink>(
 ) -> Result<(), FlowStop>
     requires there { IsThere place.now.flow.now.output (D.state depot.old) }
     requires short { length judged.now.packet.now ≤ 262144 }
+    requires time { IsTime judged.now.format judged.now.head }
     ensures { HasHanded (stop_in result)
         (judged_line place.now judged.now) place.now.flow.now.output (judged_frame judged.now)
         (outlets (D.state depot.old) (S.state out.old) report.old.waiting.items octets.old.items)
@@ -144,6 +146,7 @@ impl<'d, 'o, 'r, 'f, D: Depot, S: Sink> Feed for RunFeed<'d, 'o, 'r, 'f, D, S> {
         count(&mut self.passed, &mut self.denied, walked);
         let judged = Judged {
             number: self.seen.len() as u64,
+            format: self.source.reader.format(),
             head: self.source.heads[self.source.at],
             walked,
             packet,

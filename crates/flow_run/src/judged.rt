@@ -1,5 +1,6 @@
 //! A packet that was judged.
 
+use capture_reader::CaptureFormat;
 use packet_walk::Walked;
 use pcap_frames::FrameHead;
 
@@ -8,6 +9,8 @@ use pcap_frames::FrameHead;
 pub struct Judged<'a> {
     /// Its number in the flow, counted from 1.
     pub number: u64,
+    /// The format of its capture.
+    pub format: CaptureFormat,
     /// The time of its frame.
     pub head: FrameHead,
     /// Its walk over the hops.

@@ -1,5 +1,6 @@
 //! One flow of a script: the packets of its capture are walked beside the steps up to the next flow, a line is printed for each, and
-//! those that aren't denied are written to an output capture. Both captures are in the libpcap file format, version 2.4 (`pcap_frames`).
+//! those that aren't denied are written to an output capture. A capture is a libpcap or a pcapng file (`capture_reader`), the output in
+//! the format of the input.
 //! The next way in which a flow may end is a variant in `end.rt`, with a case in each definition of `specs/Ends.antt`.
 #![tactic(auto)]
 

@@ -1,7 +1,7 @@
 //! What waits for the output of a flow.
 
 ghost use Rattle.std.specs.Prelude.{◌≡◌, ◌≤◌, [], length, Some, OnOk, IfOk};
-ghost use Rattle.pcap_frames.specs.Written.{frame_octets};
+ghost use Rattle.capture_reader.specs.Written.{file_frame, IsTime};
 ghost use Rattle.flow_run.specs.Run.{is_denied};
 ghost use Rattle.flow_run.specs.inside.Output.{HasAppended, IsThere, AreSent, HasHead};
 ghost use Rattle.flow_run.specs.inside.Judged.{judged_frame};
@@ -10,10 +10,10 @@ ghost use Rattle.flow_run.specs.inside.Flown.{HasCreated};
 
 use crate::end::FlowStop;
 use crate::judged::Judged;
+use capture_reader::CaptureFormat;
 use flow_lines::FileName;
 use net_io::{Depot, IoFault, append_all};
 use packet_walk::{End, Walked};
-use pcap_frames::{write_frame, write_head};
 use std::alloc::Global;
 
 /// How many octets are gathered before they are appended.
@@ -59,11 +59,13 @@ fn add_kept<D: Depot>(
 ) -> Result<(), FlowStop>
     requires there { IsThere (Some name.now) (D.state depot.old) }
     requires short { length judged.now.packet.now ≤ 262144 }
+    requires time { IsTime judged.now.format judged.now.head }
     ensures { HasAppended (stop_in result) (Some name.now)
-        (frame_octets judged.now.head judged.now.packet.now)
+        (file_frame judged.now.format judged.now.head judged.now.packet.now)
         octets.old.items octets.new.items (D.state depot.old) (D.state depot.new) }
 {
-    let Ok(()) = write_frame(judged.head, judged.packet, octets) else {
+    let Judged { format, head, packet, .. } = judged;
+    let Ok(()) = format.write_frame(*head, packet, octets) else {
         return Err(FlowStop::OutOfMemory);
     };
     if octets.len() < PIECE {
@@ -81,6 +83,7 @@ pub(crate) fn add_frame<D: Depot>(
 ) -> Result<(), FlowStop>
     requires there { IsThere output.now (D.state depot.old) }
     requires short { length judged.now.packet.now ≤ 262144 }
+    requires time { IsTime judged.now.format judged.now.head }
     ensures { HasAppended (stop_in result) output.now (judged_frame judged.now)
         octets.old.items octets.new.items (D.state depot.old) (D.state depot.new) }
 {
@@ -93,22 +96,22 @@ pub(crate) fn add_frame<D: Depot>(
     }
 }
 
-/// Makes the output of a flow, if it has one, and gives the head of a capture that is to be appended to it.
+/// Makes the output of a flow, if it has one, and gives the beginning of a capture that is to be appended to it.
 pub(crate) fn create_output<D: Depot>(
     alloc: Global,
     depot: &mut D,
     output: &Option<FileName>,
-    nanos: bool,
+    format: CaptureFormat,
 ) -> Result<Vec<u8>, FlowStop>
     ensures created { HasCreated (stop_in result) output.now
         (D.state depot.old) (D.state depot.new) }
-    ensures head { IfOk result (λ octets. HasHead output.now nanos octets.items) }
+    ensures head { IfOk result (λ octets. HasHead output.now format octets.items) }
 {
     let mut octets = Vec::new(alloc);
     let Some(name) = output else {
         return Ok(octets);
     };
-    let Ok(()) = write_head(nanos, &mut octets) else {
+    let Ok(()) = format.write_head(&mut octets) else {
         return Err(FlowStop::OutOfMemory);
     };
     match depot.create(name.text()) {

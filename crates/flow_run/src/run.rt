@@ -20,10 +20,10 @@ use crate::output::{append_rest, create_output};
 use crate::runner::Runner;
 use crate::source::{Behind, Source, begin_source};
 use call_report::{FlowSeen, Report, WalkLines, write_flow, write_flow_end};
+use capture_reader::{FileFault, ReadStop};
 use label_flow::{Gate, RoundStop, round};
 use net_io::{Depot, Sink};
 use node_tables::{Network, Reply};
-use pcap_frames::FrameStop;
 use shared_tables::{Publisher, Viewer};
 use std::sync::Wait;
 use std::thread::Threads;
@@ -169,7 +169,7 @@ fn run_on<D: Depot + Send, S: Sink + Send, G: Gate + Sync, R: Threads + Wait + S
     finish(feed, network, driven)
 }
 
-// The packets of a capture whose header was read, where the output is made.
+// The packets of a capture whose beginning was read, where the output is made.
 fn run_made<D: Depot + Send, S: Sink + Send, G: Gate + Sync, R: Threads + Wait + Sync>(
     runner: &Runner<'_, '_, R, G>,
     network: Network,
@@ -188,7 +188,7 @@ fn run_made<D: Depot + Send, S: Sink + Send, G: Gate + Sync, R: Threads + Wait +
     }
 }
 
-// A flow whose input's header was read.
+// A flow whose input's beginning was read.
 fn run_read<D: Depot + Send, S: Sink + Send, G: Gate + Sync, R: Threads + Wait + Sync>(
     runner: &Runner<'_, '_, R, G>,
     network: Network,
@@ -202,8 +202,8 @@ fn run_read<D: Depot + Send, S: Sink + Send, G: Gate + Sync, R: Threads + Wait +
         × (feed.new.report.ghost_name ≡ feed.old.report.ghost_name) }
     ensures ends { EndsSince D.state S.state feed.old feed.new result }
 {
-    let nanos = feed.source.frames.nanos();
-    match create_output(feed.alloc, feed.depot, &feed.place.flow.output, nanos) {
+    let format = feed.source.reader.format();
+    match create_output(feed.alloc, feed.depot, &feed.place.flow.output, format) {
         Ok(octets) => {
             feed.octets = octets;
             run_made(runner, network, feed)
@@ -212,7 +212,7 @@ fn run_read<D: Depot + Send, S: Sink + Send, G: Gate + Sync, R: Threads + Wait +
     }
 }
 
-// The flow of a source whose header was read, by a feed over what is lent to the flow.
+// The flow of a source whose beginning was read, by a feed over what is lent to the flow.
 fn run_source<D: Depot + Send, S: Sink + Send, G: Gate + Sync, R: Threads + Wait + Sync>(
     runner: &Runner<'_, '_, R, G>,
     place: &FlowPlace<'_>,
@@ -269,18 +269,19 @@ fn end_loans<D: Depot, S: Sink>(_depot: &mut D, _out: &mut S, _report: &mut Repo
 {}
 
 // How a flow ends whose input can't be begun.
-fn end_at(stop: FrameStop) -> FlowEnd
+fn end_at(stop: ReadStop) -> FlowEnd
     ensures { result ≡ end_at stop }
 {
     match stop {
-        FrameStop::Capture(fault) => FlowEnd::Broken(fault),
-        FrameStop::ReadFault => FlowEnd::Stopped(FlowStop::Read),
-        FrameStop::OutOfMemory => FlowEnd::Stopped(FlowStop::OutOfMemory),
+        ReadStop::Capture(fault) => FlowEnd::Broken(FileFault::Pcap(fault)),
+        ReadStop::Ng(fault) => FlowEnd::Broken(FileFault::Pcapng(fault)),
+        ReadStop::ReadFault => FlowEnd::Stopped(FlowStop::Read),
+        ReadStop::OutOfMemory => FlowEnd::Stopped(FlowStop::OutOfMemory),
     }
 }
 
 /// Carries out a flow of a script, up to the next one. A line is printed for the flow and for each of its packets, and the packets
-/// that aren't denied are written to its output, if it has one: a capture of link type 101 in the input's resolution. The steps up to
+/// that aren't denied are written to its output, if it has one: a capture of link type 101 in the input's format. The steps up to
 /// the next flow are made beside the packets, which so many workers walk.
 ///
 /// Each version under which a packet was judged is given back. Where a read or an append fails, or memory runs out, all packets in front

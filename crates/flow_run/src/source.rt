@@ -1,20 +1,19 @@
 //! The packets of a capture, read in batches.
 
-ghost use Rattle.std.specs.Prelude.{◌≡◌, ◌≤◌, ◌<◌, ◌⊎◌, IsTrue, ◌+◌, [], length, drop, None, Some, IsSome, is_some, option_map, if◌then◌else◌, OnErr, IfOk, IfErr, IfSome, true, false, vec_len, vec_capacity};
-ghost use Rattle.net_io.specs.Depot.{octets_of, OnlyReads};
-ghost use Rattle.pcap_frames.specs.Header.{capture_header};
-ghost use Rattle.pcap_frames.specs.Reader.{IsReady, IsAnswerOf, SpeaksOf};
-ghost use Rattle.pcap_frames.specs.Ip.{ip_part_of};
+ghost use Rattle.std.specs.Prelude.{◌≡◌, ◌≤◌, ◌<◌, ◌⊎◌, IsTrue, ◌+◌, [], length, None, Some, Ok, Err, IsSome, if◌then◌else◌, All, OnErr, IfOk, IfErr, true, false, vec_len, vec_capacity};
+ghost use Rattle.net_io.specs.Depot.{OnlyReads};
+ghost use Rattle.capture_reader.specs.Reader.{name_of, format_of, IsReadable, IsBegun};
+ghost use Rattle.capture_reader.specs.Written.{IsTime};
 ghost use Rattle.label_flow.specs.Feed.{HasFetched};
-ghost use Rattle.flow_run.specs.Input.{packet_in};
 ghost use Rattle.flow_run.specs.inside.Flown.{IsFresh};
-ghost use Rattle.flow_run.specs.inside.Source.{IsAmid, StandsBy, HasGot, HasOnlyRead, IsFed, HasFilled, HasStepped, left_in, due_in, pending, is_end, file_of};
+ghost use Rattle.flow_run.specs.inside.Source.{IsAmid, StandsBy, HasGot, HasOnlyRead, IsFed, HasFilled, HasStepped, left_in, due_in, pending, is_end, file_of, behind_at};
 
 use crate::end::FlowStop;
+use capture_reader::{CaptureReader, FileFault, ReadStop};
 use flow_lines::FileName;
 use net_io::Depot;
 use packet_walk::{Octets, PacketIn};
-use pcap_frames::{CaptureFault, FrameHead, FrameStop, Frames, ip_part};
+use pcap_frames::FrameHead;
 use std::alloc::Global;
 use std::mem;
 
@@ -27,7 +26,7 @@ pub enum Behind {
     /// The capture's end.
     Whole,
     /// A fault of the capture.
-    Broken(CaptureFault),
+    Broken(FileFault),
     /// One packet more than may be read.
     TooMany,
     /// A read has failed there.
@@ -39,7 +38,7 @@ pub enum Behind {
 /// Reads the packets of a capture. Buffers are used again from batch to batch.
 #[derive(Drop)]
 pub struct Source {
-    pub frames: Frames,
+    pub reader: CaptureReader,
     /// How many packets may be read, and how many were.
     pub most: u64,
     pub read: u64,
@@ -51,51 +50,15 @@ pub struct Source {
     pub at: usize,
 }
 
-// A buffer, one that was given back if there is one.
-fn buffer(alloc: Global, spare: &mut Vec<PacketIn>) -> Vec<u8> {
+// A packet to read into, one that was given back if there is one.
+fn spare_packet(alloc: Global, spare: &mut Vec<PacketIn>) -> PacketIn {
     match spare.pop() {
-        Some(PacketIn { bytes, is_ip: _ }) => bytes.into_vec(),
-        None => Vec::new(alloc),
-    }
-}
-
-// The octets behind the first ones.
-fn without_front(octets: Vec<u8>, front: usize) -> Vec<u8>
-    requires { front ≤ length octets.items }
-    ensures { result.items ≡ drop front octets.items }
-{
-    let mut octets = octets;
-    if front > 0 {
-        let left = octets.len() - front;
-        octets.copy_within(front.., 0);
-        octets.truncate(left);
-    }
-    octets
-}
-
-// The packet of a frame.
-fn packet_of(link: u32, octets: Vec<u8>) -> PacketIn
-    ensures { (head : FrameHead)
-        → result ≡ packet_in link (record { head = head; octets = octets.items }) }
-{
-    let Some(front) = front_of(link, &octets) else {
-        let bytes = Octets::of(octets);
-        return PacketIn {
-            bytes,
+        Some(packet) => packet,
+        None => PacketIn {
+            bytes: Octets::of(Vec::new(alloc)),
             is_ip: false,
-        };
-    };
-    let bytes = Octets::of(without_front(octets, front));
-    PacketIn { bytes, is_ip: true }
-}
-
-// How many octets stand in front of a frame's packet.
-fn front_of(link: u32, octets: &[u8]) -> Option<usize>
-    ensures within { IfSome result (λ front. front ≤ length octets.now) }
-    ensures part { option_map (λ front. drop front octets.now) result ≡ ip_part_of link octets.now }
-{
-    let part = ip_part(link, octets)?;
-    Some(octets.len() - part.len())
+        },
+    }
 }
 
 // Whether there is room for a packet and its time.
@@ -108,54 +71,74 @@ fn has_room(batch: &mut Vec<PacketIn>, heads: &mut Vec<FrameHead>) -> bool
     batch.reserve(1).is_ok() && heads.reserve(1).is_ok()
 }
 
-// Reads the record at which the source stands into the batch, or gives what stands there where it may not be taken.
+// What stands behind the packets that were read, where the reader stops.
+fn behind_at(stop: ReadStop) -> Behind
+    ensures { result ≡ behind_at stop }
+{
+    match stop {
+        ReadStop::Capture(fault) => Behind::Broken(FileFault::Pcap(fault)),
+        ReadStop::Ng(fault) => Behind::Broken(FileFault::Pcapng(fault)),
+        ReadStop::ReadFault => Behind::Failed,
+        ReadStop::OutOfMemory => Behind::NoMemory,
+    }
+}
+
+// Reads the next packet into the batch, and answers true; or keeps what stands there, where there is none that may be taken.
 fn read_one<D: Depot>(
     alloc: Global,
     depot: &mut D,
     source: &mut Source,
     batch: &mut Vec<PacketIn>,
-) -> Option<Behind>
-    requires ready { IsReady (D.state depot.old) source.old.frames }
+) -> bool
+    requires ready { IsReadable (D.state depot.old) source.old.reader }
     requires amid { IsTrue (D.state depot.old).tells
         → IsAmid source.old (file_of (D.state depot.old) source.old) }
     requires within { source.old.read ≤ source.old.most }
+    requires begins { source.old.behind ≡ None }
     ensures within { source.new.read ≤ source.new.most }
-    ensures ready { IsReady (D.state depot.new) source.new.frames }
-    ensures reads { HasOnlyRead result source.old.frames.name
+    ensures ready { IsReadable (D.state depot.new) source.new.reader }
+    ensures reads { HasOnlyRead source.new.behind (name_of source.old.reader)
         (D.state depot.old) (D.state depot.new) }
     ensures stands { IsTrue (D.state depot.old).tells
-        → StandsBy result source.new (file_of (D.state depot.old) source.old) }
+        → StandsBy source.new.behind source.new (file_of (D.state depot.old) source.old) }
     ensures got { HasGot (D.state depot.old).tells (file_of (D.state depot.old) source.old)
         source.old source.new batch.old.items batch.new.items }
-    ensures behind { source.new.behind ≡ source.old.behind }
+    ensures more { result ≡ true → source.new.behind ≡ None }
+    ensures last { result ≡ false → IsSome source.new.behind }
     ensures count { length batch.new.items
-        ≡ length batch.old.items + (if is_some result then 0 else 1) }
+        ≡ length batch.old.items + (if result then 1 else 0) }
 {
     if !has_room(batch, &mut source.heads) {
-        return Some(Behind::NoMemory);
+        source.behind = Some(Behind::NoMemory);
+        return false;
     }
-    let mut octets = buffer(alloc, &mut source.spare);
-    match source.frames.next(depot, &mut octets) {
+    let mut packet = spare_packet(alloc, &mut source.spare);
+    match source.reader.next(depot, &mut packet) {
         Ok(Some(head)) => {
             if source.read == source.most {
-                return Some(Behind::TooMany);
+                source.behind = Some(Behind::TooMany);
+                return false;
             }
             source.read += 1;
             source.heads.push_reserved(head);
-            batch.push_reserved(packet_of(source.frames.link(), octets));
-            None
+            batch.push_reserved(packet);
+            true
         }
-        Ok(None) => Some(Behind::Whole),
-        Err(FrameStop::Capture(fault)) => Some(Behind::Broken(fault)),
-        Err(FrameStop::ReadFault) => Some(Behind::Failed),
-        Err(FrameStop::OutOfMemory) => Some(Behind::NoMemory),
+        Ok(None) => {
+            source.behind = Some(Behind::Whole);
+            false
+        }
+        Err(stop) => {
+            source.behind = Some(behind_at(stop));
+            false
+        }
     }
 }
 
-// Empties the batch, whose buffers are kept for what is read next.
+// Empties the batch, whose packets are kept for what is read next.
 fn give_back(source: &mut Source, batch: &mut Vec<PacketIn>)
     ensures empty { (batch.new.items ≡ []) × (source.new.heads.items ≡ []) × (source.new.at ≡ 0) }
-    ensures same { (source.new.frames ≡ source.old.frames) × (source.new.most ≡ source.old.most)
+    ensures same { (source.new.reader ≡ source.old.reader) × (source.new.most ≡ source.old.most)
         × (source.new.read ≡ source.old.read) × (source.new.behind ≡ source.old.behind) }
 {
     mem::swap(batch, &mut source.spare);
@@ -166,15 +149,15 @@ fn give_back(source: &mut Source, batch: &mut Vec<PacketIn>)
 
 // Reads until the batch is full, or up to what stands behind the last packet.
 fn fill<D: Depot>(alloc: Global, depot: &mut D, source: &mut Source, batch: &mut Vec<PacketIn>)
-    requires ready { IsReady (D.state depot.old) source.old.frames }
+    requires ready { IsReadable (D.state depot.old) source.old.reader }
     requires amid { IsTrue (D.state depot.old).tells
         → IsAmid source.old (file_of (D.state depot.old) source.old) }
     requires within { source.old.read ≤ source.old.most }
     requires begins { source.old.behind ≡ None }
     requires empty { batch.old.items ≡ [] }
     ensures within { source.new.read ≤ source.new.most }
-    ensures ready { IsReady (D.state depot.new) source.new.frames }
-    ensures reads { HasOnlyRead source.new.behind source.old.frames.name
+    ensures ready { IsReadable (D.state depot.new) source.new.reader }
+    ensures reads { HasOnlyRead source.new.behind (name_of source.old.reader)
         (D.state depot.old) (D.state depot.new) }
     ensures stands { IsTrue (D.state depot.old).tells
         → StandsBy source.new.behind source.new (file_of (D.state depot.old) source.old) }
@@ -184,12 +167,8 @@ fn fill<D: Depot>(alloc: Global, depot: &mut D, source: &mut Source, batch: &mut
     ensures some { (0 < length batch.new.items) ⊎ IsSome source.new.behind }
 {
     while batch.len() < BATCH {
-        match read_one(alloc, depot, source, batch) {
-            None => {}
-            Some(behind) => {
-                source.behind = Some(behind);
-                return;
-            }
+        if !read_one(alloc, depot, source, batch) {
+            return;
         }
     }
 }
@@ -256,20 +235,19 @@ pub(crate) fn begin_source<D: Depot>(
     depot: &mut D,
     name: &FileName,
     most: u64,
-) -> Result<Source, FrameStop>
+) -> Result<Source, ReadStop>
     ensures fresh { IfOk result (λ source. IsFresh name.now most source) }
     ensures fed { IfOk result (λ source. IsFed (D.state depot.new) source) }
-    ensures answer { IsTrue (D.state depot.old).tells
-        → IsAnswerOf (λ source. source.frames.header) result
-        (capture_header (octets_of ((D.state depot.old).held name.now))) }
-    ensures present { IsTrue (D.state depot.old).tells
-        → SpeaksOf ((D.state depot.old).held name.now) result }
-    ensures frame { OnlyReads FrameStop.ReadFault result name.now
+    ensures begun { IfOk result (λ source. IsTrue (D.state depot.old).tells
+        → IsBegun (Ok source.reader) ((D.state depot.old).held name.now)) }
+    ensures stops { IfErr result (λ stop. IsTrue (D.state depot.old).tells
+        → IsBegun (Err stop) ((D.state depot.old).held name.now)) }
+    ensures frame { OnlyReads ReadStop.ReadFault result name.now
         (D.state depot.old) (D.state depot.new) }
 {
-    match Frames::begin(alloc, depot, name.text()) {
-        Ok(frames) => Ok(Source {
-            frames,
+    match CaptureReader::begin(alloc, depot, name.text()) {
+        Ok(reader) => Ok(Source {
+            reader,
             most,
             read: 0,
             behind: None,

@@ -55,7 +55,7 @@ abbrev pub HasTakenSince : {D S : Type 0} → (D → DepotState) → (S → Sink
 HasTakenSince folder stream was now pairs =
     IsSameFlow was now × HasTakenAt now.place (moment_of folder stream was) (moment_of folder stream now) pairs
 
--- nothing was read but the header of its input, and nothing has stopped it
+-- nothing was read but the beginning of its input, and nothing has stopped it
 pub record IsNew {D S : Type 0} (folder : D → DepotState) (feed : RunFeed D S) : Type 0 where
   pub fresh : IsFresh feed.place.flow.now.input feed.place.most feed.source
   pub fed : IsFed (folder feed.depot.now) feed.source
@@ -100,7 +100,7 @@ abbrev pub HasFlownSince : {D S : Type 0} → (D → DepotState) → (S → Sink
 HasFlownSince folder stream old new end =
     HasFlownAt old.place (moment_of folder stream old) (outside_at folder stream new) new.report.now.waiting.items new.seen end
 
--- the same where the header of its input has just been read
+-- the same where the beginning of its input has just been read
 abbrev pub EndsSince : {D S : Type 0} → (D → DepotState) → (S → SinkState) → RunFeed D S → RunFeed D S → FlowEnd → Type 0
 EndsSince folder stream old new end =
     EndsBehind old.place old.source (folder old.depot.now) (stream old.out.now) old.report.now.waiting.items (outside_at folder stream new)

@@ -1,12 +1,13 @@
 -- How a flow begins, and how far it has come where it ends.
-use Rattle.std.specs.Prelude.{ℕ, ◌≡◌, ◌≢◌, IsTrue, IsSome, List, [], ◌++◌, length, Option, Some, None, Ok}
-use Rattle.net_io.specs.Depot.{DepotState, octets_of, SameHeld}
+use Rattle.std.specs.Prelude.{ℕ, ◌≡◌, ◌≢◌, IsTrue, List, [], ◌++◌, length, Option, Some, None, Ok}
+use Rattle.net_io.specs.Depot.{DepotState, SameHeld}
 use Rattle.net_io.specs.Sink.{SinkState}
 use Rattle.net_io.specs.Faults.{Rose, SameCounts}
 use Rattle.flow_lines.specs.declared.flow.FlowLine.{FlowLine}
-use Rattle.pcap_frames.specs.declared.fault.FrameStop.{FrameStop}
-use Rattle.pcap_frames.specs.declared.fault.FrameStop.TheVariants as frame_stop
-use Rattle.pcap_frames.specs.Header.{capture_header}
+use Rattle.capture_reader.specs.declared.fault.FileFault.TheVariants as file
+use Rattle.capture_reader.specs.declared.fault.ReadStop.{ReadStop}
+use Rattle.capture_reader.specs.declared.fault.ReadStop.TheVariants as read_stop
+use Rattle.capture_reader.specs.Reader.{name_of, format_of, IsBegun}
 use Rattle.packet_walk.specs.declared.packet.PacketIn.{PacketIn}
 use Rattle.node_tables.specs.declared.reply.Reply.{Reply}
 use Rattle.node_tables.specs.Tables.{TableState}
@@ -32,10 +33,9 @@ use Rattle.flow_run.specs.inside.Output.{HasHead, AreSent}
 use Rattle.flow_run.specs.inside.Source.{IsFed, packets_left, file_of}
 use Rattle.flow_run.specs.inside.Taken.{Moment, HasTaken}
 
--- nothing was read of this capture but its header
+-- nothing was read of this capture but its beginning
 pub record IsFresh (input : List ℕ) (most : ℕ) (source : Source) : Type 0 where
-  pub name : source.frames.name ≡ input
-  pub place : source.frames.place ≡ 24
+  pub name : name_of source.reader ≡ input
   pub most_is : source.most ≡ most
   pub read : source.read ≡ 0
   pub behind : source.behind ≡ None
@@ -62,27 +62,25 @@ pub record HasCreated (stop : Option FlowStop) (output : Option (List ℕ)) (old
   pub still : output ≡ None → SameCounts old.creates new.creates
   pub moved : CreatesMove stop output old.creates new.creates
 
--- The header of a flow's input was read.
+-- The beginning of a flow's input was read.
 pub record HasRead (flow : FlowLine) (most : ℕ) (before folder : DepotState) (source : Source) : Type 0 where
   pub told : folder.tells ≡ before.tells
   pub fresh : IsFresh flow.input most source
-  pub header : IsTrue before.tells → capture_header (octets_of (before.held flow.input)) ≡ Ok source.frames.header
-  pub present : IsTrue before.tells → IsSome (before.held flow.input)
+  pub begun : IsTrue before.tells → IsBegun (Ok source.reader) (before.held flow.input)
   pub kept : IsTrue before.tells → SameHeld before.held folder.held
   pub fed : IsFed folder source
   pub reads : SameCounts before.reads folder.reads
   pub creates : SameCounts before.creates folder.creates
   pub appends : SameCounts before.appends folder.appends
 
--- A flow begins: the header of its input was read, and its output made.
+-- A flow begins: the beginning of its input was read, and its output made.
 pub record IsStart (flow : FlowLine) (most : ℕ) (before folder : DepotState) (source : Source) (octets : List ℕ) : Type 0 where
   pub told : folder.tells ≡ before.tells
   pub fresh : IsFresh flow.input most source
-  pub header : IsTrue before.tells → capture_header (octets_of (before.held flow.input)) ≡ Ok source.frames.header
-  pub present : IsTrue before.tells → IsSome (before.held flow.input)
+  pub begun : IsTrue before.tells → IsBegun (Ok source.reader) (before.held flow.input)
   pub here : IsTrue before.tells → (name : List ℕ) → flow.output ≡ Some name → folder.held name ≡ Some []
   pub others : IsTrue before.tells → (name : List ℕ) → flow.output ≢ Some name → folder.held name ≡ before.held name
-  pub head : HasHead flow.output source.frames.header.nanos octets
+  pub head : HasHead flow.output (format_of source.reader) octets
   pub fed : IsFed folder source
   pub reads : SameCounts before.reads folder.reads
   pub creates : SameCounts before.creates folder.creates
@@ -95,10 +93,11 @@ stop_of TooMany = None
 stop_of (Stopped why) = Some why
 
 -- how a flow ends whose input can't be begun
-abbrev pub end_at : FrameStop → FlowEnd
-end_at (frame_stop.Capture fault) = Broken fault
-end_at frame_stop.ReadFault = Stopped the_stop.Read
-end_at frame_stop.OutOfMemory = Stopped the_stop.OutOfMemory
+abbrev pub end_at : ReadStop → FlowEnd
+end_at (read_stop.Capture fault) = Broken (file.Pcap fault)
+end_at (read_stop.Ng fault) = Broken (file.Pcapng fault)
+end_at read_stop.ReadFault = Stopped the_stop.Read
+end_at read_stop.OutOfMemory = Stopped the_stop.OutOfMemory
 
 -- the next flow comes under these tables, with these replies in between
 abbrev pub Gives : FlowEnd → List TableState → List Reply → Type 0
@@ -157,7 +156,7 @@ abbrev pub HasFlownAt : FlowPlace → Moment → Outside → List ℕ → List (
 HasFlownAt place was after waits seen end =
     HasFlown (plan_at place) place.names.now place.workers place.number place.upto place.flow.now was after waits seen end
 
--- A flow ends so, where the header of its input has just been read behind the flow's line.
+-- A flow ends so, where the beginning of its input has just been read behind the flow's line.
 abbrev pub EndsBehind : FlowPlace → Source → DepotState → SinkState → List ℕ → Outside → List ℕ → List (List ℕ) → FlowEnd → Type 0
 EndsBehind place source folder stream lines after waits' seen end =
     (before : Outside) (waits : List ℕ) → HasRead place.flow.now place.most before.folder folder source

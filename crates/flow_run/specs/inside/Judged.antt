@@ -11,4 +11,4 @@ judged_line place judged = walked_line place.number judged.number place.names.no
 
 -- and the octets of its frame
 abbrev pub judged_frame : Judged → List ℕ
-judged_frame judged = frame_of judged.head judged.walked.now.end judged.packet.now
+judged_frame judged = frame_of judged.format judged.head judged.walked.now.end judged.packet.now

@@ -1,9 +1,10 @@
 -- What is appended to the output of a flow.
-use Rattle.std.specs.Prelude.{ℕ, Bool, ◌≡◌, ◌≢◌, IsTrue, List, [], ◌++◌, if◌then◌else◌, Option, Some, None}
+use Rattle.std.specs.Prelude.{ℕ, ◌≡◌, ◌≢◌, IsTrue, List, [], ◌++◌, if◌then◌else◌, Option, Some, None}
 use Rattle.net_io.specs.Depot.{DepotState}
 use Rattle.net_io.specs.Faults.{Rose, SameCounts}
 use Rattle.pcap_frames.specs.declared.record.FrameHead.{FrameHead}
-use Rattle.pcap_frames.specs.Written.{capture_head_octets, frame_octets}
+use Rattle.capture_reader.specs.declared.format.CaptureFormat.{CaptureFormat}
+use Rattle.capture_reader.specs.Written.{file_head, file_frame}
 use Rattle.packet_walk.specs.declared.walked.End.{End}
 use Rattle.flow_run.specs.declared.end.FlowStop.{FlowStop}
 use Rattle.flow_run.specs.declared.end.FlowStop.TheVariants as the_stop
@@ -43,12 +44,12 @@ pub record HasAppended (stop : Option FlowStop) (output : Option (List ℕ)) (oc
   pub moved : AppendsMove stop output old.appends new.appends
 
 -- the octets of a packet's frame, none where it was denied
-abbrev pub frame_of : FrameHead → End → List ℕ → List ℕ
-frame_of head end octets = if is_denied end then [] else frame_octets head octets
+abbrev pub frame_of : CaptureFormat → FrameHead → End → List ℕ → List ℕ
+frame_of format head end octets = if is_denied end then [] else file_frame format head octets
 
--- the head of a capture waits for the output, if there is one
-abbrev pub HasHead : Option (List ℕ) → Bool → List ℕ → Type 0
-HasHead output nanos octets = (name : List ℕ) → output ≡ Some name → octets ≡ capture_head_octets nanos
+-- the beginning of a capture waits for the output, if there is one
+abbrev pub HasHead : Option (List ℕ) → CaptureFormat → List ℕ → Type 0
+HasHead output format octets = (name : List ℕ) → output ≡ Some name → octets ≡ file_head format
 
 -- nothing waits any more for the output, if there is one
 abbrev pub AreSent : Option (List ℕ) → List ℕ → Type 0

@@ -1,38 +1,46 @@
 -- A source of packets: what it has left of its capture, and what reads change.
-use Rattle.std.specs.Prelude.{ℕ, ◌≡◌, ◌≤◌, ◌<◌, ◌⊎◌, ◌-◌, IsSome, Bool, true, false, IsTrue, List, [], ◌++◌, length, take, drop, map, All, Option, Some, None, Ok}
+use Rattle.std.specs.Prelude.{ℕ, ◌≡◌, ◌≤◌, ◌<◌, ◌⊎◌, ◌-◌, if◌then◌else◌, IsSome, Bool, true, false, IsTrue, List, [], ◌++◌, length, take, drop, map, All, Option, Some, None, Ok}
 use Rattle.net_io.specs.Depot.{DepotState, octets_of, SameHeld}
 use Rattle.net_io.specs.Faults.{Rose, SameCounts}
 use Rattle.pcap_frames.specs.declared.record.FrameHead.{FrameHead}
-use Rattle.pcap_frames.specs.Record.{Frame}
-use Rattle.pcap_frames.specs.Capture.{Capture, Records, records_at, capture_of}
-use Rattle.pcap_frames.specs.Reader.{Reader, IsReady}
 use Rattle.packet_walk.specs.declared.packet.PacketIn.{PacketIn}
+use Rattle.capture_reader.specs.declared.fault.FileFault.TheVariants as file
+use Rattle.capture_reader.specs.declared.fault.ReadStop.{ReadStop}
+use Rattle.capture_reader.specs.declared.fault.ReadStop.TheVariants as read_stop
+use Rattle.capture_reader.specs.Frame.{CapturedFrame, packet_in}
+use Rattle.capture_reader.specs.CaptureFile.{CaptureFile, capture_file}
+use Rattle.capture_reader.specs.Reader.{name_of, format_of, left_of, IsReadable}
+use Rattle.capture_reader.specs.Written.{IsTime}
 use Rattle.call_report.specs.Lines.Capture.{capture_line}
 use Rattle.call_report.specs.Lines.Fixed.{packets_limit_line}
 use Rattle.call_report.specs.Event.{Event, capture_event}
-use Rattle.flow_run.specs.Input.{packet_in}
 use Rattle.flow_run.specs.declared.end.FlowStop.{FlowStop}
 use Rattle.flow_run.specs.declared.end.FlowStop.TheVariants as the_stop
 use Rattle.flow_run.specs.declared.source.Source.{Source}
 use Rattle.flow_run.specs.declared.source.Behind.{Behind}
 use Rattle.flow_run.specs.declared.source.Behind.TheVariants.{Whole, Broken, TooMany, Failed, NoMemory}
 
--- the records from a reader's place on
-abbrev pub records_left : Reader → List ℕ → Records
-records_left reader file = records_at reader.header.order reader.place (drop reader.place file)
+-- whether the input was read to its end, or to its event
+abbrev pub is_end : Option Behind → Bool
+is_end None = false
+is_end (Some Whole) = true
+is_end (Some (Broken fault)) = true
+is_end (Some TooMany) = true
+is_end (Some Failed) = false
+is_end (Some NoMemory) = false
 
 -- the frames that may still be read
-abbrev pub frames_left : Source → List ℕ → List Frame
-frames_left source file = take (source.most - source.read) (records_left source.frames file).frames
+abbrev pub frames_left : Source → List ℕ → List CapturedFrame
+frames_left source file = if is_end source.behind then [] else take (source.most - source.read) (left_of source.reader file).frames
 
 -- the same of packets, where the folder tells what it holds
 abbrev pub packets_left : Bool → Source → List ℕ → Option (List PacketIn)
-packets_left true source file = Some (map (packet_in source.frames.header.link) (frames_left source file))
+packets_left true source file = Some (map packet_in (frames_left source file))
 packets_left false source file = None
 
 -- what a folder holds of a source's file
 abbrev pub file_of : DepotState → Source → List ℕ
-file_of folder source = octets_of (folder.held source.frames.name)
+file_of folder source = octets_of (folder.held (name_of source.reader))
 
 abbrev pub left_in : DepotState → Source → Option (List PacketIn)
 left_in folder source = packets_left folder.tells source (file_of folder source)
@@ -45,11 +53,18 @@ due_in source = length source.heads.items - source.at
 abbrev pub heads_left : Source → List ℕ → List FrameHead
 heads_left source file = drop source.at source.heads.items ++ map (λ frame. frame.head) (frames_left source file)
 
--- so many frames stand in front of the reader's place as were read
+-- so many frames stand in front of those that are left as were read
 pub record IsAmid (source : Source) (file : List ℕ) : Type 0 where
-  pub front : List Frame
+  pub front : List CapturedFrame
   pub count : length front ≡ source.read
-  pub all : capture_of file ≡ Ok (record { header = source.frames.header; frames = front ++ (records_left source.frames file).frames; fault = (records_left source.frames file).fault })
+  pub all : capture_file file ≡ Ok (record { format = format_of source.reader; frames = front ++ (left_of source.reader file).frames; fault = (left_of source.reader file).fault })
+
+-- what stands behind the packets that were read, where the reader stops
+abbrev pub behind_at : ReadStop → Behind
+behind_at (read_stop.Capture fault) = Broken (file.Pcap fault)
+behind_at (read_stop.Ng fault) = Broken (file.Pcapng fault)
+behind_at read_stop.ReadFault = Failed
+behind_at read_stop.OutOfMemory = NoMemory
 
 -- the event that stands behind the frames that were read, in the capture of this number
 abbrev pub event_of : ℕ → Behind → Option Event
@@ -61,10 +76,9 @@ event_of number NoMemory = None
 
 -- all was read, up to this event
 pub record IsAtEnd (source : Source) (file : List ℕ) (behind : Behind) : Type 0 where
-  pub capture : Capture
-  pub is : capture_of file ≡ Ok capture
+  pub capture : CaptureFile
+  pub is : capture_file file ≡ Ok capture
   pub event : (number : ℕ) → capture_event number source.most capture ≡ event_of number behind
-  pub none : frames_left source file ≡ []
 
 abbrev pub StandsBy : Option Behind → Source → List ℕ → Type 0
 StandsBy None source file = IsAmid source file
@@ -83,30 +97,31 @@ pending (Some TooMany) = None
 pending (Some Failed) = Some the_stop.Read
 pending (Some NoMemory) = Some the_stop.OutOfMemory
 
--- whether the input was read to its end, or to its event
-abbrev pub is_end : Option Behind → Bool
-is_end None = false
-is_end (Some Whole) = true
-is_end (Some (Broken fault)) = true
-is_end (Some TooMany) = true
-is_end (Some Failed) = false
-is_end (Some NoMemory) = false
-
 -- the same reader of the same capture
 pub record IsSame (old new : Source) : Type 0 where
-  pub name : new.frames.name ≡ old.frames.name
-  pub header : new.frames.header ≡ old.frames.header
+  pub name : name_of new.reader ≡ name_of old.reader
+  pub format : format_of new.reader ≡ format_of old.reader
   pub most : new.most ≡ old.most
+
+-- The first frames that were left have these times and packets; the others are left.
+pub record AreRead (file : List ℕ) (old new : Source) (times : List FrameHead) (packets : List PacketIn) : Type 0 where
+  pub frames : List CapturedFrame
+  pub times_are : map (λ frame. frame.head) frames ≡ times
+  pub packets_are : map packet_in frames ≡ packets
+  pub left : frames_left old file ≡ frames ++ frames_left new file
 
 -- Frames were read from a source into a batch, behind those that it has.
 pub record HasGot (tells : Bool) (file : List ℕ) (old new : Source) (batch batch' : List PacketIn) : Type 0 where
-  pub frames : List Frame
+  pub times : List FrameHead
+  pub packets : List PacketIn
   pub same : IsSame old new
-  pub heads : new.heads.items ≡ old.heads.items ++ map (λ frame. frame.head) frames
+  pub heads : new.heads.items ≡ old.heads.items ++ times
   pub at : new.at ≡ old.at
-  pub packets : batch' ≡ batch ++ map (packet_in old.frames.header.link) frames
-  pub short : All (λ packet. length packet.bytes ≤ 262144) (map (packet_in old.frames.header.link) frames)
-  pub left : IsTrue tells → frames_left old file ≡ frames ++ frames_left new file
+  pub behind : batch' ≡ batch ++ packets
+  pub count : length times ≡ length packets
+  pub written : All (IsTime (format_of old.reader)) times
+  pub short : All (λ packet. length packet.bytes ≤ 262144) packets
+  pub read : IsTrue tells → AreRead file old new times packets
 
 -- the numbers of failed reads: that of this name rose where one has failed, and else none has moved
 abbrev pub ReadsMove : Option Behind → List ℕ → (List ℕ → ℕ) → (List ℕ → ℕ) → Type 0
@@ -127,13 +142,14 @@ pub record HasOnlyRead (behind : Option Behind) (name : List ℕ) (old new : Dep
 
 -- what a source needs of a folder, and leaves
 pub record IsFed (folder : DepotState) (source : Source) : Type 0 where
-  pub ready : IsReady folder source.frames
+  pub ready : IsReadable folder source.reader
   pub stands : IsTrue folder.tells → StandsBy source.behind source (file_of folder source)
   pub within : source.read ≤ source.most
+  pub times : All (IsTime (format_of source.reader)) source.heads.items
 
 -- a batch was read, or nothing where what stands behind the last packet is known already
 abbrev pub HasMoved : Source → Source → DepotState → DepotState → Type 0
-HasMoved old new before after = ((old.behind ≡ None) × HasOnlyRead new.behind old.frames.name before after) ⊎ ((new.behind ≡ old.behind) × (after ≡ before))
+HasMoved old new before after = ((old.behind ≡ None) × HasOnlyRead new.behind (name_of old.reader) before after) ⊎ ((new.behind ≡ old.behind) × (after ≡ before))
 
 -- An empty batch was filled.
 pub record HasFilled (before after : DepotState) (old new : Source) (batch : List PacketIn) : Type 0 where

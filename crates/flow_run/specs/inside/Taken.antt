@@ -8,7 +8,8 @@ use Rattle.net_io.specs.declared.fault.IoFault.TheVariants as io
 use Rattle.flow_lines.specs.declared.flow.FlowLine.{FlowLine}
 use Rattle.pcap_frames.specs.declared.record.FrameHead.{FrameHead}
 use Rattle.pcap_frames.specs.Record.{Frame}
-use Rattle.pcap_frames.specs.Written.{frames_octets}
+use Rattle.capture_reader.specs.Reader.{name_of, format_of}
+use Rattle.capture_reader.specs.Written.{file_frames}
 use Rattle.label_flow.specs.Pair.{PairState}
 use Rattle.label_flow.specs.Schedule.{versions_in}
 use Rattle.call_report.specs.Outside.{Outside, NoWriteFailed}
@@ -105,7 +106,7 @@ pub record HasTaken (number : ℕ) (names : List (List ℕ)) (flow : FlowLine) (
   pub source : IsSame was.source now.source
   pub heads : IsTrue was.folder.tells → heads_left now.source (file_of was.folder was.source) ≡ drop (length pairs) (heads_left was.source (file_of was.folder was.source))
   pub output : IsTrue was.folder.tells → (name : List ℕ) → flow.output ≡ Some name
-      → IsAppended now.stop (was.octets ++ frames_octets (kept_by (heads_left was.source (file_of was.folder was.source)) pairs)) now.octets (was.folder.held name) (now.folder.held name)
+      → IsAppended now.stop (was.octets ++ file_frames (format_of was.source.reader) (kept_by (heads_left was.source (file_of was.folder was.source)) pairs)) now.octets (was.folder.held name) (now.folder.held name)
   pub others : IsTrue was.folder.tells → (name : List ℕ) → flow.output ≢ Some name → now.folder.held name ≡ was.folder.held name
   pub reads : ReadsMove now.source.behind flow.input was.folder.reads now.folder.reads
   pub failed : now.stop ≡ Some the_stop.Read → now.source.behind ≡ Some Failed
@@ -120,7 +121,7 @@ HasTakenAt place was now pairs = HasTaken place.number place.names.now place.flo
 
 -- What is true of a flow at each moment, and what its calls need.
 pub record IsGoing (flow : FlowLine) (now : Moment) : Type 0 where
-  pub input : now.source.frames.name ≡ flow.input
+  pub input : name_of now.source.reader ≡ flow.input
   pub apart : flow.output ≢ Some flow.input
   pub present : IsThere flow.output now.folder
   pub counts : now.passed + now.denied ≡ length now.seen
