@@ -8,16 +8,18 @@ use Rattle.net_io.specs.Sink.{SinkState, WritesPrefix}
 use Rattle.net_io.specs.Faults.{Rose, SameCounts}
 use Rattle.flow_lines.specs.declared.flow.FlowLine.{FlowLine}
 use Rattle.flow_lines.specs.declared.hop.Hop.{Hop}
-use Rattle.pcap_frames.specs.declared.header.CaptureHeader.{CaptureHeader}
-use Rattle.pcap_frames.specs.declared.fault.CaptureFault.{CaptureFault}
-use Rattle.pcap_frames.specs.Reader.{IsAnswerOf, SpeaksOf}
-use Rattle.pcap_frames.specs.declared.fault.FrameStop.{FrameStop}
-use Rattle.pcap_frames.specs.declared.fault.FrameStop.TheVariants as the_frame_stop
-use Rattle.pcap_frames.specs.Header.{capture_header}
 use Rattle.pcap_frames.specs.Record.{Frame}
-use Rattle.pcap_frames.specs.Capture.{Capture, records_at, capture_by, capture_of}
-use Rattle.pcap_frames.specs.Written.{frames_octets, capture_octets}
 use Rattle.packet_walk.specs.declared.packet.PacketIn.{PacketIn}
+use Rattle.capture_reader.specs.declared.format.CaptureFormat.{CaptureFormat}
+use Rattle.capture_reader.specs.declared.fault.FileFault.{FileFault}
+use Rattle.capture_reader.specs.declared.fault.FileFault.TheVariants as file_fault
+use Rattle.capture_reader.specs.declared.fault.ReadStop.{ReadStop}
+use Rattle.capture_reader.specs.declared.fault.ReadStop.TheVariants as read_stop
+use Rattle.capture_reader.specs.declared.reader.AnyFrames.{AnyFrames}
+use Rattle.capture_reader.specs.Frame.{CapturedFrame, packet_in}
+use Rattle.capture_reader.specs.CaptureFile.{CaptureFile, capture_file}
+use Rattle.capture_reader.specs.Reader.{name_of, format_of, left_of, begun_file, IsBegun as IsReadBegun}
+use Rattle.capture_reader.specs.Written.{file_frames, file_octets}
 use Rattle.shared_tables.specs.Plan.{PlanState}
 use Rattle.label_flow.specs.Pair.{PairState}
 use Rattle.label_flow.specs.Feed.{AreBegun, AreWhole}
@@ -38,15 +40,15 @@ use Rattle.flow_run.specs.declared.end.FlowStop.TheVariants as the_stop
 use Rattle.flow_run.specs.declared.source.Source.{Source}
 use Rattle.flow_run.specs.declared.source.Behind.{Behind}
 use Rattle.flow_run.specs.declared.source.Behind.TheVariants as the_behind
-use Rattle.flow_run.specs.Input.{FlowInput, input_by, flow_input, packet_in}
+use Rattle.flow_run.specs.Input.{FlowInput, input_by, flow_input}
 use Rattle.flow_run.specs.Run.{FlowRun, is_judged, is_denied, walked_lines, run_text, run_end, kept_frames, passed_in, denied_in}
 use Rattle.flow_run.specs.Ends.{IsHandedOn, IsPrinted, IsEnd, HasEnded, HasMade, RanShort, IsCause, IsRunOf, HasSteps, FlowEnds}
 use Rattle.flow_run.specs.inside.Output.{IsAppended, HasHead}
-use Rattle.flow_run.specs.inside.Source.{records_left, frames_left, packets_left, heads_left, file_of, StandsBy, IsAtEnd, event_of, is_end, ReadsMove, IsFed}
+use Rattle.flow_run.specs.inside.Source.{frames_left, packets_left, heads_left, file_of, StandsBy, IsAtEnd, event_of, is_end, ReadsMove, IsFed}
 use Rattle.flow_run.specs.inside.Taken.{Moment, IsPrintedTo, kept_by, IsMoved, outside_of, HasTaken}
 use Rattle.flow_run.specs.inside.Flown.{IsStart, EndsBehind, IsFresh, HasRead, HasCreated, CreatesMove, HasFlown, WaitsFor, IsBehind, stop_of, end_at}
 use Rattle.flow_run.proofs.Prints.{cut_off, print_goes}
-use Rattle.flow_run.proofs.Reading.{reads_more}
+use Rattle.flow_run.proofs.Reading.{reads_more, open_left}
 use Rattle.flow_run.proofs.Steps.{fed_kept}
 
 -- ---- a flow that ends before a packet
@@ -54,19 +56,21 @@ use Rattle.flow_run.proofs.Steps.{fed_kept}
 abbrev early_run : ℕ → ℕ → FlowLine → Option (List ℕ) → FlowRun
 early_run number most flow held = record { number = number; flow = flow; input = flow_input number most held; pairs = [] }
 
-abbrev broken_input : ℕ → CaptureFault → FlowInput
-broken_input number fault = record { header = None; frames = []; event = Some (record { status = 5; line = capture_line number fault }) }
+abbrev broken_input : ℕ → FileFault → FlowInput
+broken_input number fault = record { format = None; frames = []; event = Some (record { status = 5; line = capture_line number fault }) }
 
-input_broken : (number most : ℕ) (held : Option (List ℕ)) (fault : CaptureFault) → IsSome held → capture_header (octets_of held) ≡ Err fault → flow_input number most held ≡ broken_input number fault
-input_broken number most None fault present is = absurd cc
-input_broken number most (Some file) fault present is = ap (λ (r : Result CaptureHeader CaptureFault). input_by number most (capture_by file r)) is
+-- the file is there, and this is what it holds
+abbrev Holds : Option (List ℕ) → Result CaptureFile FileFault → Type 0
+Holds held read = (file : List ℕ) × (held ≡ Some file) × (capture_file file ≡ read)
 
-broken_ends : (number most : ℕ) (flow : FlowLine) (held : Option (List ℕ)) (fault : CaptureFault) → IsSome held → capture_header (octets_of held) ≡ Err fault
-    → IsEnd (Broken fault) (early_run number most flow held)
-broken_ends number most flow held fault present is =
-    subst (λ (input : FlowInput). IsEnd (Broken fault) (record { number = number; flow = flow; input = input; pairs = [] })) (sym (input_broken number most held fault present is)) (refl, refl)
+input_of : (number most : ℕ) (held : Option (List ℕ)) (read : Result CaptureFile FileFault) → Holds held read → flow_input number most held ≡ input_by number most read
+input_of number most held read holds = ap (flow_input number most) holds.1 ∙ ap (input_by number most) holds.2
 
-no_output : (number : ℕ) (flow : FlowLine) (fault : CaptureFault) (output : Output) (name : Option (List ℕ)) (old new : List ℕ → Option (List ℕ)) → ((n : List ℕ) → new n ≡ old n)
+broken_ends : (number most : ℕ) (flow : FlowLine) (held : Option (List ℕ)) (fault : FileFault) → Holds held (Err fault) → IsEnd (Broken fault) (early_run number most flow held)
+broken_ends number most flow held fault holds =
+    subst (λ (input : FlowInput). IsEnd (Broken fault) (record { number = number; flow = flow; input = input; pairs = [] })) (sym (input_of number most held (Err fault) holds)) (refl, refl)
+
+no_output : (number : ℕ) (flow : FlowLine) (fault : FileFault) (output : Output) (name : Option (List ℕ)) (old new : List ℕ → Option (List ℕ)) → ((n : List ℕ) → new n ≡ old n)
     → option_map (λ (n : List ℕ). (let one : Output = record { name = n; octets = None } in one)) name ≡ Some output → IsMade output old new
 no_output number flow fault output None old new kept is = absurd cc
 no_output number flow fault output (Some name) old new kept is =
@@ -74,10 +78,10 @@ no_output number flow fault output (Some name) old new kept is =
     let same : one ≡ output = cc in
     subst (λ (o : Output). IsMade o old new) same (λ octets some. absurd (let no_octets : None ≡ Some octets = some in cc), λ _. kept name)
 
-broken_made : (number most : ℕ) (flow : FlowLine) (held : Option (List ℕ)) (fault : CaptureFault) (old new : List ℕ → Option (List ℕ)) → IsSome held → capture_header (octets_of held) ≡ Err fault
+broken_made : (number most : ℕ) (flow : FlowLine) (held : Option (List ℕ)) (fault : FileFault) (old new : List ℕ → Option (List ℕ)) → Holds held (Err fault)
     → ((n : List ℕ) → new n ≡ old n) → HasMade (early_run number most flow held) (Broken fault) old new
-broken_made number most flow held fault old new present is kept =
-    subst (λ (input : FlowInput). HasMade (record { number = number; flow = flow; input = input; pairs = [] }) (Broken fault) old new) (sym (input_broken number most held fault present is))
+broken_made number most flow held fault old new holds kept =
+    subst (λ (input : FlowInput). HasMade (record { number = number; flow = flow; input = input; pairs = [] }) (Broken fault) old new) (sym (input_of number most held (Err fault) holds))
     (record {
       begun = λ output at. inl (kept output.name);
       made = λ ended output at. no_output number flow fault output flow.output old new kept at;
@@ -151,7 +155,7 @@ module _ (plan : PlanState) (names : List (List ℕ)) (workers number most upto 
   module _ (waits_are : waits' ≡ waits ++ flow_line number flow.input) (stream : after.stream ≡ before.stream) (folder_told : after.folder.tells ≡ before.folder.tells)
       (kept : IsTrue before.folder.tells → (name : List ℕ) → after.folder.held name ≡ before.folder.held name)
       (still : flow.output ≡ None → SameCounts before.folder.creates after.folder.creates × SameCounts before.folder.appends after.folder.appends) where
-    -- a read of the header has failed
+    -- a read of the beginning has failed
     pub ends_unread : Rose (before.folder.reads flow.input) (after.folder.reads flow.input) → NoWriteFailed before after → FlowEnds plan names workers number most upto flow before after waits waits' [] (Stopped the_stop.Read)
     ends_unread rose unwritten =
         early (Stopped the_stop.Read) (λ told. tt) (λ told. line_waits waits_are stream) (λ told. unmade the_stop.Read (kept told)) tt (rose, unwritten) still
@@ -170,31 +174,31 @@ module _ (plan : PlanState) (names : List (List ℕ)) (workers number most upto 
         early (Stopped the_stop.OutOfMemory) (λ told. tt) (λ told. cut_off _ _ _ _ _ (line_waits waits_are stream)) (λ told. unmade the_stop.OutOfMemory (kept told)) tt short still
         (faults_same stream) folder_told (ap (λ (s : SinkState). s.tells) stream)
 
-    -- the header is broken
-    pub ends_broken : (fault : CaptureFault) → (IsTrue before.folder.tells → capture_header (octets_of (before.folder.held flow.input)) ≡ Err fault)
-        → (IsTrue before.folder.tells → IsSome (before.folder.held flow.input)) → NoneFailed before after
+    -- the beginning is broken
+    pub ends_broken : (fault : FileFault) → (IsTrue before.folder.tells → Holds (before.folder.held flow.input) (Err fault)) → NoneFailed before after
         → FlowEnds plan names workers number most upto flow before after waits waits' [] (Broken fault)
     unfolding first_run
-    ends_broken fault header present none =
-        early (Broken fault) (λ told. broken_ends number most flow (before.folder.held flow.input) fault (present told) (header told))
+    ends_broken fault holds none =
+        early (Broken fault) (λ told. broken_ends number most flow (before.folder.held flow.input) fault (holds told))
         (λ told. line_waits waits_are stream)
-        (λ told. broken_made number most flow (before.folder.held flow.input) fault before.folder.held after.folder.held (present told) (header told) (kept told))
+        (λ told. broken_made number most flow (before.folder.held flow.input) fault before.folder.held after.folder.held (holds told) (kept told))
         tt none still (faults_same stream) folder_told (ap (λ (s : SinkState). s.tells) stream)
 
 -- ---- a flow that has run
 
--- the input that is there
-input_there : (number most : ℕ) (held : Option (List ℕ)) (capture : Capture) → IsSome held → capture_of (octets_of held) ≡ Ok capture
-    → flow_input number most held ≡ record { header = Some capture.header; frames = take most capture.frames; event = capture_event number most capture }
-input_there number most None capture present is = absurd cc
-input_there number most (Some file) capture present is = ap (input_by number most) is
+-- the input that was begun
+begun_holds : (reader : AnyFrames) (held : Option (List ℕ)) → IsReadBegun (Ok reader) held → Holds held (Ok (begun_file reader (octets_of held)))
+begun_holds reader held begun = (begun.0, begun.1, begun.2 ∙ ap (λ (f : List ℕ). Ok (begun_file reader f)) (sym (ap octets_of begun.1)))
+
+held_file : (held : Option (List ℕ)) (capture : CaptureFile) → Holds held (Ok capture) → capture_file (octets_of held) ≡ Ok capture
+held_file held capture holds = ap (λ (h : Option (List ℕ)). capture_file (octets_of h)) holds.1 ∙ holds.2
 
 walked_front : (plan : PlanState) (hops : List Hop) (packets rest : List PacketIn) (pairs : List PairState) → AreWalked plan hops packets pairs → AreWalked plan hops (packets ++ rest) pairs
 walked_front plan hops packets rest [] walked = tt
 walked_front plan hops [] rest (pair ∷ pairs) walked = absurd walked
 walked_front plan hops (packet ∷ packets) rest (pair ∷ pairs) walked = (walked.0, walked_front plan hops packets rest pairs walked.1)
 
-kept_same : (frames : List Frame) (pairs : List PairState) → kept_by (map (λ (f : Frame). f.head) frames) pairs ≡ kept_frames frames pairs
+kept_same : (frames : List CapturedFrame) (pairs : List PairState) → kept_by (map (λ (f : CapturedFrame). f.head) frames) pairs ≡ kept_frames frames pairs
 kept_same [] pairs = refl
 kept_same (frame ∷ frames) [] = refl
 kept_same (frame ∷ frames) (pair ∷ pairs) =
@@ -251,13 +255,13 @@ printed_end names run (Stopped the_stop.Print) now waits waits' a b printed are 
 printed_end names run (Stopped the_stop.OutOfMemory) now waits waits' a b printed are seen passed denied = printed
 
 -- which event ends it
-end_event : (run : FlowRun) (end : FlowEnd) (header : CaptureHeader) (behind : Option Behind) → run.input.header ≡ Some header → (HasEnded end → is_judged run ≡ true)
+end_event : (run : FlowRun) (end : FlowEnd) (format : CaptureFormat) (behind : Option Behind) → run.input.format ≡ Some format → (HasEnded end → is_judged run ≡ true)
     → IsBehind end behind → ((b : Behind) → behind ≡ Some b → is_end (Some b) ≡ true → run.input.event ≡ event_of run.number b) → IsEnd end run
-end_event run (GoesOn network replies) header behind has judged is event =
+end_event run (GoesOn network replies) format behind has judged is event =
     rw (judged tt, has, event the_behind.Whole is refl) refl
-end_event run (Broken fault) header behind has judged is event = (judged tt, event (the_behind.Broken fault) is refl)
-end_event run TooMany header behind has judged is event = (judged tt, event the_behind.TooMany is refl)
-end_event run (Stopped why) header behind has judged is event = tt
+end_event run (Broken fault) format behind has judged is event = (judged tt, event (the_behind.Broken fault) is refl)
+end_event run TooMany format behind has judged is event = (judged tt, event the_behind.TooMany is refl)
+end_event run (Stopped why) format behind has judged is event = tt
 
 stop_ended : (end : FlowEnd) → HasEnded end → stop_of end ≡ None
 stop_ended (GoesOn network replies) ended = refl
@@ -380,43 +384,43 @@ module _ (plan : PlanState) (names : List (List ℕ)) (workers number most upto 
         ∙ ap (λ n. octets_of (was.folder.held n)) (sym start.fresh.name)
         ∙ file_was
 
-    capture : Capture
-    capture = record { header = was.source.frames.header; frames = (records_left was.source.frames file).frames; fault = (records_left was.source.frames file).fault }
+    capture : CaptureFile
+    capture = begun_file was.source.reader file
 
-    capture_is : capture_of file ≡ Ok capture
+    holds : Holds (before.folder.held flow.input) (Ok capture)
     unfolding file capture
-    capture_is =
-        ap (capture_by (octets_of (before.folder.held flow.input))) (start.header told)
-        ∙ ap (λ (p : ℕ). (let left = records_at was.source.frames.header.order p (drop p (octets_of (before.folder.held flow.input))) in
-        let all : Capture = record { header = was.source.frames.header; frames = left.frames; fault = left.fault } in Ok all)) (sym start.fresh.place)
+    holds = begun_holds was.source.reader (before.folder.held flow.input) (start.begun told)
 
-    frames : List Frame
+    capture_is : capture_file file ≡ Ok capture
+    unfolding file
+    capture_is = held_file (before.folder.held flow.input) capture holds
+
+    frames : List CapturedFrame
     frames = frames_left was.source file
 
     the_input : FlowInput
-    the_input = record { header = Some was.source.frames.header; frames = frames; event = capture_event number most capture }
+    the_input = record { format = Some (format_of was.source.reader); frames = frames; event = capture_event number most capture }
 
     input_is : the_input ≡ flow_input number most (before.folder.held flow.input)
     unfolding the_input frames file capture
     input_is =
         let count : was.source.most - was.source.read ≡ most = omega (arith, start.fresh.most_is, start.fresh.read) in
-        let one : FlowInput =
-        record { header = Some was.source.frames.header; frames = take most (records_left was.source.frames (octets_of (before.folder.held flow.input))).frames; event = capture_event number most capture } in
-        let same : the_input ≡ one =
-        ap (λ n. (let x : FlowInput = record { header = Some was.source.frames.header; frames = take n (records_left was.source.frames (octets_of (before.folder.held flow.input))).frames; event = capture_event number most capture } in x)) count in
-        same ∙ sym (input_there number most (before.folder.held flow.input) capture (start.present told) capture_is)
+        let with_frames = λ (fs : List CapturedFrame). (let x : FlowInput = record { format = Some (format_of was.source.reader); frames = fs; event = capture_event number most capture } in x) in
+        ap with_frames (open_left was.source file (ap is_end start.fresh.behind))
+        ∙ ap (λ n. with_frames (take n (left_of was.source.reader file).frames)) count
+        ∙ sym (input_of number most (before.folder.held flow.input) (Ok capture) holds)
 
     the_run : FlowRun
     the_run = record { number = number; flow = flow; input = the_input; pairs = flown.pairs }
 
     packets : List PacketIn
-    packets = map (packet_in was.source.frames.header.link) frames
+    packets = map packet_in frames
 
     left_is : packets_left was.folder.tells was.source (file_of was.folder was.source) ≡ Some packets
     unfolding packets frames
     left_is =
         ap (λ t. packets_left t was.source (file_of was.folder was.source)) told_was
-        ∙ ap (λ (f : List ℕ). Some (map (packet_in was.source.frames.header.link) (frames_left was.source f))) file_was
+        ∙ ap (λ (f : List ℕ). Some (map packet_in (frames_left was.source f))) file_was
 
     begun : (rest : List PacketIn) × (packets ≡ flown.packets ++ rest)
     begun = subst (λ (left : Option (List PacketIn)). AreBegun left flown.packets) left_is flown.begun
@@ -428,7 +432,7 @@ module _ (plan : PlanState) (names : List (List ℕ)) (workers number most upto 
     unfolding the_run the_input packets frames
     judged ended =
         same_count (length flown.pairs) (length (frames_left was.source file))
-        (packets_count ∙ sym (ap length (whole ended)) ∙ length-map (frames_left was.source file) (packet_in was.source.frames.header.link))
+        (packets_count ∙ sym (ap length (whole ended)) ∙ length-map (frames_left was.source file) packet_in)
 
     event_is : (b : Behind) → flown.now.source.behind ≡ Some b → is_end (Some b) ≡ true → capture_event number most capture ≡ event_of number b
     unfolding now
@@ -436,12 +440,12 @@ module _ (plan : PlanState) (names : List (List ℕ)) (workers number most upto 
         let told_now : IsTrue flown.now.folder.tells = subst IsTrue (sym flown.taken.folder_told) told_was in
         let stands = subst (λ (x : Option Behind). StandsBy x flown.now.source (file_of flown.now.folder flown.now.source)) is (flown.fed.stands told_now) in
         let last = at_end b flown.now.source (file_of flown.now.folder flown.now.source) ending stands in
-        let same : last.capture ≡ capture = let eq = sym last.is ∙ ap capture_of file_now ∙ capture_is in cc in
+        let same : last.capture ≡ capture = let eq = sym last.is ∙ ap capture_file file_now ∙ capture_is in cc in
         ap (capture_event number most) (sym same) ∙ ap (λ m. capture_event number m last.capture) (sym (flown.taken.source.most ∙ start.fresh.most_is)) ∙ last.event number
 
     ends : IsEnd end the_run
     unfolding the_run the_input
-    ends = end_event the_run end was.source.frames.header flown.now.source.behind refl judged flown.behind event_is
+    ends = end_event the_run end (format_of was.source.reader) flown.now.source.behind refl judged flown.behind event_is
 
     walked : AreWalked plan flow.hops packets flown.pairs
     walked = subst (λ (ps : List PacketIn). AreWalked plan flow.hops ps flown.pairs) (sym begun.1) (walked_front plan flow.hops flown.packets begun.0 flown.pairs flown.walked)
@@ -468,29 +472,30 @@ module _ (plan : PlanState) (names : List (List ℕ)) (workers number most upto 
         printed_end names the_run end flown.now waits waits' before.stream after.stream there flown.waits_are (ap length (sym flown.seen_is) ∙ seen_count)
         (omega (arith, flown.taken.passed, passed)) (omega (arith, flown.taken.denied, denied))
 
-    heads_are : heads_left was.source (file_of was.folder was.source) ≡ map (λ (f : Frame). f.head) frames
+    heads_are : heads_left was.source (file_of was.folder was.source) ≡ map (λ (f : CapturedFrame). f.head) frames
     unfolding frames
     heads_are =
-        let left = map (λ (f : Frame). f.head) (frames_left was.source (file_of was.folder was.source)) in
+        let left = map (λ (f : CapturedFrame). f.head) (frames_left was.source (file_of was.folder was.source)) in
         ap (λ n. drop n was.source.heads.items ++ left) start.fresh.at
         ∙ ap (λ hs. hs ++ left) start.fresh.heads
-        ∙ ap (λ (f : List ℕ). map (λ (x : Frame). x.head) (frames_left was.source f)) file_was
+        ∙ ap (λ (f : List ℕ). map (λ (x : CapturedFrame). x.head) (frames_left was.source f)) file_was
 
     text : List ℕ
-    text = capture_octets was.source.frames.header.nanos (kept_frames frames flown.pairs)
+    text = file_octets (format_of was.source.reader) (kept_frames frames flown.pairs)
 
     appended : (name : List ℕ) → flow.output ≡ Some name → IsAppended (stop_of end) text flown.now.octets (Some []) (after.folder.held name)
     unfolding text
     appended name is =
         let kept = kept_by (heads_left was.source (file_of was.folder was.source)) flown.pairs in
-        let same : was.octets ++ frames_octets kept ≡ capture_octets was.source.frames.header.nanos (kept_frames frames flown.pairs) =
-        ap (λ hs. was.octets ++ frames_octets (kept_by hs flown.pairs)) heads_are
-        ∙ ap (λ fs. was.octets ++ frames_octets fs) (kept_same frames flown.pairs)
-        ∙ ap (λ o. o ++ frames_octets (kept_frames frames flown.pairs)) (start.head name is) in
-        subst (λ (s : Option FlowStop). IsAppended s (capture_octets was.source.frames.header.nanos (kept_frames frames flown.pairs)) flown.now.octets (Some []) (after.folder.held name)) flown.stop
+        let format = format_of was.source.reader in
+        let same : was.octets ++ file_frames format kept ≡ file_octets format (kept_frames frames flown.pairs) =
+        ap (λ hs. was.octets ++ file_frames format (kept_by hs flown.pairs)) heads_are
+        ∙ ap (λ fs. was.octets ++ file_frames format fs) (kept_same frames flown.pairs)
+        ∙ ap (λ o. o ++ file_frames format (kept_frames frames flown.pairs)) (start.head name is) in
+        subst (λ (s : Option FlowStop). IsAppended s (file_octets format (kept_frames frames flown.pairs)) flown.now.octets (Some []) (after.folder.held name)) flown.stop
         (subst (λ (t : List ℕ). IsAppended flown.now.stop t flown.now.octets (Some []) (after.folder.held name)) same
-        (subst (λ (h : Option (List ℕ)). IsAppended flown.now.stop (was.octets ++ frames_octets kept) flown.now.octets h (after.folder.held name)) (start.here told name is)
-        (subst (λ (d : DepotState). IsAppended flown.now.stop (was.octets ++ frames_octets kept) flown.now.octets (was.folder.held name) (d.held name)) (sym flown.folder)
+        (subst (λ (h : Option (List ℕ)). IsAppended flown.now.stop (was.octets ++ file_frames format kept) flown.now.octets h (after.folder.held name)) (start.here told name is)
+        (subst (λ (d : DepotState). IsAppended flown.now.stop (was.octets ++ file_frames format kept) flown.now.octets (was.folder.held name) (d.held name)) (sym flown.folder)
         (flown.taken.output told_was name is))))
 
     made : HasMade the_run end before.folder.held after.folder.held
@@ -548,18 +553,17 @@ module _ (plan : PlanState) (names : List (List ℕ)) (workers number most upto 
 -- ---- the output, where it can't be made; and the start where it can
 
 pub start_of : (flow : FlowLine) (most : ℕ) (before mid folder : DepotState) (source : Source) (octets : List ℕ) → flow.output ≢ Some flow.input → HasRead flow most before mid source
-    → HasCreated None flow.output mid folder → HasHead flow.output source.frames.header.nanos octets → IsStart flow most before folder source octets
+    → HasCreated None flow.output mid folder → HasHead flow.output (format_of source.reader) octets → IsStart flow most before folder source octets
 start_of flow most before mid folder source octets apart read created head =
     let ready : IsTrue before.tells → IsTrue mid.tells = λ told. subst IsTrue (sym read.told) told in
     record {
       told = created.told ∙ read.told;
       fresh = read.fresh;
-      header = read.header;
-      present = read.present;
+      begun = read.begun;
       here = λ told. created.here refl (ready told);
       others = λ told name other. created.others (ready told) name other ∙ read.kept told name;
       head = head;
-      fed = fed_kept mid folder source source created.told (λ told. created.others told source.frames.name (λ is. apart (is ∙ ap Some read.fresh.name))) refl refl refl refl read.fed;
+      fed = fed_kept mid folder source source created.told (λ told. created.others told (name_of source.reader) (λ is. apart (is ∙ ap Some read.fresh.name))) refl refl refl refl refl read.fed;
       reads = λ name. created.reads name ∙ read.reads name;
       creates = λ name. created.moved name ∙ read.creates name;
       appends = λ name. created.appends name ∙ read.appends name;
@@ -597,16 +601,14 @@ ends_uncreated plan names workers number most upto flow before after waits waits
           written = unwritten;
         })
 
--- ---- the header of the input
+-- ---- the beginning of the input
 
 pub read_of : (flow : FlowLine) (most : ℕ) (before mid : DepotState) (source : Source) → IsFresh flow.input most source → IsFed mid source
-    → (IsTrue before.tells → capture_header (octets_of (before.held flow.input)) ≡ Ok source.frames.header) → (IsTrue before.tells → IsSome (before.held flow.input))
-    → OnlyReads {T = Source} the_frame_stop.ReadFault (Ok source) flow.input before mid → HasRead flow most before mid source
-read_of flow most before mid source fresh fed header present only = record {
+    → (IsTrue before.tells → IsReadBegun (Ok source.reader) (before.held flow.input)) → OnlyReads {T = Source} read_stop.ReadFault (Ok source) flow.input before mid → HasRead flow most before mid source
+read_of flow most before mid source fresh fed begun only = record {
   told = only.told;
   fresh = fresh;
-  header = header;
-  present = present;
+  begun = begun;
   kept = only.kept;
   fed = fed;
   reads = only.reads.ok;
@@ -614,24 +616,33 @@ read_of flow most before mid source fresh fed header present only = record {
   appends = only.appends;
 }
 
--- the header can't be read
-pub ends_unbegun : (plan : PlanState) (names : List (List ℕ)) (workers number most upto : ℕ) (flow : FlowLine) (before after : Outside) (waits waits' : List ℕ) (shown : Source → CaptureHeader)
-    (stop : FrameStop) → flow.before ≤ upto → waits' ≡ waits ++ flow_line number flow.input → after.stream ≡ before.stream
-    → (IsTrue before.folder.tells → IsAnswerOf shown (Err stop) (capture_header (octets_of (before.folder.held flow.input))))
-    → (IsTrue before.folder.tells → SpeaksOf {T = Source} (before.folder.held flow.input) (Err stop))
-    → OnlyReads {T = Source} the_frame_stop.ReadFault (Err stop) flow.input before.folder after.folder
-    → FlowEnds plan names workers number most upto flow before after waits waits' [] (end_at stop)
-ends_unbegun plan names workers number most upto flow before after waits waits' shown (the_frame_stop.Capture fault) low waits_are stream answer present only =
-    ends_broken plan names workers number most upto flow before after waits waits' low waits_are stream only.told only.kept (λ none. (only.creates, only.appends)) fault answer present (record {
-      reads = only.reads.still (λ failed. absurd cc);
+-- the beginning can't be read
+ends_at_fault : (plan : PlanState) (names : List (List ℕ)) (workers number most upto : ℕ) (flow : FlowLine) (before after : Outside) (waits waits' : List ℕ)
+    (stop : ReadStop) (fault : FileFault) → flow.before ≤ upto → waits' ≡ waits ++ flow_line number flow.input → after.stream ≡ before.stream
+    → (IsTrue before.folder.tells → Holds (before.folder.held flow.input) (Err fault)) → stop ≢ read_stop.ReadFault
+    → OnlyReads {T = Source} read_stop.ReadFault (Err stop) flow.input before.folder after.folder
+    → FlowEnds plan names workers number most upto flow before after waits waits' [] (Broken fault)
+ends_at_fault plan names workers number most upto flow before after waits waits' stop fault low waits_are stream holds other only =
+    ends_broken plan names workers number most upto flow before after waits waits' low waits_are stream only.told only.kept (λ none. (only.creates, only.appends)) fault holds (record {
+      reads = only.reads.still (λ failed. other (let one : stop ≡ read_stop.ReadFault = cc in one));
       creates = only.creates;
       appends = only.appends;
       writes = ap (λ (s : SinkState). s.faults) stream;
     })
-ends_unbegun plan names workers number most upto flow before after waits waits' shown the_frame_stop.ReadFault low waits_are stream answer present only =
+
+pub ends_unbegun : (plan : PlanState) (names : List (List ℕ)) (workers number most upto : ℕ) (flow : FlowLine) (before after : Outside) (waits waits' : List ℕ)
+    (stop : ReadStop) → flow.before ≤ upto → waits' ≡ waits ++ flow_line number flow.input → after.stream ≡ before.stream
+    → (IsTrue before.folder.tells → IsReadBegun (Err stop) (before.folder.held flow.input))
+    → OnlyReads {T = Source} read_stop.ReadFault (Err stop) flow.input before.folder after.folder
+    → FlowEnds plan names workers number most upto flow before after waits waits' [] (end_at stop)
+ends_unbegun plan names workers number most upto flow before after waits waits' (read_stop.Capture fault) low waits_are stream begun only =
+    ends_at_fault plan names workers number most upto flow before after waits waits' (read_stop.Capture fault) (file_fault.Pcap fault) low waits_are stream begun (λ is. absurd cc) only
+ends_unbegun plan names workers number most upto flow before after waits waits' (read_stop.Ng fault) low waits_are stream begun only =
+    ends_at_fault plan names workers number most upto flow before after waits waits' (read_stop.Ng fault) (file_fault.Pcapng fault) low waits_are stream begun (λ is. absurd cc) only
+ends_unbegun plan names workers number most upto flow before after waits waits' read_stop.ReadFault low waits_are stream begun only =
     ends_unread plan names workers number most upto flow before after waits waits' low waits_are stream only.told only.kept (λ none. (only.creates, only.appends)) (only.reads.cause refl)
     (record { writes = ap (λ (s : SinkState). s.faults) stream; appends = only.appends })
-ends_unbegun plan names workers number most upto flow before after waits waits' shown the_frame_stop.OutOfMemory low waits_are stream answer present only =
+ends_unbegun plan names workers number most upto flow before after waits waits' read_stop.OutOfMemory low waits_are stream begun only =
     ends_early plan names workers number most upto flow before after waits waits' low waits_are stream only.told only.kept (λ none. (only.creates, only.appends)) (record {
       reads = inl (only.reads.still (λ failed. absurd cc));
       creates = only.creates;

@@ -1,4 +1,3 @@
-pub mod Parts
 pub mod Reading
 pub mod Outputs
 pub mod Prints

@@ -5,17 +5,18 @@ use Rattle.std.specs.Option.{option_map}
 use Rattle.std.proofs.lemmas.Bool.{false≢true}
 use Rattle.std.proofs.lemmas.Option.{none-some, same_Some}
 use Rattle.std.proofs.lemmas.List.Elements.{All-cons, All-weaker}
-use Rattle.pcap_frames.specs.declared.header.CaptureHeader.{CaptureHeader}
 use Rattle.pcap_frames.specs.Record.{Frame}
-use Rattle.pcap_frames.specs.Written.{capture_octets}
+use Rattle.capture_reader.specs.declared.format.CaptureFormat.{CaptureFormat}
+use Rattle.capture_reader.specs.Frame.{CapturedFrame}
+use Rattle.capture_reader.specs.Written.{file_octets}
 use Rattle.label_flow.specs.Pair.{PairState}
 use Rattle.flow_run.specs.Run.{FlowRun, is_denied, kept_frames, output_capture}
 use Rattle.flow_run.specs.Laws.{IsOfPassed, all_but, run_without}
 
-abbrev left_by : Frame → PairState → Frame
+abbrev left_by : CapturedFrame → PairState → Frame
 left_by frame pair = record { head = frame.head; octets = pair.octets }
 
-pub kept_passed : (frames : List Frame) (pairs : List PairState) → All (IsOfPassed frames pairs) (kept_frames frames pairs)
+pub kept_passed : (frames : List CapturedFrame) (pairs : List PairState) → All (IsOfPassed frames pairs) (kept_frames frames pairs)
 kept_passed [] pairs = λ k d less. absurd (omega (arith, less))
 kept_passed (frame ∷ frames) [] = λ k d less. absurd (omega (arith, less))
 kept_passed (frame ∷ frames) (pair ∷ pairs) =
@@ -31,7 +32,7 @@ kept_passed (frame ∷ frames) (pair ∷ pairs) =
         All-cons (IsOfPassed (frame ∷ frames) (pair ∷ pairs)) (left_by frame pair) (kept_frames frames pairs)
         (record { number = zero; frame = frame; judged = pair; came = refl; became = refl; passed = e; is = refl }) later
 
-same_kept : (n : ℕ) (frames : List Frame) (pairs : List PairState) (denied : PairState) → slice_get pairs n ≡ Some denied → is_denied denied.walked.end ≡ true
+same_kept : (n : ℕ) (frames : List CapturedFrame) (pairs : List PairState) (denied : PairState) → slice_get pairs n ≡ Some denied → is_denied denied.walked.end ≡ true
     → kept_frames frames pairs ≡ kept_frames (all_but n frames) (all_but n pairs)
 same_kept n frames [] denied found is = absurd (none-some _ found)
 same_kept zero [] (pair ∷ pairs) denied found is = refl
@@ -47,4 +48,4 @@ same_kept (suc n) (frame ∷ frames) (pair ∷ pairs) denied found is =
 
 pub same_output : (run : FlowRun) (n : ℕ) (pair : PairState) → slice_get run.pairs n ≡ Some pair → is_denied pair.walked.end ≡ true → output_capture run ≡ output_capture (run_without n run)
 same_output run n pair found is =
-    ap (λ (kept : List Frame). option_map (λ (header : CaptureHeader). capture_octets header.nanos kept) run.input.header) (same_kept n run.input.frames run.pairs pair found is)
+    ap (λ (kept : List Frame). option_map (λ (format : CaptureFormat). file_octets format kept) run.input.format) (same_kept n run.input.frames run.pairs pair found is)

@@ -1,256 +1,311 @@
 -- What one read of a source, and reads one after the other, change.
-use Rattle.std.proofs.Common.{rules, ◌≡◌, ◌≢◌, ℕ, ◌+◌, ◌-◌, ◌<◌, ◌≤◌, Bool, IsTrue, List, [], ◌∷◌, ◌++◌, length, take, drop, map, Option, Some, None, Ok, Err, refl, sym, ap, subst, ◌∙◌, append_assoc, length-append, arith, inl, inr}
+use Rattle.std.proofs.Common.{rules, ◌≡◌, ◌≢◌, ℕ, ◌+◌, ◌-◌, ◌<◌, ◌≤◌, Bool, true, false, cond, IsTrue, List, [], ◌∷◌, ◌++◌, length, take, map, Option, Some, None, Ok, Err, refl, sym, ap, subst, ◌∙◌, append_assoc, length-append, arith, inl, inr}
 use Rattle.std.specs.List.{All}
 use Rattle.std.proofs.lemmas.Bool.{lt-ltb, le-ltb}
-use Rattle.std.proofs.lemmas.List.{append-nil, drop-drop, map-append}
+use Rattle.std.proofs.lemmas.List.{append-nil, map-append}
 use Rattle.std.proofs.lemmas.List.Elements.{All-append, All-nil}
 use Rattle.net_io.specs.Depot.{DepotState, OnlyReads, octets_of}
 use Rattle.net_io.specs.Faults.{SameCounts}
-use Rattle.pcap_frames.specs.declared.header.CaptureHeader.{CaptureHeader}
 use Rattle.pcap_frames.specs.declared.record.FrameHead.{FrameHead}
-use Rattle.pcap_frames.specs.declared.fault.CaptureFault.{CaptureFault}
-use Rattle.pcap_frames.specs.declared.fault.FrameStop.{FrameStop}
-use Rattle.pcap_frames.specs.declared.fault.FrameStop.TheVariants as the_frame_stop
-use Rattle.pcap_frames.specs.Record.{Frame, record_size, record_at}
-use Rattle.pcap_frames.specs.Capture.{Capture, Records, go_on, records_at}
-use Rattle.pcap_frames.specs.Reader.{Reader}
-use Rattle.pcap_frames.proofs.Law.{records_come_one_behind_another}
 use Rattle.packet_walk.specs.declared.packet.PacketIn.{PacketIn}
+use Rattle.capture_reader.specs.declared.format.CaptureFormat.{CaptureFormat}
+use Rattle.capture_reader.specs.declared.fault.FileFault.{FileFault}
+use Rattle.capture_reader.specs.declared.fault.FileFault.TheVariants as file_fault
+use Rattle.capture_reader.specs.declared.fault.ReadStop.{ReadStop}
+use Rattle.capture_reader.specs.declared.fault.ReadStop.TheVariants as read_stop
+use Rattle.capture_reader.specs.declared.reader.AnyFrames.{AnyFrames}
+use Rattle.capture_reader.specs.declared.reader.AnyFrames.TheVariants.{Pcap, Pcapng}
+use Rattle.capture_reader.specs.Frame.{CapturedFrame, packet_in}
+use Rattle.capture_reader.specs.CaptureFile.{CaptureFile}
+use Rattle.capture_reader.specs.Reader.{FramesLeft, name_of, format_of, left_of, IsReadable, IsTaken, IsNext}
+use Rattle.capture_reader.specs.Written.{IsTime}
 use Rattle.call_report.specs.Event.{capture_event}
-use Rattle.flow_run.specs.Input.{packet_in}
 use Rattle.flow_run.specs.declared.source.Source.{Source}
 use Rattle.flow_run.specs.declared.source.Behind.{Behind}
 use Rattle.flow_run.specs.declared.source.Behind.TheVariants.{Whole, Broken, TooMany, Failed, NoMemory}
-use Rattle.flow_run.specs.inside.Source.{records_left, frames_left, file_of, IsAmid, IsAtEnd, IsSame, HasGot, HasOnlyRead, ReadsMove, StandsBy}
-use Rattle.flow_run.proofs.Parts.{packet_is_short}
+use Rattle.flow_run.specs.inside.Source.{is_end, frames_left, file_of, IsAmid, behind_at, IsAtEnd, IsSame, AreRead, HasGot, HasOnlyRead, ReadsMove, IsFed, StandsBy}
 
--- ---- the records that are left
+-- ---- the frames that are left
 
-pub same_left : (reader reader' : Reader) (file : List ℕ) → reader'.header ≡ reader.header → reader'.place ≡ reader.place → records_left reader' file ≡ records_left reader file
-same_left reader reader' file header place =
-    ap (λ (h : CaptureHeader). records_at h.order reader'.place (drop reader'.place file)) header
-    ∙ ap (λ (p : ℕ). records_at reader.header.order p (drop p file)) place
+abbrev with_frame : CapturedFrame → FramesLeft → FramesLeft
+with_frame frame left = record { frames = frame ∷ left.frames; fault = left.fault }
 
-one_more : (reader reader' : Reader) (file : List ℕ) (frame : Frame) → reader'.header ≡ reader.header → reader'.place ≡ reader.place + record_size frame
-    → record_at reader.header.order reader.place (drop reader.place file) ≡ Ok (Some frame)
-    → records_left reader file ≡ record { frames = frame ∷ (records_left reader' file).frames; fault = (records_left reader' file).fault }
-one_more reader reader' file frame header place here =
-    let with_frame = λ (more : Records). (let all : Records = record { frames = frame ∷ more.frames; fault = more.fault } in all) in
-    let next = reader.place + record_size frame in
-    records_come_one_behind_another reader.header.order reader.place (drop reader.place file)
-    ∙ ap (go_on (records_at reader.header.order) reader.place (drop reader.place file)) here
-    ∙ ap (λ rest. with_frame (records_at reader.header.order next rest)) (drop-drop (record_size frame) reader.place file)
-    ∙ ap (λ (p : ℕ). with_frame (records_at reader.header.order p (drop p file))) (sym place)
-    ∙ ap (λ (h : CaptureHeader). with_frame (records_at h.order reader'.place (drop reader'.place file))) (sym header)
+abbrev no_more : Option FileFault → FramesLeft
+no_more fault = record { frames = []; fault = fault }
 
-none_more : (reader : Reader) (file : List ℕ) → record_at reader.header.order reader.place (drop reader.place file) ≡ Ok None
-    → records_left reader file ≡ record { frames = []; fault = None }
-none_more reader file here =
-    records_come_one_behind_another reader.header.order reader.place (drop reader.place file)
-    ∙ ap (go_on (records_at reader.header.order) reader.place (drop reader.place file)) here
+abbrev with_left : CaptureFormat → List CapturedFrame → FramesLeft → CaptureFile
+with_left format front left = record { format = format; frames = front ++ left.frames; fault = left.fault }
 
-broken_more : (reader : Reader) (file : List ℕ) (fault : CaptureFault) → record_at reader.header.order reader.place (drop reader.place file) ≡ Err fault
-    → records_left reader file ≡ record { frames = []; fault = Some fault }
-broken_more reader file fault here =
-    records_come_one_behind_another reader.header.order reader.place (drop reader.place file)
-    ∙ ap (go_on (records_at reader.header.order) reader.place (drop reader.place file)) here
-
-abbrev with_left : CaptureHeader → List Frame → Records → Capture
-with_left header front left = record { header = header; frames = front ++ left.frames; fault = left.fault }
-
-take_none : (n : ℕ) → take {A = Frame} n [] ≡ []
+take_none : (n : ℕ) → take {A = CapturedFrame} n [] ≡ []
 take_none n = search rules
 
-take_more : (n : ℕ) (x : Frame) (xs : List Frame) → take (n + 1) (x ∷ xs) ≡ x ∷ take n xs
+take_more : (n : ℕ) (x : CapturedFrame) (xs : List CapturedFrame) → take (n + 1) (x ∷ xs) ≡ x ∷ take n xs
 take_more n x xs = search rules
 
-pub nothing_left : (source : Source) (file : List ℕ) → source.most ≤ source.read → frames_left source file ≡ []
-nothing_left source file full =
+empty_either : (b : Bool) (frames : List CapturedFrame) → frames ≡ [] → cond b [] frames ≡ []
+empty_either true frames none = refl
+empty_either false frames none = none
+
+-- where the end isn't known yet
+pub open_left : (source : Source) (file : List ℕ) → is_end source.behind ≡ false → frames_left source file ≡ take (source.most - source.read) (left_of source.reader file).frames
+open_left source file unended = ap (λ b. cond b [] (take (source.most - source.read) (left_of source.reader file).frames)) unended
+
+ended_left : (source : Source) (file : List ℕ) → is_end source.behind ≡ true → frames_left source file ≡ []
+ended_left source file ended = ap (λ b. cond b [] (take (source.most - source.read) (left_of source.reader file).frames)) ended
+
+full_left : (source : Source) (file : List ℕ) → source.most ≤ source.read → frames_left source file ≡ []
+full_left source file full =
     let none : source.most - source.read ≡ 0 = omega (arith, full) in
-    ap (λ n. take n (records_left source.frames file).frames) none
+    empty_either (is_end source.behind) (take (source.most - source.read) (left_of source.reader file).frames) (ap (λ n. take n (left_of source.reader file).frames) none)
 
-one_short : (packet : PacketIn) → length packet.bytes ≤ 262144 → All (λ (p : PacketIn). length p.bytes ≤ 262144) (packet ∷ [])
-one_short packet few = search (rules, few)
+module _ (old new : Source) (file : List ℕ) (unended : is_end old.behind ≡ false) where
+  -- nothing is left
+  stops_left : is_end new.behind ≡ true → (fault : Option FileFault) → left_of old.reader file ≡ no_more fault → frames_left old file ≡ frames_left new file
+  stops_left ended fault none =
+      open_left old file unended
+      ∙ ap (λ (left : FramesLeft). take (old.most - old.read) left.frames) none
+      ∙ take_none (old.most - old.read)
+      ∙ sym (ended_left new file ended)
 
--- ---- amid the records
+  -- the same is left
+  stays_left : is_end new.behind ≡ false → left_of new.reader file ≡ left_of old.reader file → new.most ≡ old.most → new.read ≡ old.read → frames_left old file ≡ frames_left new file
+  stays_left still same most read =
+      open_left old file unended
+      ∙ ap (λ (left : FramesLeft). take (old.most - old.read) left.frames) (sym same)
+      ∙ ap (λ n. take (n - old.read) (left_of new.reader file).frames) (sym most)
+      ∙ ap (λ n. take (new.most - n) (left_of new.reader file).frames) (sym read)
+      ∙ sym (open_left new file still)
 
-module _ (source source' : Source) (file : List ℕ) (header : source'.frames.header ≡ source.frames.header) where
-  -- the reader stands where it stood
-  pub amid_stays : source'.frames.place ≡ source.frames.place → source'.read ≡ source.read → IsAmid source file → IsAmid source' file
-  amid_stays place read amid = record {
+  -- one less is left
+  goes_left : (frame : CapturedFrame) → is_end new.behind ≡ false → new.most ≡ old.most → new.read ≡ old.read + 1 → old.read < old.most
+      → left_of old.reader file ≡ with_frame frame (left_of new.reader file) → frames_left old file ≡ frame ∷ frames_left new file
+  goes_left frame still most read less here =
+      let more : old.most - old.read ≡ (new.most - new.read) + 1 = omega (arith, most, read, less) in
+      open_left old file unended
+      ∙ ap (λ (left : FramesLeft). take (old.most - old.read) left.frames) here
+      ∙ ap (λ n. take n (frame ∷ (left_of new.reader file).frames)) more
+      ∙ take_more (new.most - new.read) frame (left_of new.reader file).frames
+      ∙ ap (λ fs. frame ∷ fs) (sym (open_left new file still))
+
+  -- where the reader has stopped
+  stopped_left : (stop : ReadStop) (packet : PacketIn) → new.behind ≡ Some (behind_at stop) → left_of new.reader file ≡ left_of old.reader file → new.most ≡ old.most → new.read ≡ old.read
+      → IsNext (Err stop) packet (left_of old.reader file) (left_of new.reader file) → frames_left old file ≡ frames_left new file
+  stopped_left (read_stop.Capture fault) packet behind same most read here = stops_left (ap is_end behind) (Some (file_fault.Pcap fault)) here
+  stopped_left (read_stop.Ng fault) packet behind same most read here = stops_left (ap is_end behind) (Some (file_fault.Pcapng fault)) here
+  stopped_left read_stop.ReadFault packet behind same most read here = stays_left (ap is_end behind) same most read
+  stopped_left read_stop.OutOfMemory packet behind same most read here = stays_left (ap is_end behind) same most read
+
+-- ---- where a source stands
+
+module _ (source source' : Source) (file : List ℕ) (amid : IsAmid source file) where
+  -- the same is left
+  amid_stays : format_of source'.reader ≡ format_of source.reader → left_of source'.reader file ≡ left_of source.reader file → source'.read ≡ source.read → IsAmid source' file
+  amid_stays format same read = record {
     front = amid.front;
     count = amid.count ∙ sym read;
     all =
         amid.all
-        ∙ ap (λ (left : Records). Ok (with_left source.frames.header amid.front left)) (sym (same_left source.frames source'.frames file header place))
-        ∙ ap (λ (h : CaptureHeader). Ok (with_left h amid.front (records_left source'.frames file))) (sym header);
+        ∙ ap (λ (left : FramesLeft). Ok (with_left (format_of source.reader) amid.front left)) (sym same)
+        ∙ ap (λ (f : CaptureFormat). Ok (with_left f amid.front (left_of source'.reader file))) (sym format);
   }
 
-  -- it goes behind a record
-  pub amid_goes : (frame : Frame) → source'.frames.place ≡ source.frames.place + record_size frame → source'.read ≡ source.read + 1
-      → record_at source.frames.header.order source.frames.place (drop source.frames.place file) ≡ Ok (Some frame) → IsAmid source file → IsAmid source' file
-  amid_goes frame place read here amid = record {
+  -- one less is left
+  amid_goes : (frame : CapturedFrame) → format_of source'.reader ≡ format_of source.reader → source'.read ≡ source.read + 1
+      → left_of source.reader file ≡ with_frame frame (left_of source'.reader file) → IsAmid source' file
+  amid_goes frame format read here = record {
     front = amid.front ++ frame ∷ [];
     count = omega (arith, amid.count, read, length-append amid.front (frame ∷ []));
     all =
         amid.all
-        ∙ ap (λ (left : Records). Ok (with_left source.frames.header amid.front left)) (one_more source.frames source'.frames file frame header place here)
-        ∙ ap (λ (fs : List Frame). (let all : Capture = record { header = source.frames.header; frames = fs; fault = (records_left source'.frames file).fault } in Ok all))
-        (sym (append_assoc amid.front (frame ∷ []) (records_left source'.frames file).frames))
-        ∙ ap (λ (h : CaptureHeader). Ok (with_left h (amid.front ++ frame ∷ []) (records_left source'.frames file))) (sym header);
+        ∙ ap (λ (left : FramesLeft). Ok (with_left (format_of source.reader) amid.front left)) here
+        ∙ ap (λ (fs : List CapturedFrame). (let all : CaptureFile = record { format = format_of source.reader; frames = fs; fault = (left_of source'.reader file).fault } in Ok all))
+        (sym (append_assoc amid.front (frame ∷ []) (left_of source'.reader file).frames))
+        ∙ ap (λ (f : CaptureFormat). Ok (with_left f (amid.front ++ frame ∷ []) (left_of source'.reader file))) (sym format);
   }
 
-  last_left : (left : Records) → source'.frames.place ≡ source.frames.place → records_left source.frames file ≡ left → frames_left source' file ≡ take (source'.most - source'.read) left.frames
-  last_left left place is = ap (λ (more : Records). take (source'.most - source'.read) more.frames) (same_left source.frames source'.frames file header place ∙ is)
+  few_in_front : source'.most ≡ source.most → source.read ≤ source.most → length (amid.front ++ []) ≤ source'.most
+  few_in_front most within = omega (arith, amid.count, most, within, length-append {A = CapturedFrame} amid.front [])
 
-  -- it stands where nothing is left
-  pub ends_whole : source'.frames.place ≡ source.frames.place → source'.most ≡ source.most → source.read ≤ source.most
-      → record_at source.frames.header.order source.frames.place (drop source.frames.place file) ≡ Ok None → IsAmid source file → IsAtEnd source' file Whole
-  ends_whole place most within here amid =
-      let left = none_more source.frames file here in
-      let few : length (amid.front ++ []) ≤ source'.most = omega (arith, amid.count, most, within, length-append {A = Frame} amid.front []) in
-      record {
-        capture = with_left source.frames.header amid.front (record { frames = []; fault = None });
-        is = amid.all ∙ ap (λ (more : Records). Ok (with_left source.frames.header amid.front more)) left;
-        event = λ number. rw (le-ltb source'.most (length (amid.front ++ [])) few) refl;
-        none = last_left (record { frames = []; fault = None }) place left ∙ take_none (source'.most - source'.read);
-      }
+  -- nothing is left
+  ends_whole : source'.most ≡ source.most → source.read ≤ source.most → left_of source.reader file ≡ no_more None → IsAtEnd source' file Whole
+  ends_whole most within here = record {
+    capture = with_left (format_of source.reader) amid.front (no_more None);
+    is = amid.all ∙ ap (λ (left : FramesLeft). Ok (with_left (format_of source.reader) amid.front left)) here;
+    event = λ number. rw (le-ltb source'.most (length (amid.front ++ [])) (few_in_front most within)) refl;
+  }
 
-  -- or at a fault
-  pub ends_broken : (fault : CaptureFault) → source'.frames.place ≡ source.frames.place → source'.most ≡ source.most → source.read ≤ source.most
-      → record_at source.frames.header.order source.frames.place (drop source.frames.place file) ≡ Err fault → IsAmid source file → IsAtEnd source' file (Broken fault)
-  ends_broken fault place most within here amid =
-      let left = broken_more source.frames file fault here in
-      let few : length (amid.front ++ []) ≤ source'.most = omega (arith, amid.count, most, within, length-append {A = Frame} amid.front []) in
-      record {
-        capture = with_left source.frames.header amid.front (record { frames = []; fault = Some fault });
-        is = amid.all ∙ ap (λ (more : Records). Ok (with_left source.frames.header amid.front more)) left;
-        event = λ number. rw (le-ltb source'.most (length (amid.front ++ [])) few) refl;
-        none = last_left (record { frames = []; fault = Some fault }) place left ∙ take_none (source'.most - source'.read);
-      }
+  -- or a fault
+  ends_broken : (fault : FileFault) → source'.most ≡ source.most → source.read ≤ source.most → left_of source.reader file ≡ no_more (Some fault) → IsAtEnd source' file (Broken fault)
+  ends_broken fault most within here = record {
+    capture = with_left (format_of source.reader) amid.front (no_more (Some fault));
+    is = amid.all ∙ ap (λ (left : FramesLeft). Ok (with_left (format_of source.reader) amid.front left)) here;
+    event = λ number. rw (le-ltb source'.most (length (amid.front ++ [])) (few_in_front most within)) refl;
+  }
 
-  -- or behind one that may not be read
-  pub ends_full : (frame : Frame) → source'.most ≡ source.most → source'.read ≡ source.read → source.read ≡ source.most
-      → source'.frames.place ≡ source.frames.place + record_size frame
-      → record_at source.frames.header.order source.frames.place (drop source.frames.place file) ≡ Ok (Some frame) → IsAmid source file → IsAtEnd source' file TooMany
-  ends_full frame most read full place here amid =
-      let left = one_more source.frames source'.frames file frame header place here in
-      let more = records_left source'.frames file in
+  -- or a frame that may not be read
+  ends_full : (frame : CapturedFrame) (more : FramesLeft) → source'.most ≡ source.most → source.read ≡ source.most → left_of source.reader file ≡ with_frame frame more → IsAtEnd source' file TooMany
+  ends_full frame more most full here =
       let many : source'.most < length (amid.front ++ frame ∷ more.frames) = omega (arith, amid.count, most, full, length-append amid.front (frame ∷ more.frames)) in
       record {
-        capture = with_left source.frames.header amid.front (record { frames = frame ∷ more.frames; fault = more.fault });
-        is = amid.all ∙ ap (λ (l : Records). Ok (with_left source.frames.header amid.front l)) left;
+        capture = with_left (format_of source.reader) amid.front (with_frame frame more);
+        is = amid.all ∙ ap (λ (left : FramesLeft). Ok (with_left (format_of source.reader) amid.front left)) here;
         event = λ number. rw (lt-ltb source'.most (length (amid.front ++ frame ∷ more.frames)) many) refl;
-        none = nothing_left source' file (omega (arith, most, read, full));
       }
+
+  -- by what the reader answered: a frame
+  pub taken_stands : (head : FrameHead) (packet : PacketIn) → format_of source'.reader ≡ format_of source.reader → source'.read ≡ source.read + 1 → source'.behind ≡ None
+      → IsTaken head packet (left_of source.reader file) (left_of source'.reader file) → StandsBy source'.behind source' file
+  taken_stands head packet format read behind taken = subst (λ (b : Option Behind). StandsBy b source' file) (sym behind) (amid_goes taken.0 format read taken.3)
+
+  -- one more than may be read
+  pub full_stands : (head : FrameHead) (packet : PacketIn) (more : FramesLeft) → source'.most ≡ source.most → source.read ≡ source.most → source'.behind ≡ Some TooMany
+      → IsTaken head packet (left_of source.reader file) more → StandsBy source'.behind source' file
+  full_stands head packet more most full behind taken = subst (λ (b : Option Behind). StandsBy b source' file) (sym behind) (ends_full taken.0 more most full taken.3)
+
+  -- none
+  pub whole_stands : source'.most ≡ source.most → source.read ≤ source.most → source'.behind ≡ Some Whole → left_of source.reader file ≡ no_more None → StandsBy source'.behind source' file
+  whole_stands most within behind here = subst (λ (b : Option Behind). StandsBy b source' file) (sym behind) (ends_whole most within here)
+
+  -- or a stop
+  pub stopped_stands : (stop : ReadStop) (packet : PacketIn) (more : FramesLeft) → source'.behind ≡ Some (behind_at stop) → format_of source'.reader ≡ format_of source.reader
+      → left_of source'.reader file ≡ left_of source.reader file → source'.most ≡ source.most → source'.read ≡ source.read → source.read ≤ source.most
+      → IsNext (Err stop) packet (left_of source.reader file) more → StandsBy source'.behind source' file
+  stopped_stands stop packet more behind format same most read within here = subst (λ (b : Option Behind). StandsBy b source' file) (sym behind) (by_stop stop here)
+    where
+      by_stop : (stop : ReadStop) → IsNext (Err stop) packet (left_of source.reader file) more → StandsBy (Some (behind_at stop)) source' file
+      by_stop (read_stop.Capture fault) here = ends_broken (file_fault.Pcap fault) most within here
+      by_stop (read_stop.Ng fault) here = ends_broken (file_fault.Pcapng fault) most within here
+      by_stop read_stop.ReadFault here = amid_stays format same read
+      by_stop read_stop.OutOfMemory here = amid_stays format same read
+
+  -- memory ran out in front of the reader
+  pub waits_stands : source'.reader ≡ source.reader → source'.read ≡ source.read → source'.behind ≡ Some NoMemory → StandsBy source'.behind source' file
+  waits_stands reader read behind =
+      subst (λ (b : Option Behind). StandsBy b source' file) (sym behind) (amid_stays (ap format_of reader) (ap (λ r. left_of r file) reader) read)
 
 -- ---- what was got
 
-pub got_nothing : (tells : Bool) (file : List ℕ) (old new : Source) (batch batch' : List PacketIn) → IsSame old new → new.heads.items ≡ old.heads.items → new.at ≡ old.at → batch' ≡ batch
-    → (IsTrue tells → frames_left old file ≡ frames_left new file) → HasGot tells file old new batch batch'
-got_nothing tells file old new batch batch' same heads at packets left = record {
-  frames = [];
-  same = same;
-  heads = heads ∙ sym (append-nil old.heads.items);
-  at = at;
-  packets = packets ∙ sym (append-nil batch);
-  short = All-nil _;
-  left = left;
-}
+module _ (tells : Bool) (file : List ℕ) (old new : Source) (batch batch' : List PacketIn) (same : IsSame old new) (at : new.at ≡ old.at) where
+  pub got_nothing : new.heads.items ≡ old.heads.items → batch' ≡ batch → (IsTrue tells → frames_left old file ≡ frames_left new file) → HasGot tells file old new batch batch'
+  got_nothing heads packets left = record {
+    times = [];
+    packets = [];
+    same = same;
+    heads = heads ∙ sym (append-nil old.heads.items);
+    at = at;
+    behind = packets ∙ sym (append-nil batch);
+    count = refl;
+    written = All-nil _;
+    short = All-nil _;
+    read = λ told. record { frames = []; times_are = refl; packets_are = refl; left = left told };
+  }
 
-pub stays_left : (old new : Source) (file : List ℕ) → new.frames.header ≡ old.frames.header → new.frames.place ≡ old.frames.place → new.most ≡ old.most → new.read ≡ old.read
-    → frames_left old file ≡ frames_left new file
-stays_left old new file header place most read =
-    ap (λ (left : Records). take (old.most - old.read) left.frames) (sym (same_left old.frames new.frames file header place))
-    ∙ ap (λ n. take (n - old.read) (records_left new.frames file).frames) (sym most)
-    ∙ ap (λ n. take (new.most - n) (records_left new.frames file).frames) (sym read)
+  -- a frame
+  pub got_one : (head : FrameHead) (packet : PacketIn) → new.heads.items ≡ old.heads.items ++ head ∷ [] → batch' ≡ batch ++ packet ∷ [] → IsTime (format_of old.reader) head
+      → length packet.bytes ≤ 262144 → old.behind ≡ None → new.behind ≡ None → new.read ≡ old.read + 1 → old.read < old.most
+      → (IsTrue tells → IsTaken head packet (left_of old.reader file) (left_of new.reader file)) → HasGot tells file old new batch batch'
+  got_one head packet heads packets timely few none none' read less here = record {
+    times = head ∷ [];
+    packets = packet ∷ [];
+    same = same;
+    heads = heads;
+    at = at;
+    behind = packets;
+    count = refl;
+    written = one_written (format_of old.reader) head timely;
+    short = one_short packet few;
+    read = λ told.
+        let taken = here told in
+        record {
+          frames = taken.0 ∷ [];
+          times_are = ap (λ (h : FrameHead). h ∷ []) taken.1;
+          packets_are = ap (λ (p : PacketIn). p ∷ []) taken.2;
+          left = goes_left old new file (ap is_end none) taken.0 (ap is_end none') same.most read less taken.3;
+        };
+  }
+    where
+      one_short : (p : PacketIn) → length p.bytes ≤ 262144 → All (λ (q : PacketIn). length q.bytes ≤ 262144) (p ∷ [])
+      one_short p few = search (rules, few)
 
-pub goes_left : (old new : Source) (file : List ℕ) (frame : Frame) → new.frames.header ≡ old.frames.header → new.frames.place ≡ old.frames.place + record_size frame
-    → new.most ≡ old.most → new.read ≡ old.read + 1 → old.read < old.most
-    → record_at old.frames.header.order old.frames.place (drop old.frames.place file) ≡ Ok (Some frame)
-    → frames_left old file ≡ frame ∷ frames_left new file
-goes_left old new file frame header place most read less here =
-    let more : old.most - old.read ≡ (new.most - new.read) + 1 = omega (arith, most, read, less) in
-    ap (λ (left : Records). take (old.most - old.read) left.frames) (one_more old.frames new.frames file frame header place here)
-    ∙ ap (λ n. take n (frame ∷ (records_left new.frames file).frames)) more
-    ∙ take_more (new.most - new.read) frame (records_left new.frames file).frames
+      one_written : (format : CaptureFormat) (h : FrameHead) → IsTime format h → All (IsTime format) (h ∷ [])
+      one_written format h timely = search (rules, timely)
 
-pub got_one : (tells : Bool) (file : List ℕ) (old new : Source) (batch batch' : List PacketIn) (frame : Frame) → IsSame old new
-    → new.heads.items ≡ old.heads.items ++ frame.head ∷ [] → new.at ≡ old.at → batch' ≡ batch ++ packet_in old.frames.header.link frame ∷ [] → length frame.octets ≤ 262144
-    → (IsTrue tells → frames_left old file ≡ frame ∷ frames_left new file) → HasGot tells file old new batch batch'
-got_one tells file old new batch batch' frame same heads at packets short left =
-    let few : length (packet_in old.frames.header.link frame).bytes ≤ 262144 = omega (arith, short, packet_is_short old.frames.header.link frame) in
-    record {
-      frames = frame ∷ [];
-      same = same;
-      heads = heads;
-      at = at;
-      packets = packets;
-      short = one_short (packet_in old.frames.header.link frame) few;
-      left = left;
-    }
+  -- one more than may be read
+  pub got_full : new.heads.items ≡ old.heads.items → batch' ≡ batch → old.read ≡ old.most → new.read ≡ old.read → HasGot tells file old new batch batch'
+  got_full heads packets full read =
+      got_nothing heads packets (λ told. full_left old file (omega (arith, full)) ∙ sym (full_left new file (omega (arith, full, read, same.most))))
 
-pub got_stays : (tells : Bool) (file : List ℕ) (old new : Source) (batch batch' : List PacketIn) → IsSame old new → new.heads.items ≡ old.heads.items → new.at ≡ old.at → batch' ≡ batch
-    → new.frames.place ≡ old.frames.place → new.read ≡ old.read → HasGot tells file old new batch batch'
-got_stays tells file old new batch batch' same heads at packets place read =
-    got_nothing tells file old new batch batch' same heads at packets (λ told. stays_left old new file same.header place same.most read)
+  pub got_end : new.heads.items ≡ old.heads.items → batch' ≡ batch → old.behind ≡ None → new.behind ≡ Some Whole → (IsTrue tells → left_of old.reader file ≡ no_more None)
+      → HasGot tells file old new batch batch'
+  got_end heads packets none behind here = got_nothing heads packets (λ told. stops_left old new file (ap is_end none) (ap is_end behind) None (here told))
 
-pub got_full : (tells : Bool) (file : List ℕ) (old new : Source) (batch batch' : List PacketIn) → IsSame old new → new.heads.items ≡ old.heads.items → new.at ≡ old.at → batch' ≡ batch
-    → old.most ≤ old.read → new.read ≡ old.read → HasGot tells file old new batch batch'
-got_full tells file old new batch batch' same heads at packets full read =
-    got_nothing tells file old new batch batch' same heads at packets
-    (λ told. nothing_left old file full ∙ sym (nothing_left new file (omega (arith, full, read, same.most))))
+  pub got_stop : (stop : ReadStop) (packet : PacketIn) → new.heads.items ≡ old.heads.items → batch' ≡ batch → old.behind ≡ None → new.behind ≡ Some (behind_at stop)
+      → left_of new.reader file ≡ left_of old.reader file → new.read ≡ old.read
+      → (IsTrue tells → IsNext (Err stop) packet (left_of old.reader file) (left_of new.reader file)) → HasGot tells file old new batch batch'
+  got_stop stop packet heads packets none behind still read here =
+      got_nothing heads packets (λ told. stopped_left old new file (ap is_end none) stop packet behind still same.most read (here told))
 
-pub got_goes : (tells : Bool) (file : List ℕ) (old new : Source) (batch batch' : List PacketIn) (frame : Frame) → IsSame old new
-    → new.heads.items ≡ old.heads.items ++ frame.head ∷ [] → new.at ≡ old.at → batch' ≡ batch ++ packet_in old.frames.header.link frame ∷ [] → length frame.octets ≤ 262144
-    → new.frames.place ≡ old.frames.place + record_size frame → new.read ≡ old.read + 1 → old.read < old.most
-    → (IsTrue tells → record_at old.frames.header.order old.frames.place (drop old.frames.place file) ≡ Ok (Some frame)) → HasGot tells file old new batch batch'
-got_goes tells file old new batch batch' frame same heads at packets short place read less here =
-    got_one tells file old new batch batch' frame same heads at packets short (λ told. goes_left old new file frame same.header place same.most read less (here told))
+  pub got_unready : new.heads.items ≡ old.heads.items → batch' ≡ batch → old.behind ≡ None → new.behind ≡ Some NoMemory → new.reader ≡ old.reader → new.read ≡ old.read
+      → HasGot tells file old new batch batch'
+  got_unready heads packets none behind reader read =
+      got_nothing heads packets (λ told. stays_left old new file (ap is_end none) (ap is_end behind) (ap (λ r. left_of r file) reader) same.most read)
 
 pub same_more : (a b c : Source) → IsSame a b → IsSame b c → IsSame a c
-same_more a b c one other = record { name = other.name ∙ one.name; header = other.header ∙ one.header; most = other.most ∙ one.most }
+same_more a b c one other = record { name = other.name ∙ one.name; format = other.format ∙ one.format; most = other.most ∙ one.most }
+
+read_more : (file : List ℕ) (a b c : Source) (times times' : List FrameHead) (packets packets' : List PacketIn) → AreRead file a b times packets → AreRead file b c times' packets'
+    → AreRead file a c (times ++ times') (packets ++ packets')
+read_more file a b c times times' packets packets' one other = record {
+  frames = one.frames ++ other.frames;
+  times_are =
+      map-append (λ (f : CapturedFrame). f.head) one.frames other.frames
+      ∙ ap (λ (ts : List FrameHead). ts ++ map (λ (f : CapturedFrame). f.head) other.frames) one.times_are
+      ∙ ap (λ (ts : List FrameHead). times ++ ts) other.times_are;
+  packets_are =
+      map-append packet_in one.frames other.frames
+      ∙ ap (λ (ps : List PacketIn). ps ++ map packet_in other.frames) one.packets_are
+      ∙ ap (λ (ps : List PacketIn). packets ++ ps) other.packets_are;
+  left = one.left ∙ ap (λ fs. one.frames ++ fs) other.left ∙ sym (append_assoc one.frames other.frames (frames_left c file));
+}
 
 pub got_more : (tells : Bool) (file : List ℕ) (a b c : Source) (xs ys zs : List PacketIn) → HasGot tells file a b xs ys → HasGot tells file b c ys zs → HasGot tells file a c xs zs
-got_more tells file a b c xs ys zs one other =
-    let same_link : (fs : List Frame) → map (packet_in b.frames.header.link) fs ≡ map (packet_in a.frames.header.link) fs = λ fs. ap (λ (h : CaptureHeader). map (packet_in h.link) fs) one.same.header in
-    let split = map-append (packet_in a.frames.header.link) one.frames other.frames in
-    record {
-      frames = one.frames ++ other.frames;
-      same = same_more a b c one.same other.same;
-      heads =
-          other.heads
-          ∙ ap (λ hs. hs ++ map (λ (f : Frame). f.head) other.frames) one.heads
-          ∙ append_assoc a.heads.items (map (λ (f : Frame). f.head) one.frames) (map (λ (f : Frame). f.head) other.frames)
-          ∙ ap (λ hs. a.heads.items ++ hs) (sym (map-append (λ (f : Frame). f.head) one.frames other.frames));
-      at = other.at ∙ one.at;
-      packets =
-          other.packets
-          ∙ ap (λ ps. ps ++ map (packet_in b.frames.header.link) other.frames) one.packets
-          ∙ append_assoc xs (map (packet_in a.frames.header.link) one.frames) (map (packet_in b.frames.header.link) other.frames)
-          ∙ ap (λ ps. xs ++ (map (packet_in a.frames.header.link) one.frames ++ ps)) (same_link other.frames)
-          ∙ ap (λ ps. xs ++ ps) (sym split);
-      short =
-          subst (λ (ps : List PacketIn). All (λ (p : PacketIn). length p.bytes ≤ 262144) ps) (sym split)
-          (All-append (λ (p : PacketIn). length p.bytes ≤ 262144) _ _ one.short (subst (λ (ps : List PacketIn). All (λ (p : PacketIn). length p.bytes ≤ 262144) ps) (same_link other.frames) other.short));
-      left = λ told. one.left told ∙ ap (λ fs. one.frames ++ fs) (other.left told) ∙ sym (append_assoc one.frames other.frames (frames_left c file));
-    }
+got_more tells file a b c xs ys zs one other = record {
+  times = one.times ++ other.times;
+  packets = one.packets ++ other.packets;
+  same = same_more a b c one.same other.same;
+  heads = other.heads ∙ ap (λ hs. hs ++ other.times) one.heads ∙ append_assoc a.heads.items one.times other.times;
+  at = other.at ∙ one.at;
+  behind = other.behind ∙ ap (λ ps. ps ++ other.packets) one.behind ∙ append_assoc xs one.packets other.packets;
+  count = omega (arith, one.count, other.count, length-append one.times other.times, length-append one.packets other.packets);
+  written =
+      All-append (IsTime (format_of a.reader)) one.times other.times one.written (subst (λ (f : CaptureFormat). All (IsTime f) other.times) one.same.format other.written);
+  short = All-append (λ (p : PacketIn). length p.bytes ≤ 262144) one.packets other.packets one.short other.short;
+  read = λ told. read_more file a b c one.times other.times one.packets other.packets (one.read told) (other.read told);
+}
+
+-- the times that wait
+pub times_more : (old new : Source) (times : List FrameHead) → IsSame old new → new.heads.items ≡ old.heads.items ++ times → All (IsTime (format_of old.reader)) old.heads.items
+    → All (IsTime (format_of old.reader)) times → All (IsTime (format_of new.reader)) new.heads.items
+times_more old new times same heads before more =
+    subst (λ (f : CaptureFormat). All (IsTime f) new.heads.items) (sym same.format)
+    (subst (λ (hs : List FrameHead). All (IsTime (format_of old.reader)) hs) (sym heads) (All-append (IsTime (format_of old.reader)) old.heads.items times before more))
 
 -- ---- the folder
 
 pub only_none : (name : List ℕ) (old : DepotState) → HasOnlyRead None name old old
 only_none name old = record { told = refl; kept = λ told other. refl; reads = λ other. refl; creates = λ other. refl; appends = λ other. refl }
 
--- a read that was refused, but hasn't failed, has moved no number
-pub only_refused : (behind : Behind) (fault : FrameStop) (name : List ℕ) (old new : DepotState) → fault ≢ the_frame_stop.ReadFault → (SameCounts old.reads new.reads → ReadsMove (Some behind) name old.reads new.reads)
-    → OnlyReads {T = Option FrameHead} the_frame_stop.ReadFault (Err fault) name old new → HasOnlyRead (Some behind) name old new
-only_refused behind fault name old new other same only = record {
-  told = only.told;
-  kept = only.kept;
-  reads = same (only.reads.still (λ failed. other (let one : fault ≡ the_frame_stop.ReadFault = cc in one)));
-  creates = only.creates;
-  appends = only.appends;
-}
+-- where the reader has stopped
+pub only_stopped : (stop : ReadStop) (behind : Option Behind) (name : List ℕ) (old new : DepotState) → behind ≡ Some (behind_at stop)
+    → OnlyReads {T = Option FrameHead} read_stop.ReadFault (Err stop) name old new → HasOnlyRead behind name old new
+only_stopped stop behind name old new is only =
+    subst (λ (b : Option Behind). HasOnlyRead b name old new) (sym is) (record { told = only.told; kept = only.kept; reads = by_stop stop only; creates = only.creates; appends = only.appends })
+  where
+    by_stop : (stop : ReadStop) → OnlyReads {T = Option FrameHead} read_stop.ReadFault (Err stop) name old new → ReadsMove (Some (behind_at stop)) name old.reads new.reads
+    by_stop (read_stop.Capture fault) only = only.reads.still (λ failed. absurd cc)
+    by_stop (read_stop.Ng fault) only = only.reads.still (λ failed. absurd cc)
+    by_stop read_stop.ReadFault only = only.reads.cause refl
+    by_stop read_stop.OutOfMemory only = only.reads.still (λ failed. absurd cc)
 
 pub reads_more : (behind : Option Behind) (name : List ℕ) (a b c : List ℕ → ℕ) → SameCounts a b → ReadsMove behind name b c → ReadsMove behind name a c
 reads_more None name a b c same moved = λ other. moved other ∙ same other
@@ -270,24 +325,39 @@ only_more behind name a b c one other = record {
   appends = λ name'. other.appends name' ∙ one.appends name';
 }
 
+-- a reader of a file that is still what it was
+pub readable_kept : (a b : DepotState) (reader : AnyFrames) → b.tells ≡ a.tells → (IsTrue a.tells → b.held (name_of reader) ≡ a.held (name_of reader)) → IsReadable a reader → IsReadable b reader
+readable_kept a b (Pcap frames) told held ready =
+    λ told'.
+    let before = subst IsTrue told told' in
+    rw (held before) (ready before)
+readable_kept a b (Pcapng frames) told held ready =
+    λ told'.
+    let before = subst IsTrue told told' in
+    rw (held before) (ready before)
+
 -- ---- one read behind others
 
-pub same_file : (behind : Option Behind) (a b : DepotState) (s s' : Source) → HasOnlyRead behind s.frames.name a b → s'.frames.name ≡ s.frames.name → IsTrue a.tells → file_of b s' ≡ file_of a s
-same_file behind a b s s' only name told = ap (λ n. octets_of (b.held n)) name ∙ ap octets_of (only.kept told s.frames.name)
+pub same_file : (behind : Option Behind) (a b : DepotState) (s s' : Source) → HasOnlyRead behind (name_of s.reader) a b → name_of s'.reader ≡ name_of s.reader → IsTrue a.tells
+    → file_of b s' ≡ file_of a s
+same_file behind a b s s' only name told = ap (λ n. octets_of (b.held n)) name ∙ ap octets_of (only.kept told (name_of s.reader))
 
 got_at : (tells tells' : Bool) (file file' : List ℕ) (old new : Source) (xs ys : List PacketIn) → tells' ≡ tells → (IsTrue tells → file' ≡ file)
     → HasGot tells' file' old new xs ys → HasGot tells file old new xs ys
 got_at tells tells' file file' old new xs ys same files got = record {
-  frames = got.frames;
+  times = got.times;
+  packets = got.packets;
   same = got.same;
   heads = got.heads;
   at = got.at;
-  packets = got.packets;
+  behind = got.behind;
+  count = got.count;
+  written = got.written;
   short = got.short;
-  left = λ told. subst (λ (f : List ℕ). frames_left old f ≡ got.frames ++ frames_left new f) (files told) (got.left (subst IsTrue (sym same) told));
+  read = λ told. subst (λ (f : List ℕ). AreRead f old new got.times got.packets) (files told) (got.read (subst IsTrue (sym same) told));
 }
 
-module _ (a b : DepotState) (s s' : Source) (xs ys : List PacketIn) (only : HasOnlyRead None s.frames.name a b) (got : HasGot a.tells (file_of a s) s s' xs ys) where
+module _ (a b : DepotState) (s s' : Source) (xs ys : List PacketIn) (only : HasOnlyRead None (name_of s.reader) a b) (got : HasGot a.tells (file_of a s) s s' xs ys) where
   pub next_got : (s'' : Source) (zs : List PacketIn) → HasGot b.tells (file_of b s') s' s'' ys zs → HasGot a.tells (file_of a s) s s'' xs zs
   next_got s'' zs more =
       got_more a.tells (file_of a s) s s' s'' xs ys zs got
@@ -297,22 +367,35 @@ module _ (a b : DepotState) (s s' : Source) (xs ys : List PacketIn) (only : HasO
   next_stands behind s'' stands told =
       subst (λ (f : List ℕ). StandsBy behind s'' f) (same_file None a b s s' only got.same.name told) (stands (subst IsTrue (sym only.told) told))
 
-  pub next_only : (behind : Option Behind) (c : DepotState) → HasOnlyRead behind s'.frames.name b c → HasOnlyRead behind s.frames.name a c
-  next_only behind c more = only_more behind s.frames.name a b c only (subst (λ (n : List ℕ). HasOnlyRead behind n b c) got.same.name more)
+  pub next_only : (behind : Option Behind) (c : DepotState) → HasOnlyRead behind (name_of s'.reader) b c → HasOnlyRead behind (name_of s.reader) a c
+  next_only behind c more = only_more behind (name_of s.reader) a b c only (subst (λ (n : List ℕ). HasOnlyRead behind n b c) got.same.name more)
 
-at_end_same : (behind : Behind) (s s' : Source) (file : List ℕ) → s'.frames ≡ s.frames → s'.most ≡ s.most → s'.read ≡ s.read → IsAtEnd s file behind → IsAtEnd s' file behind
-at_end_same behind s s' file frames most read end = record {
-  capture = end.capture;
-  is = end.is;
-  event = λ number. ap (λ n. capture_event number n end.capture) most ∙ end.event number;
-  none = sym (stays_left s s' file (ap (λ (r : Reader). r.header) frames) (ap (λ (r : Reader). r.place) frames) most read) ∙ end.none;
+  pub next_amid : (s'' : Source) → s''.behind ≡ None → (IsTrue b.tells → StandsBy s''.behind s'' (file_of b s')) → IsTrue a.tells → IsAmid s'' (file_of a s)
+  next_amid s'' none stands told = subst (λ (x : Option Behind). StandsBy x s'' (file_of a s)) none (next_stands s''.behind s'' stands told)
+
+  pub next_none : (s'' : Source) (c : DepotState) → s''.behind ≡ None → HasOnlyRead s''.behind (name_of s'.reader) b c → HasOnlyRead None (name_of s.reader) a c
+  next_none s'' c none more = subst (λ (x : Option Behind). HasOnlyRead x (name_of s.reader) a c) none (next_only s''.behind c more)
+
+-- a batch behind what a source needs
+pub fed_on : (a b : DepotState) (s s' : Source) (xs ys : List PacketIn) → IsFed a s → IsReadable b s'.reader → s'.read ≤ s'.most → HasOnlyRead s'.behind (name_of s.reader) a b
+    → (IsTrue a.tells → StandsBy s'.behind s' (file_of a s)) → HasGot a.tells (file_of a s) s s' xs ys → IsFed b s'
+fed_on a b s s' xs ys fed ready within only stands got = record {
+  ready = ready;
+  stands = λ told.
+      let before = subst IsTrue only.told told in
+      subst (λ (f : List ℕ). StandsBy s'.behind s' f) (sym (same_file s'.behind a b s s' only got.same.name before)) (stands before);
+  within = within;
+  times = times_more s s' got.times got.same got.heads fed.times got.written;
 }
 
+at_end_same : (behind : Behind) (s s' : Source) (file : List ℕ) → s'.most ≡ s.most → IsAtEnd s file behind → IsAtEnd s' file behind
+at_end_same behind s s' file most end = record { capture = end.capture; is = end.is; event = λ number. ap (λ n. capture_event number n end.capture) most ∙ end.event number }
+
 -- a source that stands there too
-pub stands_same : (behind : Option Behind) (s s' : Source) (file : List ℕ) → s'.frames ≡ s.frames → s'.most ≡ s.most → s'.read ≡ s.read → StandsBy behind s file → StandsBy behind s' file
-stands_same None s s' file frames most read stands = amid_stays s s' file (ap (λ (r : Reader). r.header) frames) (ap (λ (r : Reader). r.place) frames) read stands
-stands_same (Some Whole) s s' file frames most read stands = at_end_same Whole s s' file frames most read stands
-stands_same (Some (Broken fault)) s s' file frames most read stands = at_end_same (Broken fault) s s' file frames most read stands
-stands_same (Some TooMany) s s' file frames most read stands = at_end_same TooMany s s' file frames most read stands
-stands_same (Some Failed) s s' file frames most read stands = amid_stays s s' file (ap (λ (r : Reader). r.header) frames) (ap (λ (r : Reader). r.place) frames) read stands
-stands_same (Some NoMemory) s s' file frames most read stands = amid_stays s s' file (ap (λ (r : Reader). r.header) frames) (ap (λ (r : Reader). r.place) frames) read stands
+pub stands_same : (behind : Option Behind) (s s' : Source) (file : List ℕ) → s'.reader ≡ s.reader → s'.most ≡ s.most → s'.read ≡ s.read → StandsBy behind s file → StandsBy behind s' file
+stands_same None s s' file reader most read stands = amid_stays s s' file stands (ap format_of reader) (ap (λ r. left_of r file) reader) read
+stands_same (Some Whole) s s' file reader most read stands = at_end_same Whole s s' file most stands
+stands_same (Some (Broken fault)) s s' file reader most read stands = at_end_same (Broken fault) s s' file most stands
+stands_same (Some TooMany) s s' file reader most read stands = at_end_same TooMany s s' file most stands
+stands_same (Some Failed) s s' file reader most read stands = amid_stays s s' file stands (ap format_of reader) (ap (λ r. left_of r file) reader) read
+stands_same (Some NoMemory) s s' file reader most read stands = amid_stays s s' file stands (ap format_of reader) (ap (λ r. left_of r file) reader) read

@@ -1,5 +1,5 @@
 -- What a fetch, and what an accepted packet, make of what a flow has done so far.
-use Rattle.std.proofs.Common.{◌≡◌, ◌≢◌, ◌<◌, ◌≤◌, ◌⊎◌, ℕ, suc, get_or, ◌+◌, Bool, true, false, cond, IsTrue, List, [], ◌∷◌, ◌++◌, length, drop, map, Option, Some, None, Err, refl, sym, ap, subst, ◌∙◌, append_assoc, length-append, arith, le_refl, inl, inr}
+use Rattle.std.proofs.Common.{◌≡◌, ◌≢◌, ◌<◌, ◌≤◌, ◌⊎◌, ℕ, suc, get_or, ◌+◌, Bool, true, false, cond, IsTrue, All, List, [], ◌∷◌, ◌++◌, length, drop, map, Option, Some, None, Err, refl, sym, ap, subst, ◌∙◌, append_assoc, length-append, arith, le_refl, inl, inr}
 use Rattle.std.proofs.lemmas.List.{append-nil, drop-drop, map-append, length-map}
 use Rattle.std.proofs.Math.Seq.{drop-cons}
 use Rattle.net_io.specs.Depot.{DepotState, octets_of}
@@ -10,12 +10,14 @@ use Rattle.net_io.specs.declared.fault.IoFault.TheVariants as io
 use Rattle.flow_lines.specs.declared.flow.FlowLine.{FlowLine}
 use Rattle.pcap_frames.specs.declared.record.FrameHead.{FrameHead}
 use Rattle.pcap_frames.specs.Record.{Frame}
-use Rattle.pcap_frames.specs.Written.{frame_octets, frames_octets}
-use Rattle.pcap_frames.proofs.Law.{frames_are_written_in_their_order}
 use Rattle.packet_walk.specs.declared.walked.Walked.{Walked}
+use Rattle.capture_reader.specs.declared.format.CaptureFormat.{CaptureFormat}
+use Rattle.capture_reader.specs.declared.reader.AnyFrames.{AnyFrames}
+use Rattle.capture_reader.specs.Frame.{CapturedFrame}
+use Rattle.capture_reader.specs.Reader.{name_of, format_of, IsReadable}
+use Rattle.capture_reader.specs.Written.{file_frame, file_frames, IsTime}
 use Rattle.label_flow.specs.Pair.{PairState, pair}
 use Rattle.label_flow.specs.Schedule.{versions_in}
-use Rattle.pcap_frames.specs.Reader.{Reader, ReaderStandsIn}
 use Rattle.call_report.specs.Lines.Flow.{walked_line}
 use Rattle.call_report.specs.Outside.{NoWriteFailed}
 use Rattle.call_report.specs.Printing.{HandsOn}
@@ -32,7 +34,7 @@ use Rattle.flow_run.specs.inside.Source.{IsSame, HasMoved, HasStepped, ReadsMove
 use Rattle.flow_run.specs.inside.Taken.{Moment, Outlets, outlets_at, IsPrintedTo, print_stop, HasHanded, kept_by, IsMoved, outside_of, HasTaken, IsGoing}
 use Rattle.flow_run.proofs.Outputs.{appended_more, appended_cut, appended_stops}
 use Rattle.flow_run.proofs.Prints.{cut_off, print_fails, print_goes, lines_more}
-use Rattle.flow_run.proofs.Reading.{reads_more, same_more, stands_same}
+use Rattle.flow_run.proofs.Reading.{reads_more, same_more, stands_same, readable_kept}
 
 -- ---- what may follow
 
@@ -95,14 +97,21 @@ kept_more (head ∷ heads) (q ∷ pairs) p =
     ap (λ fs. cond (is_denied q.walked.end) fs (frame ∷ fs)) (kept_more heads pairs p)
     ∙ sym (cond_append (is_denied q.walked.end) frame (kept_by heads pairs) (kept_by (drop (length pairs) heads) (p ∷ [])))
 
-kept_one : (t : Bool) (head : FrameHead) (rest : List Frame) (octets : List ℕ) → rest ≡ []
-    → frames_octets (cond t rest (record { head = head; octets = octets } ∷ rest)) ≡ cond t [] (frame_octets head octets)
-kept_one true head rest octets none = ap frames_octets none
-kept_one false head rest octets none = ap (λ fs. frame_octets head octets ++ frames_octets fs) none ∙ append-nil (frame_octets head octets)
+kept_one : (t : Bool) (format : CaptureFormat) (head : FrameHead) (rest : List Frame) (octets : List ℕ) → rest ≡ []
+    → file_frames format (cond t rest (record { head = head; octets = octets } ∷ rest)) ≡ cond t [] (file_frame format head octets)
+kept_one true format head rest octets none = ap (file_frames format) none
+kept_one false format head rest octets none = ap (λ fs. file_frame format head octets ++ file_frames format fs) none ∙ append-nil (file_frame format head octets)
 
-kept_frame : (head : FrameHead) (heads : List FrameHead) (walked : Walked) (packet : List ℕ)
-    → frames_octets (kept_by (head ∷ heads) (pair walked packet ∷ [])) ≡ frame_of head walked.end packet
-kept_frame head heads walked packet = kept_one (is_denied walked.end) head (kept_by heads []) packet (kept_none heads)
+kept_frame : (format : CaptureFormat) (head : FrameHead) (heads : List FrameHead) (walked : Walked) (packet : List ℕ)
+    → file_frames format (kept_by (head ∷ heads) (pair walked packet ∷ [])) ≡ frame_of format head walked.end packet
+kept_frame format head heads walked packet = kept_one (is_denied walked.end) format head (kept_by heads []) packet (kept_none heads)
+
+-- frames are written in their order
+frames_join : (format : CaptureFormat) (frames more : List Frame) → file_frames format (frames ++ more) ≡ file_frames format frames ++ file_frames format more
+frames_join format [] more = refl
+frames_join format (frame ∷ frames) more =
+    ap (λ o. file_frame format frame.head frame.octets ++ o) (frames_join format frames more)
+    ∙ sym (append_assoc (file_frame format frame.head frame.octets) (file_frames format frames) (file_frames format more))
 
 passed_append : (pairs : List PairState) (p : PairState) → passed_in (pairs ++ p ∷ []) ≡ passed_in pairs + cond (is_denied p.walked.end) 0 1
 passed_append [] p = omega arith
@@ -162,7 +171,7 @@ module _ (number : ℕ) (names : List (List ℕ)) (flow : FlowLine) (was now : M
     moved_none = subst (λ (s : Option FlowStop). IsMoved flow s (outside_of was) (outside_of now)) none taken.moved
 
     text_of : List PairState → List ℕ
-    text_of ps = was.octets ++ frames_octets (kept_by (heads_left was.source (file_of was.folder was.source)) ps)
+    text_of ps = was.octets ++ file_frames (format_of was.source.reader) (kept_by (heads_left was.source (file_of was.folder was.source)) ps)
 
     output_none : IsTrue was.folder.tells → (name : List ℕ) → flow.output ≡ Some name → IsAppended None (text_of pairs) now.octets (was.folder.held name) (now.folder.held name)
     unfolding text_of
@@ -174,7 +183,7 @@ module _ (number : ℕ) (names : List (List ℕ)) (flow : FlowLine) (was now : M
     same_then new (inl one) told name = one.1.kept told name
     same_then new (inr stays) told name = ap (λ (d : DepotState). d.held name) stays.1
 
-    reads_then : (new : Moment) → now.source.frames.name ≡ flow.input → HasMoved now.source new.source now.folder new.folder → ReadsMove new.source.behind flow.input was.folder.reads new.folder.reads
+    reads_then : (new : Moment) → name_of now.source.reader ≡ flow.input → HasMoved now.source new.source now.folder new.folder → ReadsMove new.source.behind flow.input was.folder.reads new.folder.reads
     reads_then new input (inl one) =
         reads_more new.source.behind flow.input was.folder.reads now.folder.reads new.folder.reads
         (subst (λ (b : Option Behind). ReadsMove b flow.input was.folder.reads now.folder.reads) one.0 taken.reads)
@@ -195,7 +204,7 @@ module _ (number : ℕ) (names : List (List ℕ)) (flow : FlowLine) (was now : M
     told_then new (inr stays) = ap (λ (d : DepotState). d.tells) stays.1
 
     -- the file of the input is what it was
-    file_now : flow.output ≢ Some flow.input → was.source.frames.name ≡ flow.input → IsTrue was.folder.tells → file_of now.folder now.source ≡ file_of was.folder was.source
+    file_now : flow.output ≢ Some flow.input → name_of was.source.reader ≡ flow.input → IsTrue was.folder.tells → file_of now.folder now.source ≡ file_of was.folder was.source
     file_now apart input told =
         ap (λ n. octets_of (now.folder.held n)) taken.source.name
         ∙ ap (λ n. octets_of (now.folder.held n)) input
@@ -203,14 +212,14 @@ module _ (number : ℕ) (names : List (List ℕ)) (flow : FlowLine) (was now : M
         ∙ ap (λ n. octets_of (was.folder.held n)) (sym input)
 
     -- nothing but the folder, the source and the stop has changed
-    pub taken_fetched : (new : Moment) → now.source.frames.name ≡ flow.input → flow.output ≢ Some flow.input
+    pub taken_fetched : (new : Moment) → name_of now.source.reader ≡ flow.input → flow.output ≢ Some flow.input
         → new.stream ≡ now.stream → new.lines ≡ now.lines → new.octets ≡ now.octets → new.seen ≡ now.seen → new.passed ≡ now.passed → new.denied ≡ now.denied
         → HasStepped now.source new.source now.folder new.folder → (new.stop ≡ None) ⊎ (new.stop ≡ pending new.source.behind) → HasTaken number names flow was new pairs
     unfolding text_of
     taken_fetched new input apart stream lines octets seen passed denied stepped stop =
         let moved = stepped.moved in
         let text = walked_lines number (length was.seen + 1) names flow.hops pairs in
-        let was_input : was.source.frames.name ≡ flow.input = sym taken.source.name ∙ input in
+        let was_input : name_of was.source.reader ≡ flow.input = sym taken.source.name ∙ input in
         let handed : IsHandedOn text was.lines new.lines was.stream new.stream =
         subst (λ (w : List ℕ). IsHandedOn text was.lines w was.stream new.stream) (sym lines) (subst (λ (s : SinkState). IsHandedOn text was.lines now.lines was.stream s) (sym stream) lines_none) in
         let still_moved : IsMoved flow None (outside_of was) (outside_of new) =
@@ -289,7 +298,7 @@ module _ (number : ℕ) (names : List (List ℕ)) (flow : FlowLine) (was now : M
     -- ---- a packet's line and frame
 
     -- the source uses up one time
-    module _ (walked : Walked) (packet : List ℕ) (head : FrameHead) (new : Moment) (place : ℕ)
+    module _ (walked : Walked) (packet : List ℕ) (format : CaptureFormat) (head : FrameHead) (new : Moment) (place : ℕ) (formed : format ≡ format_of now.source.reader)
         (seen : new.seen ≡ now.seen ++ walked.versions ∷ []) (at : place ≡ length new.seen)
         (passed : new.passed ≡ now.passed + (cond (is_denied walked.end) 0 1)) (denied : new.denied ≡ now.denied + (cond (is_denied walked.end) 1 0))
         (same : IsSame now.source new.source) (behind : new.source.behind ≡ now.source.behind)
@@ -330,15 +339,17 @@ module _ (number : ℕ) (names : List (List ℕ)) (flow : FlowLine) (was now : M
           let one = drop-drop 1 (length pairs) (heads_left was.source file) in
           sym (ap (drop 1) (heads_now told)) ∙ one ∙ ap (λ n. drop n (heads_left was.source file)) (let turn : length pairs + 1 ≡ length (pairs ++ p ∷ []) = omega (arith, count) in turn)
 
-      frames_more : IsTrue was.folder.tells → text_of (pairs ++ p ∷ []) ≡ text_of pairs ++ frame_of head walked.end packet
+      frames_more : IsTrue was.folder.tells → text_of (pairs ++ p ∷ []) ≡ text_of pairs ++ frame_of format head walked.end packet
       unfolding text_of file p
       frames_more told =
           let before = heads_left was.source (file_of was.folder was.source) in
-          ap (λ fs. was.octets ++ frames_octets fs) (kept_more before pairs p)
-          ∙ ap (λ t. was.octets ++ t) (frames_are_written_in_their_order (kept_by before pairs) (kept_by (drop (length pairs) before) (p ∷ [])))
-          ∙ ap (λ hs. was.octets ++ (frames_octets (kept_by before pairs) ++ frames_octets (kept_by hs (p ∷ [])))) (heads_now told)
-          ∙ ap (λ t. was.octets ++ (frames_octets (kept_by before pairs) ++ t)) (kept_frame head (heads_left new.source (file_of was.folder was.source)) walked packet)
-          ∙ sym (append_assoc was.octets (frames_octets (kept_by before pairs)) (frame_of head walked.end packet))
+          let first = format_of was.source.reader in
+          ap (λ fs. was.octets ++ file_frames first fs) (kept_more before pairs p)
+          ∙ ap (λ t. was.octets ++ t) (frames_join first (kept_by before pairs) (kept_by (drop (length pairs) before) (p ∷ [])))
+          ∙ ap (λ hs. was.octets ++ (file_frames first (kept_by before pairs) ++ file_frames first (kept_by hs (p ∷ [])))) (heads_now told)
+          ∙ ap (λ t. was.octets ++ (file_frames first (kept_by before pairs) ++ t)) (kept_frame first head (heads_left new.source (file_of was.folder was.source)) walked packet)
+          ∙ ap (λ (f : CaptureFormat). was.octets ++ (file_frames first (kept_by before pairs) ++ frame_of f head walked.end packet)) (sym (formed ∙ taken.source.format))
+          ∙ sym (append_assoc was.octets (file_frames first (kept_by before pairs)) (frame_of format head walked.end packet))
 
       passed_more : new.passed ≡ was.passed + passed_in (pairs ++ p ∷ [])
       unfolding p
@@ -354,7 +365,7 @@ module _ (number : ℕ) (names : List (List ℕ)) (flow : FlowLine) (was now : M
 
       -- the line was printed
       pub taken_handed : IsHandedOn (walked_line number place names flow.hops walked) now.lines new.lines now.stream new.stream
-          → HasAppended new.stop flow.output (frame_of head walked.end packet) now.octets new.octets now.folder new.folder → HasTaken number names flow was new (pairs ++ pair walked packet ∷ [])
+          → HasAppended new.stop flow.output (frame_of format head walked.end packet) now.octets new.octets now.folder new.folder → HasTaken number names flow was new (pairs ++ pair walked packet ∷ [])
       unfolding p line text_of file
       taken_handed hands appended =
           let ready : IsTrue was.folder.tells → IsTrue now.folder.tells = λ told. subst IsTrue (sym taken.folder_told) told in
@@ -371,7 +382,7 @@ module _ (number : ℕ) (names : List (List ℕ)) (flow : FlowLine) (was now : M
             heads = heads_more;
             output = λ told name is.
                 subst (λ (t : List ℕ). IsAppended new.stop t new.octets (was.folder.held name) (new.folder.held name)) (sym (frames_more told))
-                (appended_more new.stop (text_of pairs) (frame_of head walked.end packet) now.octets new.octets _ _ _ (output_none told name is) (appended.here (ready told) name is));
+                (appended_more new.stop (text_of pairs) (frame_of format head walked.end packet) now.octets new.octets _ _ _ (output_none told name is) (appended.here (ready told) name is));
             others = λ told name other. appended.others (ready told) name other ∙ taken.others told name other;
             reads = reads_after now.source.behind new.source.behind flow.input was.folder.reads now.folder.reads new.folder.reads behind taken.reads appended.reads;
             failed = λ is. absurd (no_read new.stop flow.output now.folder.appends new.folder.appends appended.moved is);
@@ -398,9 +409,9 @@ module _ (number : ℕ) (names : List (List ℕ)) (flow : FlowLine) (was now : M
         source = same_more was.source now.source new.source taken.source same;
         heads = heads_more;
         output = λ told name is.
-            let one = appended_cut (print_stop fault) (text_of pairs) (frame_of head walked.end packet) now.octets new.octets _ _ (output_none told name is) in
-            let there = subst (λ (d : DepotState). IsAppended (Some (print_stop fault)) (text_of pairs ++ frame_of head walked.end packet) new.octets (was.folder.held name) (d.held name)) (sym folder) one in
-            let stopped = subst (λ (s : Option FlowStop). IsAppended s (text_of pairs ++ frame_of head walked.end packet) new.octets (was.folder.held name) (new.folder.held name)) (sym stop) there in
+            let one = appended_cut (print_stop fault) (text_of pairs) (frame_of format head walked.end packet) now.octets new.octets _ _ (output_none told name is) in
+            let there = subst (λ (d : DepotState). IsAppended (Some (print_stop fault)) (text_of pairs ++ frame_of format head walked.end packet) new.octets (was.folder.held name) (d.held name)) (sym folder) one in
+            let stopped = subst (λ (s : Option FlowStop). IsAppended s (text_of pairs ++ frame_of format head walked.end packet) new.octets (was.folder.held name) (new.folder.held name)) (sym stop) there in
             subst (λ (t : List ℕ). IsAppended new.stop t new.octets (was.folder.held name) (new.folder.held name)) (sym (frames_more told)) stopped;
         others = λ told name other. ap (λ (d : DepotState). d.held name) folder ∙ taken.others told name other;
         reads = reads_after now.source.behind new.source.behind flow.input was.folder.reads now.folder.reads new.folder.reads behind taken.reads (λ name. ap (λ (d : DepotState). d.reads name) folder);
@@ -411,16 +422,16 @@ module _ (number : ℕ) (names : List (List ℕ)) (flow : FlowLine) (was now : M
         faults = omega (arith, taken.faults, hands.counts.no_less);
       }
 
-      handed_more : HasHanded new.stop (walked_line number place names flow.hops walked) flow.output (frame_of head walked.end packet) (outlets_at now) (outlets_at new)
+      handed_more : HasHanded new.stop (walked_line number place names flow.hops walked) flow.output (frame_of format head walked.end packet) (outlets_at now) (outlets_at new)
           → HasTaken number names flow was new (pairs ++ pair walked packet ∷ [])
       handed_more (inl done) = taken_handed done.0 done.1
       handed_more (inr failed) = taken_unprinted failed.0 failed.1 failed.2 failed.3 failed.4
 
       pub taken_more : (stop : Option FlowStop) → new.stop ≡ stop
-          → HasHanded stop (walked_line number place names flow.hops walked) flow.output (frame_of head walked.end packet) (outlets_at now) (outlets_at new)
+          → HasHanded stop (walked_line number place names flow.hops walked) flow.output (frame_of format head walked.end packet) (outlets_at now) (outlets_at new)
           → HasTaken number names flow was new (pairs ++ pair walked packet ∷ [])
       taken_more stop is handed =
-          handed_more (subst (λ (s : Option FlowStop). HasHanded s (walked_line number place names flow.hops walked) flow.output (frame_of head walked.end packet)
+          handed_more (subst (λ (s : Option FlowStop). HasHanded s (walked_line number place names flow.hops walked) flow.output (frame_of format head walked.end packet)
           (outlets_at now) (outlets_at new)) (sym is) handed)
 
 -- ---- what a feed needs, behind a packet
@@ -441,44 +452,45 @@ module _ (stop : Option FlowStop) (text : List ℕ) (output : Option (List ℕ))
       (here.held ++ here.sent, here.now)
   handed_there (inr failed) there = subst (λ (d : DepotState). IsThere output d) (sym failed.3) there
 
-pub fed_kept : (a b : DepotState) (s s' : Source) → b.tells ≡ a.tells → (IsTrue a.tells → b.held s.frames.name ≡ a.held s.frames.name)
-    → s'.frames ≡ s.frames → s'.most ≡ s.most → s'.read ≡ s.read → s'.behind ≡ s.behind → IsFed a s → IsFed b s'
-fed_kept a b s s' told held frames most read behind fed = record {
-  ready = λ told'.
-      let before = subst IsTrue told told' in
-      subst (λ (r : Reader). ReaderStandsIn r (octets_of (b.held r.name))) (sym frames)
-      (subst (λ (h : Option (List ℕ)). ReaderStandsIn s.frames (octets_of h)) (sym (held before)) (fed.ready before));
+pub fed_kept : (a b : DepotState) (s s' : Source) → b.tells ≡ a.tells → (IsTrue a.tells → b.held (name_of s.reader) ≡ a.held (name_of s.reader))
+    → s'.reader ≡ s.reader → s'.most ≡ s.most → s'.read ≡ s.read → s'.behind ≡ s.behind → s'.heads.items ≡ s.heads.items → IsFed a s → IsFed b s'
+fed_kept a b s s' told held reader most read behind heads fed = record {
+  ready = subst (λ (r : AnyFrames). IsReadable b r) (sym reader) (readable_kept a b s.reader told held fed.ready);
   stands = λ told'.
       let before = subst IsTrue told told' in
-      let here = ap (λ (r : Reader). octets_of (b.held r.name)) frames ∙ ap octets_of (held before) in
+      let here = ap (λ (r : AnyFrames). octets_of (b.held (name_of r))) reader ∙ ap octets_of (held before) in
       subst (λ (f : List ℕ). StandsBy s'.behind s' f) (sym here)
-      (subst (λ (x : Option Behind). StandsBy x s' (file_of a s)) (sym behind) (stands_same s.behind s s' (file_of a s) frames most read (fed.stands before)));
+      (subst (λ (x : Option Behind). StandsBy x s' (file_of a s)) (sym behind) (stands_same s.behind s s' (file_of a s) reader most read (fed.stands before)));
   within = subst (λ n. s'.read ≤ n) (sym most) (subst (λ n. n ≤ s.most) (sym read) fed.within);
+  times = subst (λ (r : AnyFrames). All (IsTime (format_of r)) s'.heads.items) (sym reader)
+      (subst (λ (hs : List FrameHead). All (IsTime (format_of s.reader)) hs) (sym heads) fed.times);
 }
 
 module _ (flow : FlowLine) (now new : Moment) (stop : Option FlowStop) (text frame : List ℕ) (going : IsGoing flow now)
-    (handed : HasHanded stop text flow.output frame (outlets_at now) (outlets_at new)) (frames : new.source.frames ≡ now.source.frames) where
-  fed_handed : IsFed now.folder now.source → new.source.most ≡ now.source.most → new.source.read ≡ now.source.read → new.source.behind ≡ now.source.behind → IsFed new.folder new.source
-  fed_handed fed most read behind =
+    (handed : HasHanded stop text flow.output frame (outlets_at now) (outlets_at new)) (reader : new.source.reader ≡ now.source.reader) where
+  fed_handed : IsFed now.folder now.source → new.source.most ≡ now.source.most → new.source.read ≡ now.source.read → new.source.behind ≡ now.source.behind → new.source.heads.items ≡ now.source.heads.items
+      → IsFed new.folder new.source
+  fed_handed fed most read behind heads =
       fed_kept now.folder new.folder now.source new.source (handed_told stop text flow.output frame (outlets_at now) (outlets_at new) handed)
-      (λ told. handed_others stop text flow.output frame (outlets_at now) (outlets_at new) handed told now.source.frames.name (λ is. going.apart (is ∙ ap Some going.input)))
-      frames most read behind fed
+      (λ told. handed_others stop text flow.output frame (outlets_at now) (outlets_at new) handed told (name_of now.source.reader) (λ is. going.apart (is ∙ ap Some going.input)))
+      reader most read behind heads fed
 
   going_handed : (versions : List ℕ) (denied : Bool) → new.seen ≡ now.seen ++ versions ∷ [] → new.passed ≡ now.passed + cond denied 0 1 → new.denied ≡ now.denied + cond denied 1 0 → IsGoing flow new
   going_handed versions denied seen passed more = record {
-    input = ap (λ (r : Reader). r.name) frames ∙ going.input;
+    input = ap name_of reader ∙ going.input;
     apart = going.apart;
     present = handed_there stop text flow.output frame (outlets_at now) (outlets_at new) handed going.present;
     counts = omega (arith, going.counts, ap length seen, length-append now.seen (versions ∷ []), passed, more, one_counts denied);
   }
 
 pub ready_handed : (flow : FlowLine) (now new : Moment) (stop : Option FlowStop) (text frame : List ℕ) (versions : List ℕ) (denied : Bool) → IsFed now.folder now.source × IsGoing flow now
-    → new.source.frames ≡ now.source.frames → new.source.most ≡ now.source.most → new.source.read ≡ now.source.read → new.source.behind ≡ now.source.behind
+    → new.source.reader ≡ now.source.reader → new.source.most ≡ now.source.most → new.source.read ≡ now.source.read → new.source.behind ≡ now.source.behind
+    → new.source.heads.items ≡ now.source.heads.items
     → new.seen ≡ now.seen ++ versions ∷ [] → new.passed ≡ now.passed + cond denied 0 1 → new.denied ≡ now.denied + cond denied 1 0
     → HasHanded stop text flow.output frame (outlets_at now) (outlets_at new) → IsFed new.folder new.source × IsGoing flow new
-ready_handed flow now new stop text frame versions denied ready frames most read behind seen passed more handed = (
-  fed_handed flow now new stop text frame ready.1 handed frames ready.0 most read behind,
-  going_handed flow now new stop text frame ready.1 handed frames versions denied seen passed more,
+ready_handed flow now new stop text frame versions denied ready reader most read behind heads seen passed more handed = (
+  fed_handed flow now new stop text frame ready.1 handed reader ready.0 most read behind heads,
+  going_handed flow now new stop text frame ready.1 handed reader versions denied seen passed more,
 )
 
 -- the first time that isn't used yet
@@ -486,8 +498,8 @@ pub head_first : (source : Source) (d : FrameHead) (file : List ℕ) → source.
     → heads_left source file ≡ d ∷ heads_left (record source { at = source.at + 1 }) file
 head_first source d file less first =
     let one : suc source.at ≡ source.at + 1 = omega arith in
-    ap (λ hs. hs ++ map (λ (f : Frame). f.head) (frames_left source file)) (drop-cons source.heads.items source.at d less)
-    ∙ ap (λ n. (get_or source.heads.items source.at d ∷ drop n source.heads.items) ++ map (λ (f : Frame). f.head) (frames_left source file)) one
+    ap (λ hs. hs ++ map (λ (f : CapturedFrame). f.head) (frames_left source file)) (drop-cons source.heads.items source.at d less)
+    ∙ ap (λ n. (get_or source.heads.items source.at d ∷ drop n source.heads.items) ++ map (λ (f : CapturedFrame). f.head) (frames_left source file)) one
     ∙ ap (λ x. x ∷ heads_left (record source { at = source.at + 1 }) file) (sym first)
 
 -- ---- the beginning, and the end
@@ -501,7 +513,7 @@ taken_begins number names flow was none fetched there = record {
   seen = sym (append-nil was.seen);
   passed = omega arith;
   denied = omega arith;
-  source = record { name = refl; header = refl; most = refl };
+  source = record { name = refl; format = refl; most = refl };
   heads = λ told. refl;
   output = λ told name is.
       let held = there told name is in
@@ -511,7 +523,7 @@ taken_begins number names flow was none fetched there = record {
         rest = was.octets;
         was = held.1;
         now = held.1 ∙ ap Some (sym (append-nil held.0));
-        all = sym (append-nil was.octets) ∙ ap (λ fs. was.octets ++ frames_octets fs) (sym (kept_none (heads_left was.source (file_of was.folder was.source))));
+        all = sym (append-nil was.octets) ∙ ap (λ fs. was.octets ++ file_frames (format_of was.source.reader) fs) (sym (kept_none (heads_left was.source (file_of was.folder was.source))));
         left = λ _. refl;
       };
   others = λ told name other. refl;
@@ -538,7 +550,7 @@ taken_at number names flow was now stop pairs is taken =
       source = taken.source;
       heads = taken.heads;
       output = λ told name at.
-          let octets = was.octets ++ frames_octets (kept_by (heads_left was.source (file_of was.folder was.source)) pairs) in
+          let octets = was.octets ++ file_frames (format_of was.source.reader) (kept_by (heads_left was.source (file_of was.folder was.source)) pairs) in
           subst (λ (s : Option FlowStop). IsAppended s octets now.octets (was.folder.held name) (now.folder.held name)) is (taken.output told name at);
       others = taken.others;
       reads = taken.reads;
@@ -568,7 +580,7 @@ pub taken_appended : (number : ℕ) (names : List (List ℕ)) (flow : FlowLine) 
     → HasTaken number names flow was (record now { folder = folder'; octets = octets'; stop = stop }) pairs
 taken_appended number names flow was now folder' octets' stop pairs taken none appended =
     let ready : IsTrue was.folder.tells → IsTrue now.folder.tells = λ told. subst IsTrue (sym taken.folder_told) told in
-    let text = was.octets ++ frames_octets (kept_by (heads_left was.source (file_of was.folder was.source)) pairs) in
+    let text = was.octets ++ file_frames (format_of was.source.reader) (kept_by (heads_left was.source (file_of was.folder was.source)) pairs) in
     record {
       folder_told = appended.told ∙ taken.folder_told;
       stream_told = taken.stream_told;

@@ -11,7 +11,7 @@ run_made-requires-clause-prepared g c κs within =
     record {
       new = record {
         fresh = new.fresh;
-        fed = fed_kept _ _ _ _ created.told (λ told. created.others told _ (λ is. stands.apart (is ∙ ap Some new.fresh.name))) refl refl refl refl new.fed;
+        fed = fed_kept _ _ _ _ created.told (λ told. created.others told _ (λ is. stands.apart (is ∙ ap Some new.fresh.name))) refl refl refl refl refl new.fed;
         seen = new.seen;
         passed = new.passed;
         denied = new.denied;
@@ -24,7 +24,7 @@ pub returns-in-Ok-clause-ends : goal.returns-in-Ok-clause-ends
 returns-in-Ok-clause-ends g c before waits read stream lines =
     let new = c.requires.new in
     let apart = c.requires.stands.apart in
-    ends_run _ _ _ _ _ _ _ before _ _ waits _ _ _ (start_of _ _ _ _ _ _ _ apart read c.in-Ok.ensures.created (rw c.nanos-nanos.ensures at c.in-Ok.ensures.head)) stream lines new.seen new.passed new.denied
+    ends_run _ _ _ _ _ _ _ before _ _ waits _ _ _ (start_of _ _ _ _ _ _ _ apart read c.in-Ok.ensures.created (rw c.format-format.ensures at c.in-Ok.ensures.head)) stream lines new.seen new.passed new.denied
     apart c.run_made.ensures.flown
 
 pub returns-in-Err-clause-ends : goal.returns-in-Err-clause-ends

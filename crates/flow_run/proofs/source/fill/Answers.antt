@@ -1,5 +1,5 @@
-use Rattle.std.proofs.Common.{rules, refl, ap, ◌∙◌, arith, length, None, Some}
-use Rattle.flow_run.proofs.Reading.{got_nothing, only_none, next_stands, next_only, next_got, stands_same}
+use Rattle.std.proofs.Common.{refl, ap, arith, length}
+use Rattle.flow_run.proofs.Reading.{got_nothing, only_none, next_amid, next_none, next_got}
 use Rattle.flow_run.proofs.source.fill.Goals as goal
 
 pub loop-alloc-init : goal.loop-alloc-init
@@ -8,7 +8,7 @@ loop-alloc-init g c = record {
   ready = c.requires.ready;
   amid = c.requires.amid;
   reads = only_none _ _;
-  got = got_nothing _ _ _ _ _ _ (record { name = refl; header = refl; most = refl }) refl refl refl (λ told. refl);
+  got = got_nothing _ _ _ _ _ _ (record { name = refl; format = refl; most = refl }) refl refl refl (λ told. refl);
   behind = c.requires.begins;
   few = omega (arith, ap length c.requires.empty);
 }
@@ -16,19 +16,14 @@ loop-alloc-init g c = record {
 pub loop-alloc-preserved : goal.loop-alloc-preserved
 loop-alloc-preserved g c =
     let was = c.loop-alloc.invariant in
-    let more = c.in-None.ensures in
+    let one = c.read_one.ensures in
+    let none = one.more c.if-not-read_one.false in
     record {
-      within = more.within;
-      ready = more.ready;
-      amid = next_stands _ _ _ _ _ _ was.reads was.got None _ more.stands;
-      reads = next_only _ _ _ _ _ _ was.reads was.got None _ more.reads;
-      got = next_got _ _ _ _ _ _ was.reads was.got _ _ more.got;
-      behind = more.behind ∙ was.behind;
-      few = search (arith, rules, more.count, c.loop-alloc-test.true);
+      within = one.within;
+      ready = one.ready;
+      amid = next_amid _ _ _ _ _ _ was.reads was.got c.read_one.new.source none one.stands;
+      reads = next_none _ _ _ _ _ _ was.reads was.got c.read_one.new.source _ none one.reads;
+      got = next_got _ _ _ _ _ _ was.reads was.got _ _ one.got;
+      behind = none;
+      few = omega (arith, (rw c.if-not-read_one.false at one.count), c.loop-alloc-test.true, c.len.ensures);
     }
-
-pub returns-in-Some-clause-stands : goal.returns-in-Some-clause-stands
-returns-in-Some-clause-stands g c told =
-    let was = c.loop-alloc.invariant in
-    stands_same (Some c.in-Some.behind) c.read_one.new.source _ _ refl refl refl
-    (next_stands _ _ _ _ _ _ was.reads was.got (Some c.in-Some.behind) _ c.in-Some.ensures.stands told)

@@ -10,8 +10,8 @@ returns-in-Err-clause-cut g c was h t =
 pub returns-in-Ok-hand_on-clause-took : goal.returns-in-Ok-hand_on-clause-took
 returns-in-Ok-hand_on-clause-took g c was h t = (
   t.0,
-  taken_more _ _ _ _ _ _ t.1 c.in-None.is c.args.walked.now c.args.packet.now c.index.result.now _ c.len.result
-      c.in-Ok.ensures.ok c.len.ensures c.count.ensures.passed c.count.ensures.denied (record { name = refl; header = refl; most = refl }) refl
+  taken_more _ _ _ _ _ _ t.1 c.in-None.is c.args.walked.now c.args.packet.now _ c.index.result.now _ c.len.result c.format.ensures
+      c.in-Ok.ensures.ok c.len.ensures c.count.ensures.passed c.count.ensures.denied (record { name = refl; format = refl; most = refl }) refl
       (λ file. head_first c.args.self.now.source c.index.result.now file (omega (arith, c.requires.due)) (search (rules, c.index.ensures)))
       None c.in-None.is c.in-Ok-hand_on.ensures,
 )
@@ -20,18 +20,18 @@ pub returns-in-Err-hand_on-clause-cut : goal.returns-in-Err-hand_on-clause-cut
 returns-in-Err-hand_on-clause-cut g c was h t =
     inr (
       t.0,
-      taken_more _ _ _ _ _ _ t.1 c.in-None.is c.args.walked.now c.args.packet.now c.index.result.now _ c.len.result
-          c.in-Ok.ensures.ok c.len.ensures c.count.ensures.passed c.count.ensures.denied (record { name = refl; header = refl; most = refl }) refl
+      taken_more _ _ _ _ _ _ t.1 c.in-None.is c.args.walked.now c.args.packet.now _ c.index.result.now _ c.len.result c.format.ensures
+          c.in-Ok.ensures.ok c.len.ensures c.count.ensures.passed c.count.ensures.denied (record { name = refl; format = refl; most = refl }) refl
           (λ file. head_first c.args.self.now.source c.index.result.now file (omega (arith, c.requires.due)) (search (rules, c.index.ensures)))
           (Some c.in-Err-hand_on.stop) refl c.in-Err-hand_on.ensures,
     )
 
 pub returns-in-Ok-hand_on-clause-ready : goal.returns-in-Ok-hand_on-clause-ready
 returns-in-Ok-hand_on-clause-ready g c =
-    ready_handed _ _ _ _ _ _ c.args.walked.now.versions (is_denied c.args.walked.now.end) c.requires.ready refl refl refl refl
+    ready_handed _ _ _ _ _ _ c.args.walked.now.versions (is_denied c.args.walked.now.end) c.requires.ready refl refl refl refl refl
     c.in-Ok.ensures.ok c.count.ensures.passed c.count.ensures.denied c.in-Ok-hand_on.ensures
 
 pub returns-in-Err-hand_on-clause-ready : goal.returns-in-Err-hand_on-clause-ready
 returns-in-Err-hand_on-clause-ready g c =
-    ready_handed _ _ _ _ _ _ c.args.walked.now.versions (is_denied c.args.walked.now.end) c.requires.ready refl refl refl refl
+    ready_handed _ _ _ _ _ _ c.args.walked.now.versions (is_denied c.args.walked.now.end) c.requires.ready refl refl refl refl refl
     c.in-Ok.ensures.ok c.count.ensures.passed c.count.ensures.denied c.in-Err-hand_on.ensures
