@@ -64,8 +64,10 @@ fn add_kept<D: Depot>(
         (file_frame judged.now.format judged.now.head judged.now.packet.now)
         octets.old.items octets.new.items (D.state depot.old) (D.state depot.new) }
 {
-    let Judged { format, head, packet, .. } = judged;
-    let Ok(()) = format.write_frame(*head, packet, octets) else {
+    let Ok(()) = judged
+        .format
+        .write_frame(judged.head, judged.packet, octets)
+    else {
         return Err(FlowStop::OutOfMemory);
     };
     if octets.len() < PIECE {

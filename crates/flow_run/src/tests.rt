@@ -7,11 +7,12 @@ ghost use Rattle.node_tables.specs.Steps.{tables_after};
 use super::*;
 use address_text::read_name;
 use call_report::{FlowSeen, Report};
+use capture_reader::{CaptureFormat, FileFault};
 use flow_lines::{FlowLine, Flows, NodeNames, read_flow};
 use label_flow::Gate;
 use net_io::{DepotCall, MemoryDepot, MemorySink};
 use node_tables::Network;
-use pcap_frames::{CaptureFault, CaptureKind};
+use pcap_frames::{CaptureFault, CaptureKind, FrameHead};
 use script_lines::{Step, words_into};
 use std::alloc::Global;
 use std::process::Abort;
@@ -79,12 +80,75 @@ const FIRST_HEAD: [u8; 16] = [1, 0, 0, 0, 0xff, 0xc9, 0x9a, 0x3b, 28, 0, 0, 0, 2
 
 const SECOND_HEAD: [u8; 16] = [3, 0, 0, 0, 8, 0, 0, 0, 28, 0, 0, 0, 28, 0, 0, 0];
 
+/// The section header of a pcapng file, as it is written.
+const SECTION: [u8; 28] = [
+    0x0a, 0x0d, 0x0d, 0x0a, 0x1c, 0, 0, 0, 0x4d, 0x3c, 0x2b, 0x1a, 1, 0, 0, 0, 0xff, 0xff, 0xff,
+    0xff, 0xff, 0xff, 0xff, 0xff, 0x1c, 0, 0, 0,
+];
+
+/// Its interface of packets alone, in billionths of a second, as it is written.
+const RAW_INTERFACE: [u8; 32] = [
+    1, 0, 0, 0, 0x20, 0, 0, 0, 0x65, 0, 0, 0, 0, 0, 4, 0, 9, 0, 1, 0, 9, 0, 0, 0, 0, 0, 0, 0, 0x20,
+    0, 0, 0,
+];
+
+/// One of Ethernet, in millionths.
+const ETHERNET_INTERFACE: [u8; 20] = [
+    1, 0, 0, 0, 0x14, 0, 0, 0, 1, 0, 0, 0, 0, 0, 4, 0, 0x14, 0, 0, 0,
+];
+
+/// In front of the octets of a packet of the first interface, at second 1, and behind them.
+const NG_PACKET_HEAD: [u8; 28] = [
+    6, 0, 0, 0, 0x3c, 0, 0, 0, 0, 0, 0, 0, 0, 0, 0, 0, 0, 0xca, 0x9a, 0x3b, 0x1c, 0, 0, 0, 0x1c, 0,
+    0, 0,
+];
+
+const NG_END: [u8; 4] = [0x3c, 0, 0, 0];
+
+/// ARP on the first interface, of which only the front is there.
+const NG_ARP: [u8; 48] = [
+    6, 0, 0, 0, 0x30, 0, 0, 0, 0, 0, 0, 0, 0, 0, 0, 0, 0x47, 0x4b, 0x4c, 0, 0x0e, 0, 0, 0, 0x0e, 0,
+    0, 0, 2, 0, 0, 0, 0, 2, 2, 0, 0, 0, 0, 1, 8, 6, 0, 0, 0x30, 0, 0, 0,
+];
+
+/// The front of a frame of Ethernet there, at 3 seconds and 8 millionths, and its end.
+const NG_PLAIN: [u8; 42] = [
+    6, 0, 0, 0, 0x4c, 0, 0, 0, 0, 0, 0, 0, 0, 0, 0, 0, 0xc8, 0xc6, 0x2d, 0, 0x2a, 0, 0, 0, 0x2a, 0,
+    0, 0, 2, 0, 0, 0, 0, 2, 2, 0, 0, 0, 0, 1, 8, 0,
+];
+
+const NG_PLAIN_END: [u8; 6] = [0, 0, 0x4c, 0, 0, 0];
+
+/// In front of a packet of the second interface, at 1 second and 999,999,999 billionths.
+const NG_RAW_HEAD: [u8; 28] = [
+    6, 0, 0, 0, 0x3c, 0, 0, 0, 1, 0, 0, 0, 0, 0, 0, 0, 0xff, 0x93, 0x35, 0x77, 0x1c, 0, 0, 0, 0x1c,
+    0, 0, 0,
+];
+
+/// The fronts of both in the output.
+const NG_FIRST_HEAD: [u8; 28] = [
+    6, 0, 0, 0, 0x3c, 0, 0, 0, 0, 0, 0, 0, 0, 0, 0, 0, 0x40, 0x7d, 0xd0, 0xb2, 0x1c, 0, 0, 0, 0x1c,
+    0, 0, 0,
+];
+
+const NG_SECOND_HEAD: [u8; 28] = [
+    6, 0, 0, 0, 0x3c, 0, 0, 0, 0, 0, 0, 0, 0, 0, 0, 0, 0xff, 0x93, 0x35, 0x77, 0x1c, 0, 0, 0, 0x1c,
+    0, 0, 0,
+];
+
 const ETHERNET_LINES: &str = "flow 3 in.pcap
 packet 3.1 denied 22 NotIp hop 0 node - versions -
 packet 3.2 delivered s1:c2 to 10.0.0.2 versions 4
 packet 3.3 denied 4 NoStatic hop 1 node r versions 4
 packet 3.4 delivered s1:c2 to 10.0.0.2 versions 4
 end 3 packets 4 passed 2 denied 2
+";
+
+const NG_LINES: &str = "flow 3 in.pcap
+packet 3.1 delivered s1:c2 to 10.0.0.2 versions 4
+packet 3.2 denied 4 NoStatic hop 1 node r versions 4
+packet 3.3 delivered s1:c2 to 10.0.0.2 versions 4
+end 3 packets 3 passed 2 denied 1
 ";
 
 const LAST_LINES: &str = "packet 3.2048 delivered s1:c2 to 10.0.0.2 versions 4
@@ -101,6 +165,19 @@ const ENDS: [(usize, u64, usize, Ended); 8] = [
     (68, 0, 0, Ended::TooMany),
     (30, 0, 0, Ended::Broken),
     (24, 0, 0, Ended::GoesOn),
+    (20, 9, 0, Ended::Broken),
+];
+
+/// The same of pcapng captures of packets of 60 octets.
+const NG_ENDS: [(usize, u64, usize, Ended); 9] = [
+    (200, 9, 2, Ended::Broken),
+    (180, 1, 1, Ended::TooMany),
+    (150, 1, 1, Ended::Broken),
+    (120, 1, 1, Ended::GoesOn),
+    (120, 0, 0, Ended::TooMany),
+    (60, 0, 0, Ended::GoesOn),
+    (40, 0, 0, Ended::Broken),
+    (28, 0, 0, Ended::GoesOn),
     (20, 9, 0, Ended::Broken),
 ];
 
@@ -235,6 +312,27 @@ fn capture(rt: &impl Abort, alloc: Global, packets: usize) -> Vec<u8> {
     file
 }
 
+/// A pcapng capture of so many packets.
+fn ng_capture(rt: &impl Abort, alloc: Global, packets: usize) -> Vec<u8> {
+    let mut file = joined(rt, alloc, &[&SECTION, &RAW_INTERFACE]);
+    for _packet in 0..packets {
+        file.extend_from_slice(&NG_PACKET_HEAD).expect(rt, "memory");
+        file.extend_from_slice(&PACKET).expect(rt, "memory");
+        file.extend_from_slice(&NG_END).expect(rt, "memory");
+    }
+    file
+}
+
+/// Writes a packet of this second behind others of a pcapng capture.
+fn write_at(rt: &impl Abort, seconds: u32, packet: &[u8; 28], file: &mut Vec<u8>) {
+    let head = FrameHead {
+        seconds,
+        fraction: 0,
+    };
+    let written = CaptureFormat::Pcapng.write_frame(head, packet, file);
+    assert!(rt; written.is_ok());
+}
+
 /// A folder with a capture, whose call of this number fails (0: none).
 fn folder(rt: &impl Abort, alloc: Global, input: &[u8], fails: u32) -> MemoryDepot {
     let mut depot = MemoryDepot::new(alloc, &[fails], 4096).expect(rt, "memory");
@@ -249,8 +347,12 @@ fn end_of(rt: &impl Abort, end: &FlowEnd, octets: usize) -> Ended {
             assert!(rt; network.nodes() == 1 && replies.len() == 4);
             Ended::GoesOn
         }
-        FlowEnd::Broken(CaptureFault { octet, kind }) => {
+        FlowEnd::Broken(FileFault::Pcap(CaptureFault { octet, kind })) => {
             assert!(rt; *octet == octets as u64 && *kind == CaptureKind::Short);
+            Ended::Broken
+        }
+        FlowEnd::Broken(FileFault::Pcapng(fault)) => {
+            assert!(rt; fault.octet == octets as u64);
             Ended::Broken
         }
         FlowEnd::TooMany => Ended::TooMany,
@@ -282,6 +384,69 @@ fn frames_give_packets(rt: HostRuntime) {
     assert!(rt; ran.seen.packet(3) == [4].as_slice());
 }
 
+// The interfaces have link types and resolutions of their own. What is made has its one interface.
+#[test]
+fn interfaces_give_packets(rt: HostRuntime) {
+    let alloc = rt.alloc();
+    let input = joined(
+        &rt,
+        alloc,
+        &[
+            &SECTION,
+            &ETHERNET_INTERFACE,
+            &RAW_INTERFACE,
+            &NG_ARP,
+            &NG_PLAIN,
+            &PACKET,
+            &NG_PLAIN_END,
+            &NG_RAW_HEAD,
+            &STRANGER,
+            &NG_END,
+            &NG_RAW_HEAD,
+            &PACKET,
+            &NG_END,
+        ],
+    );
+    let output = joined(
+        &rt,
+        alloc,
+        &[
+            &SECTION,
+            &RAW_INTERFACE,
+            &NG_FIRST_HEAD,
+            &PACKET,
+            &NG_END,
+            &NG_SECOND_HEAD,
+            &PACKET,
+            &NG_END,
+        ],
+    );
+    let mut depot = folder(&rt, alloc, &input, 0);
+    let ran = called(&rt, alloc, 4, &mut depot, 0);
+    assert!(rt; end_of(&rt, &ran.end, 0) == Ended::GoesOn);
+    assert_eq!(rt; ran.printed.as_slice(), ETHERNET_LINES.as_bytes());
+    assert!(rt; depot.get("out.pcap") == Some(output.as_slice()));
+    assert!(rt; ran.seen.len() == 4 && ran.seen.packet(0).is_empty());
+}
+
+// A pcapng capture that is written is read, and what is made of it is the same without the packet that was denied.
+#[test]
+fn written_packets_are_read(rt: HostRuntime) {
+    let alloc = rt.alloc();
+    let mut input = Vec::new(alloc);
+    let begun = CaptureFormat::Pcapng.write_head(&mut input);
+    assert!(rt; begun.is_ok());
+    write_at(&rt, 1, &PACKET, &mut input);
+    write_at(&rt, 2, &STRANGER, &mut input);
+    write_at(&rt, 1, &PACKET, &mut input);
+    let output = ng_capture(&rt, alloc, 2);
+    let mut depot = folder(&rt, alloc, &input, 0);
+    let ran = called(&rt, alloc, 3, &mut depot, 0);
+    assert!(rt; end_of(&rt, &ran.end, 0) == Ended::GoesOn);
+    assert_eq!(rt; ran.printed.as_slice(), NG_LINES.as_bytes());
+    assert!(rt; depot.get("out.pcap") == Some(output.as_slice()));
+}
+
 // Three batches, of which the last has one packet. The output is the input again.
 #[test]
 fn batches_follow_each_other(rt: HostRuntime) {
@@ -296,25 +461,55 @@ fn batches_follow_each_other(rt: HostRuntime) {
     assert!(rt; depot.get("out.pcap") == Some(input.as_slice()));
 }
 
+/// What is left of a capture up to so many octets: its packets, and whether it goes on.
+fn ends_so(
+    rt: &(impl Abort + Threads + Wait + Sync),
+    alloc: Global,
+    whole: &[u8],
+    case: (usize, u64, usize, Ended),
+) -> MemoryDepot {
+    let (octets, most, packets, wanted) = case;
+    let input = whole.get(..octets).expect(rt, "a beginning");
+    let mut depot = folder(rt, alloc, input, 0);
+    let ran = called(rt, alloc, most, &mut depot, 0);
+    assert!(rt; end_of(rt, &ran.end, octets) == wanted);
+    let text = from_utf8(&ran.printed).expect(rt, "a text");
+    let lines = text.lines().filter(|line| line.starts_with("packet "));
+    assert!(rt; lines.count() == packets && ran.seen.len() == packets);
+    let last = text.lines().any(|line| line.starts_with("end "));
+    assert!(rt; last == (wanted == Ended::GoesOn));
+    depot
+}
+
 // All packets in front of an end are printed and written. Where no more may be read, what stands behind tells the end.
 #[test]
 fn captures_end_somewhere(rt: HostRuntime) {
     let alloc = rt.alloc();
     let whole = capture(&rt, alloc, 3);
-    for (octets, most, packets, wanted) in ENDS {
-        let input = whole.get(..octets).expect(&rt, "a beginning");
-        let mut depot = folder(&rt, alloc, input, 0);
-        let ran = called(&rt, alloc, most, &mut depot, 0);
-        assert!(rt; end_of(&rt, &ran.end, octets) == wanted);
-        let text = from_utf8(&ran.printed).expect(&rt, "a text");
-        let lines = text.lines().filter(|line| line.starts_with("packet "));
-        assert!(rt; lines.count() == packets && ran.seen.len() == packets);
-        let last = text.lines().any(|line| line.starts_with("end "));
-        assert!(rt; last == (wanted == Ended::GoesOn));
+    for case in ENDS {
+        let depot = ends_so(&rt, alloc, &whole, case);
+        let (octets, _, packets, _) = case;
         let output = if octets < 24 {
             None
         } else {
             whole.get(..24 + 44 * packets.min(3))
+        };
+        assert!(rt; depot.get("out.pcap") == output);
+    }
+}
+
+// The same in pcapng, where an output is made as soon as the first section's header is whole.
+#[test]
+fn pcapng_captures_end_somewhere(rt: HostRuntime) {
+    let alloc = rt.alloc();
+    let whole = ng_capture(&rt, alloc, 3);
+    for case in NG_ENDS {
+        let depot = ends_so(&rt, alloc, &whole, case);
+        let (octets, _, packets, _) = case;
+        let output = if octets < 28 {
+            None
+        } else {
+            whole.get(..60 + 60 * packets.min(3))
         };
         assert!(rt; depot.get("out.pcap") == output);
     }
