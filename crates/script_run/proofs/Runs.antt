@@ -142,7 +142,7 @@ module _ (script : Script) where
 
 -- a run behind whose capture an event stands doesn't go on
 pub event_stops : (run : FlowRun) (event : Event) → run.input.event ≡ Some event → goes_on run ≡ false
-event_stops run event is = by_test (is_judged run) (is_some run.input.header) run.input.event is where
+event_stops run event is = by_test (is_judged run) (is_some run.input.format) run.input.event is where
   by_test : (a b : Bool) (e : Option Event) → e ≡ Some event → (a && b && not (is_some e)) ≡ false
   by_test true true (Some e) is = refl
   by_test true false (Some e) is = refl

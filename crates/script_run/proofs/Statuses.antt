@@ -5,12 +5,12 @@ use Rattle.std.specs.List.{list_all}
 use Rattle.std.proofs.lemmas.Bool.{and_parts, eqb-true, false≢true}
 use Rattle.std.proofs.lemmas.List.{length-map}
 use Rattle.std.proofs.lemmas.Option.{none-some, same_Some}
-use Rattle.pcap_frames.specs.declared.header.CaptureHeader.{CaptureHeader}
 use Rattle.flow_lines.specs.declared.flow.FlowLine.{FlowLine}
 use Rattle.shared_tables.specs.Plan.{PlanState}
 use Rattle.label_flow.specs.Pair.{PairState}
 use Rattle.label_flow.specs.Walked.{AreWalked}
 use Rattle.label_flow.proofs.Law.{walked_packets_are_determined}
+use Rattle.capture_reader.specs.declared.format.CaptureFormat.{CaptureFormat}
 use Rattle.call_report.specs.Report.{Folder, Versions}
 use Rattle.call_report.specs.Event.{Event}
 use Rattle.flow_run.specs.Input.{FlowInput, flow_input, packets_in}
@@ -53,20 +53,20 @@ module _ (plan : PlanState) (held : Folder) where
 
 -- ---- statuses
 
-by_event : (found : Option Event) (header : Option CaptureHeader) (behind : Type 0) (event : Event) → found ≡ Some event → StatusOr found header behind event.status
-by_event (Some x) header behind event is = sym (ap (λ (y : Event). y.status) (same_Some x event is))
-by_event None header behind event is = absurd (none-some event is)
+by_event : (found : Option Event) (format : Option CaptureFormat) (behind : Type 0) (event : Event) → found ≡ Some event → StatusOr found format behind event.status
+by_event (Some x) format behind event is = sym (ap (λ (y : Event). y.status) (same_Some x event is))
+by_event None format behind event is = absurd (none-some event is)
 
-by_next : (found : Option Event) (header : Option CaptureHeader) (behind : Type 0) (status : ℕ) → is_some header ≡ true → is_some found ≡ false → behind → StatusOr found header behind status
-by_next (Some x) header behind status some none goes = absurd (false≢true (sym none))
-by_next None (Some header) behind status some none goes = goes
+by_next : (found : Option Event) (format : Option CaptureFormat) (behind : Type 0) (status : ℕ) → is_some format ≡ true → is_some found ≡ false → behind → StatusOr found format behind status
+by_next (Some x) format behind status some none goes = absurd (false≢true (sym none))
+by_next None (Some format) behind status some none goes = goes
 by_next None None behind status some none goes = absurd (false≢true some)
 
 -- the parts of a run that goes on
-went_on : (run : FlowRun) → goes_on run ≡ true → (length run.pairs ≡ length run.input.frames) × (is_some run.input.header ≡ true) × (is_some run.input.event ≡ false)
+went_on : (run : FlowRun) → goes_on run ≡ true → (length run.pairs ≡ length run.input.frames) × (is_some run.input.format ≡ true) × (is_some run.input.event ≡ false)
 went_on run on =
-    let last = and_parts (is_judged run && is_some run.input.header) (not (is_some run.input.event)) on in
-    let first = and_parts (is_judged run) (is_some run.input.header) last.0 in
+    let last = and_parts (is_judged run && is_some run.input.format) (not (is_some run.input.event)) on in
+    let first = and_parts (is_judged run) (is_some run.input.format) last.0 in
     (eqb-true (length run.pairs) (length run.input.frames) first.0, first.1, not_true (is_some run.input.event) last.1) where
       not_true : (b : Bool) → not b ≡ true → b ≡ false
       not_true true e = absurd (false≢true e)
@@ -86,7 +86,7 @@ module _ (plan : PlanState) (held : Folder) where
       let parts = went_on run on in
       let many : length lists ≡ length run.input.frames = ap length (sym is.versions) ∙ length-map run.pairs (λ (p : PairState). p.walked.versions) ∙ parts.0 in
       let Next = λ (n : ℕ). FlowsStatus held (number + 1) (most - n) flows status in
-      subst (λ (i : FlowInput). StatusOr i.event i.header (Next (length i.frames)) status) input (by_next run.input.event run.input.header (Next (length run.input.frames)) status parts.1 parts.2 (subst Next many next))
+      subst (λ (i : FlowInput). StatusOr i.event i.format (Next (length i.frames)) status) input (by_next run.input.event run.input.format (Next (length run.input.frames)) status parts.1 parts.2 (subst Next many next))
 
   pub event_status : (number most : ℕ) (flows : List FlowLine) (seen : Versions) (runs : List FlowRun) (event : Event) → AreRuns plan held number most flows seen runs → last_event runs ≡ Some event
       → FlowsStatus held number most flows event.status
@@ -96,8 +96,8 @@ module _ (plan : PlanState) (held : Folder) where
   event_status number most (flow ∷ flows) [] (run ∷ runs) event are is = absurd are
   event_status number most (flow ∷ flows) (lists ∷ seen) (run ∷ []) event are is =
       let Next = λ (n : ℕ). FlowsStatus held (number + 1) (most - n) flows event.status in
-      subst (λ (i : FlowInput). StatusOr i.event i.header (Next (length i.frames)) event.status) are.2
-      (by_event run.input.event run.input.header (Next (length run.input.frames)) event (judged_event run event is))
+      subst (λ (i : FlowInput). StatusOr i.event i.format (Next (length i.frames)) event.status) are.2
+      (by_event run.input.event run.input.format (Next (length run.input.frames)) event (judged_event run event is))
   event_status number most (flow ∷ flows) (lists ∷ []) (run ∷ next ∷ runs) event are is = absurd (no_more flows are.5) where
     no_more : (fs : List FlowLine) → AreRuns plan held (number + 1) (most - length lists) fs [] (next ∷ runs) → ⊥
     no_more [] a = a

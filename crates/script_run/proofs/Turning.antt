@@ -16,7 +16,7 @@ use Rattle.node_tables.specs.Steps.{tables_after}
 use Rattle.call_report.specs.Lines.Reply.{replies_text}
 use Rattle.call_report.specs.Lines.Fixed.{done_line, packets_limit_line}
 use Rattle.call_report.specs.Lines.Capture.{capture_line}
-use Rattle.pcap_frames.specs.declared.fault.CaptureFault.{CaptureFault}
+use Rattle.capture_reader.specs.declared.fault.FileFault.{FileFault}
 use Rattle.flow_lines.specs.declared.flow.FlowLine.{FlowLine}
 use Rattle.label_commands.specs.declared.script.Script.{Script}
 use Rattle.label_commands.specs.Script.{before}
@@ -182,7 +182,7 @@ module _
             (printed_more (waits ++ turn_text script ir.run) more (write_status fault) now.stream c (printed_failing (turn_text script ir.run) waits still fault OutOfMemory now.stream c (turn_handed network replies ir (Err fault) still c hands)))
 
   -- an event of a capture
-  broken : (fault : CaptureFault) (c : SinkState) (status : Status) → Ran (Broken fault) → Printed waits' (capture_line (k + 1) fault) WrongCapture status mid.stream c
+  broken : (fault : FileFault) (c : SinkState) (status : Status) → Ran (Broken fault) → Printed waits' (capture_line (k + 1) fault) WrongCapture status mid.stream c
       → ScriptEnds script workers start (after c) (seen ++ lists ∷ []) status
   broken fault c status ran printed =
       ends_here own script sound workers start now mid waits waits' left k seen under count flow at lists (Broken fault) ran c WrongCapture status (λ e. tt) printed.told

@@ -1,12 +1,12 @@
 -- How far the flows of a script have run, under the versions of the tables that were printed.
 use Rattle.std.specs.Prelude.{ℕ, ◌≡◌, ◌+◌, ◌-◌, ◌<◌, ◌⊎◌, ◌==◌, ◌&&◌, if◌then◌else◌, Bool, IsTrue, IsSome, List, [], ◌∷◌, length, take, All, Option, Some, None}
 use Rattle.std.specs.List.{list_all}
-use Rattle.pcap_frames.specs.declared.header.CaptureHeader.{CaptureHeader}
 use Rattle.label_commands.specs.declared.script.Script.{Script}
 use Rattle.label_commands.specs.Script.{before, after}
 use Rattle.flow_lines.specs.declared.flow.FlowLine.{FlowLine}
 use Rattle.shared_tables.specs.Plan.{PlanState}
 use Rattle.label_flow.specs.Schedule.{AreLawful, versions_in}
+use Rattle.capture_reader.specs.declared.format.CaptureFormat.{CaptureFormat}
 use Rattle.call_report.specs.Report.{Folder, Versions}
 use Rattle.call_report.specs.Event.{Event}
 use Rattle.flow_access.specs.Valid.{plan_of}
@@ -48,9 +48,9 @@ abbrev pub HasNoneBeside : Script → Type 0
 HasNoneBeside script = (flow : ℕ) → flow < length script.flows → after script flow ≡ before script flow
 
 -- the status of an event, or else, behind an input that could be begun, what comes then; none where it is absent
-abbrev pub StatusOr : Option Event → Option CaptureHeader → Type 0 → ℕ → Type 0
-StatusOr (Some event) header behind status = status ≡ event.status
-StatusOr None (Some header) behind status = behind
+abbrev pub StatusOr : Option Event → Option CaptureFormat → Type 0 → ℕ → Type 0
+StatusOr (Some event) format behind status = status ≡ event.status
+StatusOr None (Some format) behind status = behind
 StatusOr None None behind status = ⊥
 
 -- The status that is due when these flows run, numbered from here on, where so many packets may be read: that of the first event, 0 where none comes.
@@ -58,4 +58,4 @@ abbrev pub FlowsStatus : Folder → ℕ → ℕ → List FlowLine → ℕ → Ty
 FlowsStatus held number most [] status = status ≡ 0
 FlowsStatus held number most (flow ∷ flows) status =
     let input = flow_input number most (held flow.input) in
-    StatusOr input.event input.header (FlowsStatus held (number + 1) (most - length input.frames) flows status) status
+    StatusOr input.event input.format (FlowsStatus held (number + 1) (most - length input.frames) flows status) status

@@ -17,6 +17,26 @@ use worked_values::{append_octets, octets_of};
 /// In front of a packet's octets in a capture.
 const RECORD_HEAD: &str = "01000000000000001c0000001c000000";
 
+/// The beginning of a pcapng capture, and what stands in front of and behind a packet of second 1 in it.
+const NG_HEAD: &str =
+    "0a0d0d0a1c0000004d3c2b1a01000000ffffffffffffffff1c0000000100000020000000650000000000040009000100090000000000000020000000";
+
+const NG_PACKET_HEAD: &str = "060000003c000000000000000000000000ca9a3b1c0000001c000000";
+
+const NG_PACKET_END: &str = "3c000000";
+
+/// The same of a packet of 44 octets.
+const NG_LABELLED_HEAD: &str = "060000004c000000000000000000000000ca9a3b2c0000002c000000";
+
+const NG_LABELLED_END: &str = "4c000000";
+
+/// A pcapng capture of one packet that is broken: an octet's place and value, how many octets there are, and the line of the fault.
+const NG_FAULTS: [(usize, u8, usize, &str); 3] = [
+    (0, 0x0a, 100, "capture 1 octet 100 Short\n"),
+    (116, 0, 120, "capture 1 octet 116 Trailer\n"),
+    (68, 1, 120, "capture 1 octet 68 Interface\n"),
+];
+
 /// A node that knows one sender, and forgets its receiver behind the second flow.
 const FORGETTING: &str = "node r
 unlbl accept on
@@ -92,6 +112,15 @@ fn capture(rt: &impl Abort, alloc: Global, packets: usize, octets: usize) -> Vec
     file
 }
 
+/// A pcapng capture of a packet.
+fn ng_capture(rt: &impl Abort, alloc: Global, head: &str, packet: &str, end: &str) -> Vec<u8> {
+    let mut file = octets_of(alloc, NG_HEAD).expect(rt, "there is memory");
+    append_octets(head, &mut file).expect(rt, "there is memory");
+    append_octets(packet, &mut file).expect(rt, "there is memory");
+    append_octets(end, &mut file).expect(rt, "there is memory");
+    file
+}
+
 /// A folder of captures whose call of this number fails (0: none).
 fn folder(rt: &impl Abort, alloc: Global, fails: u32, one: &[u8]) -> MemoryDepot {
     let mut depot = MemoryDepot::new(alloc, &[fails], 64).expect(rt, "there is memory");
@@ -131,6 +160,19 @@ fn packets_cross_and_arrive(rt: HostRuntime) {
     assert!(rt; far.len() == 84 && far.ends_with(&crossed));
 }
 
+// The output of a pcapng capture is one.
+#[test]
+fn pcapng_packets_cross_and_arrive(rt: HostRuntime) {
+    let alloc = rt.alloc();
+    let one = ng_capture(&rt, alloc, NG_PACKET_HEAD, PLAIN_4, NG_PACKET_END);
+    let wanted = ng_capture(&rt, alloc, NG_LABELLED_HEAD, LIST_10, NG_LABELLED_END);
+    let mut depot = folder(&rt, alloc, 0, &one);
+    let (status, printed) = ran(&rt, alloc, CROSSING, &mut depot, 0);
+    assert!(rt; status == Status::Done);
+    assert_eq!(rt; printed.as_slice(), CROSSED.as_bytes());
+    assert!(rt; depot.get("far.pcap") == Some(wanted.as_slice()));
+}
+
 #[test]
 fn later_commands_are_seen(rt: HostRuntime) {
     let alloc = rt.alloc();
@@ -158,6 +200,21 @@ fn a_broken_capture_ends_the_call(rt: HostRuntime) {
     assert!(rt; status == Status::WrongCapture);
     let wanted = b"packet 1.2 delivered s1:c2 to 10.0.0.2 versions 4\ncapture 1 octet 150 Short\n";
     assert!(rt; printed.ends_with(wanted.as_slice()));
+}
+
+#[test]
+fn a_broken_pcapng_capture_ends_the_call(rt: HostRuntime) {
+    let alloc = rt.alloc();
+    for (place, octet, octets, line) in NG_FAULTS {
+        let mut one = ng_capture(&rt, alloc, NG_PACKET_HEAD, PLAIN_4, NG_PACKET_END);
+        let at = one.get_mut(place).expect(&rt, "an octet");
+        *at = octet;
+        one.truncate(octets);
+        let mut depot = folder(&rt, alloc, 0, &one);
+        let (status, printed) = ran(&rt, alloc, FORGETTING, &mut depot, 0);
+        assert!(rt; status == Status::WrongCapture);
+        assert!(rt; printed.ends_with(line.as_bytes()));
+    }
 }
 
 #[test]

@@ -12,10 +12,10 @@ ghost use Rattle.script_run.specs.inside.Turn.{IsTurnEnd, IsTurnEndAt};
 
 use crate::replies::hand_on_replies;
 use call_report::{OutOfMemory, Report, Status, packets_limit, write_capture};
+use capture_reader::FileFault;
 use flow_run::{FlowEnd, FlowPlace, FlowStop};
 use net_io::Sink;
 use node_tables::Network;
-use pcap_frames::CaptureFault;
 use std::alloc::Global;
 
 /// What the next flow begins with.
@@ -62,7 +62,7 @@ pub(crate) fn end_turn<S: Sink>(
 fn end_broken<S: Sink>(
     alloc: Global,
     number: u32,
-    fault: CaptureFault,
+    fault: FileFault,
     report: Report,
     out: &mut S,
 ) -> Status
