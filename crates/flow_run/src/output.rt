@@ -64,10 +64,8 @@ fn add_kept<D: Depot>(
         (file_frame judged.now.format judged.now.head judged.now.packet.now)
         octets.old.items octets.new.items (D.state depot.old) (D.state depot.new) }
 {
-    let Ok(()) = judged
-        .format
-        .write_frame(judged.head, judged.packet, octets)
-    else {
+    let format = judged.format;
+    let Ok(()) = format.write_frame(judged.head, judged.packet, octets) else {
         return Err(FlowStop::OutOfMemory);
     };
     if octets.len() < PIECE {
