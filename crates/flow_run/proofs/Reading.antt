@@ -178,11 +178,6 @@ module _ (source source' : Source) (file : List ℕ) (amid : IsAmid source file)
       by_stop read_stop.ReadFault here = amid_stays format same read
       by_stop read_stop.OutOfMemory here = amid_stays format same read
 
-  -- memory ran out in front of the reader
-  pub waits_stands : source'.reader ≡ source.reader → source'.read ≡ source.read → source'.behind ≡ Some NoMemory → StandsBy source'.behind source' file
-  waits_stands reader read behind =
-      subst (λ (b : Option Behind). StandsBy b source' file) (sym behind) (amid_stays (ap format_of reader) (ap (λ r. left_of r file) reader) read)
-
 -- ---- what was got
 
 module _ (tells : Bool) (file : List ℕ) (old new : Source) (batch batch' : List PacketIn) (same : IsSame old new) (at : new.at ≡ old.at) where

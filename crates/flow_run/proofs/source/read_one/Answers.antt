@@ -1,5 +1,5 @@
 use Rattle.std.proofs.Common.{refl, ap, ◌∙◌, ◌++◌, ◌∷◌, [], arith, Some}
-use Rattle.flow_run.proofs.Reading.{got_unready, got_full, got_one, got_end, got_stop, taken_stands}
+use Rattle.flow_run.proofs.Reading.{got_unready, got_full, got_one, got_end, got_stop, taken_stands, full_stands, whole_stands, stopped_stands}
 use Rattle.flow_run.proofs.source.read_one.Goals as goal
 
 pub returns-then-not-has_room-clause-got : goal.returns-then-not-has_room-clause-got
@@ -39,3 +39,19 @@ returns-in-Err-clause-got g c =
     let clauses = c.in-Err.ensures in
     got_stop _ _ _ _ _ _ (record { name = clauses.name; format = clauses.format; most = refl }) refl c.in-Err.stop c.next.new.into room.heads room.batch c.requires.begins
     (ap Some c.behind_at.ensures) (clauses.stands _) refl clauses.answer
+
+pub returns-then-source-clause-stands : goal.returns-then-source-clause-stands
+returns-then-source-clause-stands g c told =
+    let clauses = rw c.in-Ok-Some.field-0-is at c.in-Ok-Some.ensures in
+    full_stands c.args.source.now _ _ (c.requires.amid told) c.in-Ok-Some.head c.next.new.into _ refl c.if-source.true refl (clauses.answer told)
+
+pub returns-in-Ok-None-clause-stands : goal.returns-in-Ok-None-clause-stands
+returns-in-Ok-None-clause-stands g c told =
+    let clauses = rw c.in-Ok-None.field-0-is at c.in-Ok-None.ensures in
+    whole_stands c.args.source.now _ _ (c.requires.amid told) refl c.requires.within refl (clauses.answer told)
+
+pub returns-in-Err-clause-stands : goal.returns-in-Err-clause-stands
+returns-in-Err-clause-stands g c told =
+    let clauses = c.in-Err.ensures in
+    stopped_stands c.args.source.now _ _ (c.requires.amid told) c.in-Err.stop c.next.new.into _ (ap Some c.behind_at.ensures) clauses.format (clauses.stands _) refl refl c.requires.within
+    (clauses.answer told)
