@@ -12,15 +12,16 @@ ghost use Rattle.call_report.specs.Printing.{HandsOn, Printed};
 ghost use Rattle.netlabel_run.specs.inside.Stopping.{stop_line, stop_status};
 
 use call_report::{Report, Status, packets_limit, write_capture, write_packet, write_packets_end};
+use capture_reader::{CaptureReader, FileFault, ReadStop};
 use mls_label::{Label, OutOfMemory};
 use net_io::{Depot, IoFault, Sink};
-use pcap_frames::{CaptureFault, FrameStop, Frames};
+use packet_walk::{Octets, PacketIn};
 use std::alloc::Global;
 
 /// The most packets that one call reads.
 const PACKETS_LIMIT: u64 = 1_048_576;
 
-/// Prints what each packet of a capture carries. One record is held at a time, in memory that is kept from record to record.
+/// Prints what each packet of a capture carries. One packet is held at a time, in memory that is kept from packet to packet.
 pub(crate) fn show<D: Depot, S: Sink>(
     alloc: Global,
     file: &str,
@@ -33,15 +34,18 @@ pub(crate) fn show<D: Depot, S: Sink>(
         (status_number result) [] }
 {
     let mut report = Report::new(alloc);
-    let mut frames = match Frames::begin(alloc, depot, file) {
-        Ok(frames) => frames,
+    let mut reader = match CaptureReader::begin(alloc, depot, file) {
+        Ok(reader) => reader,
         Err(stop) => return end_stopped(alloc, report, stop, out),
     };
-    let mut octets = Vec::new(alloc);
+    let mut packet = PacketIn {
+        bytes: Octets::of(Vec::new(alloc)),
+        is_ip: false,
+    };
     let mut label = Label::lowest();
     let mut shown: u64 = 0;
     loop {
-        match frames.next(depot, &mut octets) {
+        match reader.next(depot, &mut packet) {
             Ok(Some(_head)) => {}
             Ok(None) => return end_whole(report, shown, out),
             Err(stop) => return end_stopped(alloc, report, stop, out),
@@ -50,7 +54,7 @@ pub(crate) fn show<D: Depot, S: Sink>(
             return report.end(out, packets_limit(), Status::Limit);
         }
         shown += 1;
-        match add_packet(&mut report, shown, frames.link(), &octets, &mut label, out) {
+        match add_packet(&mut report, shown, &packet, &mut label, out) {
             Ok(()) => {}
             Err(fault) => return Status::after_write(fault),
         }
@@ -61,16 +65,15 @@ pub(crate) fn show<D: Depot, S: Sink>(
 fn add_packet<S: Sink>(
     report: &mut Report,
     number: u64,
-    link: u32,
-    frame: &[u8],
+    packet: &PacketIn,
     label: &mut Label,
     out: &mut S,
 ) -> Result<(), IoFault>
-    ensures { (text : List ℕ) × IsShown link frame.now text
+    ensures { (text : List ℕ) × IsShown packet.now text
         × HandsOn (shown_line number text) report.old.waiting.items report.new.waiting.items
         result (S.state out.old) (S.state out.new) }
 {
-    match write_packet(number, link, frame, label, &mut report.waiting) {
+    match write_packet(number, packet, label, &mut report.waiting) {
         Ok(()) => report.pass(out),
         Err(OutOfMemory) => Err(IoFault::OutOfMemory),
     }
@@ -89,19 +92,20 @@ fn end_whole<S: Sink>(report: Report, count: u64, out: &mut S) -> Status
 }
 
 /// Ends the report of a capture whose reader has stopped.
-fn end_stopped<S: Sink>(alloc: Global, report: Report, stop: FrameStop, out: &mut S) -> Status
+fn end_stopped<S: Sink>(alloc: Global, report: Report, stop: ReadStop, out: &mut S) -> Status
     ensures { Printed report.waiting.items (stop_line stop) (stop_status stop) result
         (S.state out.old) (S.state out.new) }
 {
     match stop {
-        FrameStop::Capture(fault) => end_broken(alloc, report, fault, out),
-        FrameStop::ReadFault => report.end(out, b"", Status::ReadFault),
-        FrameStop::OutOfMemory => report.end(out, b"", Status::OutOfMemory),
+        ReadStop::Capture(fault) => end_broken(alloc, report, FileFault::Pcap(fault), out),
+        ReadStop::Ng(fault) => end_broken(alloc, report, FileFault::Pcapng(fault), out),
+        ReadStop::ReadFault => report.end(out, b"", Status::ReadFault),
+        ReadStop::OutOfMemory => report.end(out, b"", Status::OutOfMemory),
     }
 }
 
 /// Ends the report of a capture that is broken, with its fault.
-fn end_broken<S: Sink>(alloc: Global, report: Report, fault: CaptureFault, out: &mut S) -> Status
+fn end_broken<S: Sink>(alloc: Global, report: Report, fault: FileFault, out: &mut S) -> Status
     ensures { Printed report.waiting.items (capture_line 1 fault) Status.WrongCapture result
         (S.state out.old) (S.state out.new) }
 {

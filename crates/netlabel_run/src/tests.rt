@@ -1,6 +1,6 @@
 //! Worked words and failing calls, over a folder and a stream in memory; packets stand in `packets`, captures in
-//! `captures`, those that are made in `making`, scripts in `scripts`, hops that are compared in
-//! `agreement`, flows that run in `flows` and `gates`.
+//! `captures`, those of the pcapng format in `pcapng`, one in both formats in `three`, those that are made in `making`, scripts in `scripts`,
+//! hops that are compared in `agreement`, flows that run in `flows` and `gates`.
 
 mod agreement;
 mod captures;
@@ -8,7 +8,9 @@ mod flows;
 mod gates;
 mod making;
 mod packets;
+mod pcapng;
 mod scripts;
+mod three;
 
 use crate::top::netlabel;
 use label_flow::OpenGate;

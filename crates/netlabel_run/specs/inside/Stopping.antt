@@ -1,21 +1,24 @@
 -- How a call ends whose reader has stopped.
 use Rattle.std.specs.Prelude.{ℕ, List, []}
-use Rattle.pcap_frames.specs.declared.fault.FrameStop.{FrameStop}
-use Rattle.pcap_frames.specs.declared.fault.FrameStop.TheVariants as stop
+use Rattle.capture_reader.specs.declared.fault.FileFault.TheVariants.{Pcap, Pcapng}
+use Rattle.capture_reader.specs.declared.fault.ReadStop.{ReadStop}
+use Rattle.capture_reader.specs.declared.fault.ReadStop.TheVariants as stop
 use Rattle.call_report.specs.declared.status.Status.{Status}
 use Rattle.call_report.specs.declared.status.Status.TheVariants.{WrongScript, WrongCapture, ReadFault, OutOfMemory, Limit}
 use Rattle.label_commands.specs.declared.stop.ScriptStop.{ScriptStop}
 use Rattle.label_commands.specs.declared.stop.ScriptStop.TheVariants as script
 use Rattle.call_report.specs.Lines.Capture.{capture_line}
 
-abbrev pub stop_status : FrameStop → Status
+abbrev pub stop_status : ReadStop → Status
 stop_status (stop.Capture fault) = WrongCapture
+stop_status (stop.Ng fault) = WrongCapture
 stop_status stop.ReadFault = ReadFault
 stop_status stop.OutOfMemory = OutOfMemory
 
 -- the line of the event, where it is one
-abbrev pub stop_line : FrameStop → List ℕ
-stop_line (stop.Capture fault) = capture_line 1 fault
+abbrev pub stop_line : ReadStop → List ℕ
+stop_line (stop.Capture fault) = capture_line 1 (Pcap fault)
+stop_line (stop.Ng fault) = capture_line 1 (Pcapng fault)
 stop_line stop.ReadFault = []
 stop_line stop.OutOfMemory = []
 

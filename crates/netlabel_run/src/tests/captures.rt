@@ -1,12 +1,14 @@
-//! Captures shown: both magics, both orders of octets, each link type, a tag of IEEE 802.1Q; captures cut at each octet, and calls that
-//! fail. The octets are made by hand from the libpcap file format.
+//! Captures shown: both magics, both orders of octets, each link type, a tag of IEEE 802.1Q, made by hand from the libpcap file format;
+//! captures of both formats that are cut at each octet, each of their faults, and calls that fail.
 
 use super::packets::{LABELLED_4, LABELLED_6, PLAIN_4, TWICE_4};
+use super::three::{BOTH, Change, Three};
 use super::{answers, folder};
 use std::alloc::{AllocError, Global};
 use std::process::Abort;
 use std::sync::Wait;
 use std::thread::Threads;
+use worked_values::octets_of;
 
 /// `LABELLED_4` with a wrong checksum.
 const BROKEN_4: [u8; 40] = [
@@ -102,7 +104,7 @@ fn capture(
 }
 
 /// Whether `show` on this file ends with this status and prints this report.
-fn shows<R: Abort + Threads + Wait + Sync>(
+pub fn shows<R: Abort + Threads + Wait + Sync>(
     rt: &R,
     alloc: Global,
     file: &[u8],
@@ -144,20 +146,24 @@ fn shows_frames_of_each_link_type(rt: HostRuntime) {
     }
 }
 
-/// Three packets without a label, link type 101.
-const THREE: [Case; 3] = [
-    (b"", &PLAIN_4, "unlbl"),
-    (b"", &PLAIN_4, "unlbl"),
-    (b"", &PLAIN_4, "unlbl"),
-];
-
+/// What is printed of three packets without a label.
 const LINES: &str = "packet 1 unlbl\npacket 2 unlbl\npacket 3 unlbl\n";
 
-/// The report of so many octets of that capture, and the status.
-fn cut_report(alloc: Global, octets: usize) -> Result<(u8, String), AllocError> {
-    let shown = octets.saturating_sub(24) / 44;
-    let lines = LINES.get(..15 * shown.min(3)).unwrap_or("");
-    if octets == 24 || octets == 68 || octets == 112 || octets == 156 {
+/// The lines of so many of them.
+fn lines_of(packets: usize) -> &'static str {
+    LINES.get(..15 * packets.min(3)).unwrap_or("")
+}
+
+/// The octets of a capture of three packets.
+fn octets_in(rt: &impl Abort, alloc: Global, three: &Three) -> Vec<u8> {
+    octets_of(alloc, three.digits).expect(rt, "there is memory")
+}
+
+/// The status and the report of so many octets of that capture.
+fn cut_report(alloc: Global, three: &Three, octets: usize) -> Result<(u8, String), AllocError> {
+    let shown = three.packets_in(octets);
+    let lines = lines_of(shown);
+    if three.is_whole(octets) {
         Ok((0, format!(in alloc; "{lines}end packets {shown}\n")?))
     } else {
         Ok((
@@ -167,87 +173,102 @@ fn cut_report(alloc: Global, octets: usize) -> Result<(u8, String), AllocError> 
     }
 }
 
-/// Whether these first octets of that capture are shown.
-fn shows_cut<R: Abort + Threads + Wait + Sync>(rt: &R, alloc: Global, file: &[u8]) -> bool {
-    let (status, report) = cut_report(alloc, file.len()).expect(rt, "there is memory");
-    shows(rt, alloc, file, 4096, status, report.as_str().as_bytes())
+/// Whether so many octets of that capture are shown up to their end.
+fn shows_cut<R: Abort + Threads + Wait + Sync>(
+    rt: &R,
+    alloc: Global,
+    three: &Three,
+    octets: usize,
+) -> bool {
+    let file = octets_in(rt, alloc, three);
+    let part = file.get(..octets).unwrap_or(&[]);
+    let (status, report) = cut_report(alloc, three, octets).expect(rt, "there is memory");
+    shows(rt, alloc, part, 4096, status, report.as_str().as_bytes())
 }
 
-// The whole capture has 156 octets: 24, and 44 for each packet.
 #[test]
 fn shows_a_cut_capture_up_to_its_end(rt: HostRuntime) {
-    let alloc = rt.alloc();
-    let (file, _) = capture(alloc, true, false, 101, &THREE).expect(&rt, "there is memory");
-    assert_eq!(rt; file.len(), 156);
-    for n in 0..157usize {
-        assert!(rt; shows_cut(&rt, alloc, &file[..n]), "of {n} octets");
+    for three in BOTH {
+        for octets in 0..=three.length_of(3) {
+            assert!(rt;
+                shows_cut(&rt, rt.alloc(), &three, octets),
+                "of {octets} octets"
+            );
+        }
     }
 }
 
-/// Octets that are changed in that capture, and its report.
-const CHANGES: [(usize, u8, &str); 6] = [
-    (0, 0xd5, "capture 1 octet 0 Magic\n"),
-    (4, 1, "capture 1 octet 4 Version\n"),
-    (20, 113, "capture 1 octet 20 LinkType\n"),
-    (34, 5, "capture 1 octet 32 Captured\n"),
-    (36, 29, "capture 1 octet 32 SnapCut\n"),
-    (80, 29, "packet 1 unlbl\ncapture 1 octet 76 SnapCut\n"),
-];
-
-/// Whether `show` tells this of that capture with an octet changed.
+/// Whether `show` tells the fault of that capture with an octet changed.
 fn shows_changed<R: Abort + Threads + Wait + Sync>(
     rt: &R,
     alloc: Global,
-    octet: usize,
-    value: u8,
-    report: &str,
+    three: &Three,
+    change: &Change,
 ) -> bool {
-    let (mut file, _) = capture(alloc, true, false, 101, &THREE).expect(rt, "there is memory");
+    let (octet, value, packets, told) = *change;
+    let mut file = octets_in(rt, alloc, three);
     if let Some(changed) = file.get_mut(octet) {
         *changed = value;
     }
-    shows(rt, alloc, &file, 9, 5, report.as_bytes())
+    let lines = lines_of(packets);
+    let report = format!(in alloc; "{lines}capture 1 {told}\n").expect(rt, "there is memory");
+    shows(rt, alloc, &file, 9, 5, report.as_str().as_bytes())
 }
 
 #[test]
 fn tells_the_first_fault_of_a_capture(rt: HostRuntime) {
-    let alloc = rt.alloc();
-    for (octet, value, report) in CHANGES {
-        assert!(rt;
-            shows_changed(&rt, alloc, octet, value, report),
-            "with {octet} as {value}"
-        );
+    for three in BOTH {
+        for change in three.changes {
+            let (octet, value, _, _) = *change;
+            assert!(rt;
+                shows_changed(&rt, rt.alloc(), &three, change),
+                "with {octet} as {value}"
+            );
+        }
     }
 }
 
-/// How many octets of that capture there are, which read and which write fails (0: none), the status, and how many octets of the report
-/// are printed. All is read and written by sevens: 24 reads find the file's end, the 25th finds it again behind the last packet.
-const FAILURES: [(usize, u32, u32, u8, usize); 13] = [
-    (156, 1, 0, 3, 0),
-    (156, 24, 0, 3, 0),
-    (156, 25, 0, 3, 45),
-    (156, 26, 0, 0, 59),
-    (156, 0, 1, 4, 0),
-    (156, 0, 9, 4, 56),
-    (156, 0, 10, 0, 59),
-    (156, 25, 3, 4, 14),
-    (150, 0, 1, 4, 0),
-    (150, 0, 5, 4, 28),
-    (150, 0, 6, 5, 30),
-    (150, 0, 9, 5, 51),
-    (150, 0, 10, 5, 56),
+/// How many octets of a capture there are, which write fails (0: none), the status, and how many octets of the report are printed. All is
+/// written by sevens.
+type Failure = (usize, u32, u8, usize);
+
+/// Of the whole capture, and of one that is cut in its third packet.
+const FAILURES: [[Failure; 8]; 2] = [
+    [
+        (156, 1, 4, 0),
+        (156, 9, 4, 56),
+        (156, 10, 0, 59),
+        (150, 1, 4, 0),
+        (150, 5, 4, 28),
+        (150, 6, 5, 30),
+        (150, 9, 5, 51),
+        (150, 10, 5, 56),
+    ],
+    [
+        (240, 1, 4, 0),
+        (240, 9, 4, 56),
+        (240, 10, 0, 59),
+        (234, 1, 4, 0),
+        (234, 5, 4, 28),
+        (234, 6, 5, 30),
+        (234, 9, 5, 51),
+        (234, 10, 5, 56),
+    ],
 ];
 
-/// Whether so many octets of that capture's report are printed, with this status, where these calls fail.
+/// Whether so many octets of that capture's report are printed, with this status, where the read and the write of these numbers fail
+/// (0: none).
 fn shows_up_to<R: Abort + Threads + Wait + Sync>(
     rt: &R,
     alloc: Global,
-    case: (usize, u32, u32, u8, usize),
+    three: &Three,
+    read: u32,
+    failure: &Failure,
 ) -> bool {
-    let (length, read, write, status, count) = case;
-    let (file, _) = capture(alloc, true, false, 101, &THREE).expect(rt, "there is memory");
+    let (length, write, status, count) = *failure;
+    let file = octets_in(rt, alloc, three);
     let part = file.get(..length).unwrap_or(&[]);
-    let (_, report) = cut_report(alloc, length).expect(rt, "there is memory");
+    let (_, report) = cut_report(alloc, three, length).expect(rt, "there is memory");
     let printed = report.as_str().get(..count).unwrap_or("none");
     let mut depot = folder(rt, alloc, read, 7, "c.pcap", part);
     answers(
@@ -262,13 +283,41 @@ fn shows_up_to<R: Abort + Threads + Wait + Sync>(
 }
 
 #[test]
-fn tells_calls_that_fail_in_mid_capture(rt: HostRuntime) {
+fn tells_writes_that_fail(rt: HostRuntime) {
+    for (three, failures) in BOTH.iter().zip(&FAILURES) {
+        for failure in failures {
+            let (length, write, _, _) = *failure;
+            assert!(rt;
+                shows_up_to(&rt, rt.alloc(), three, 0, failure),
+                "of {length} octets, at write {write}"
+            );
+        }
+    }
+}
+
+/// How many reads of that capture there are, each of which is told where it fails: in front of the first line, or behind the last one.
+fn reads_that_fail<R: Abort + Threads + Wait + Sync>(rt: &R, alloc: Global, three: &Three) -> u32 {
+    let length = three.length_of(3);
+    for read in 1..100u32 {
+        if shows_up_to(rt, alloc, three, read, &(length, 0, 0, 59)) {
+            return read - 1;
+        }
+        let first = shows_up_to(rt, alloc, three, read, &(length, 0, 3, 0));
+        let last = shows_up_to(rt, alloc, three, read, &(length, 0, 3, 45));
+        assert!(rt; first || last, "at read {read}");
+    }
+    0
+}
+
+// All is read by sevens, and the end of the file is read once more behind the last packet; there a write that fails comes first.
+#[test]
+fn tells_reads_that_fail(rt: HostRuntime) {
     let alloc = rt.alloc();
-    for case in FAILURES {
-        let (length, read, write, _, _) = case;
-        assert!(rt;
-            shows_up_to(&rt, alloc, case),
-            "of {length} octets, at read {read}, write {write}"
-        );
+    for three in BOTH {
+        let last = reads_that_fail(&rt, alloc, &three);
+        let length = three.length_of(3);
+        assert!(rt; last as usize > length / 7);
+        assert!(rt; shows_up_to(&rt, alloc, &three, last, &(length, 0, 3, 45)));
+        assert!(rt; shows_up_to(&rt, alloc, &three, last, &(length, 3, 4, 14)));
     }
 }

@@ -1,6 +1,7 @@
-//! Flows of scripts that run: worked scripts with their reports and captures, a capture cut at each octet, and calls that fail. Packets
-//! are made by hand from RFC 791, RFC 8200, FIPS 188 and RFC 5570, their checksums by RFC 1071 and RFC 1624.
+//! Flows of scripts that run: worked scripts with their reports and captures, captures of both formats cut at each octet, each of their
+//! faults, and calls that fail. Packets are made by hand from RFC 791, RFC 8200, FIPS 188 and RFC 5570, their checksums by RFC 1071 and RFC 1624.
 
+use super::three::{BOTH, Change, Three};
 use super::{USAGE, words_of};
 use crate::outcome::Outcome;
 use crate::top::netlabel;
@@ -435,13 +436,6 @@ command 3 r done
 command 4 r done
 ";
 
-/// Three of its packets, whose capture has 156 octets.
-pub const THREE: &str =
-    "d4c3b2a1020004000000000000000000000004006500000001000000000000001c0000001c0000004500001c00004000
-401126cf0a0000010a00000203e800350008e7be02000000000000001c0000001c0000004500001c00004000401126cf
-0a0000010a00000203e800350008e7be03000000000000001c0000001c0000004500001c00004000401126cf0a000001
-0a00000203e800350008e7be";
-
 const DELIVERED: &str = "packet 1.1 delivered s1:c2 to 10.0.0.2 versions 4
 packet 1.2 delivered s1:c2 to 10.0.0.2 versions 4
 packet 1.3 delivered s1:c2 to 10.0.0.2 versions 4
@@ -478,7 +472,8 @@ pub fn call<G: Gate + Sync, R: Threads + Wait + Sync + Abort>(
     }
 }
 
-fn put(rt: &impl Abort, depot: &mut MemoryDepot, name: &str, octets: &[u8]) {
+/// Puts a file into a folder.
+pub fn put(rt: &impl Abort, depot: &mut MemoryDepot, name: &str, octets: &[u8]) {
     depot.put(name, octets).expect(rt, "there is memory");
 }
 
@@ -505,7 +500,7 @@ fn whole_folder(rt: &impl Abort, alloc: Global, script: &str) -> MemoryDepot {
 }
 
 /// The status and the report, as a case has them.
-fn text_of(rt: &impl Abort, alloc: Global, ran: &Ran) -> String {
+pub fn text_of(rt: &impl Abort, alloc: Global, ran: &Ran) -> String {
     let status = ran.status;
     let printed = from_utf8(&ran.printed).expect(rt, "a text");
     format!(in alloc; "{status}\n{printed}").expect(rt, "there is memory")
@@ -531,7 +526,7 @@ fn runs_scripts(rt: HostRuntime) {
 }
 
 /// What a file of the folder holds is what these lines in hexadecimal say.
-fn holds(rt: &impl Abort, alloc: Global, ran: &Ran, name: &str, text: &str) -> bool {
+pub fn holds(rt: &impl Abort, alloc: Global, ran: &Ran, name: &str, text: &str) -> bool {
     let octets = ran.depot.get(name).expect(rt, "a file");
     octets
         == octets_of(alloc, text)
@@ -539,12 +534,12 @@ fn holds(rt: &impl Abort, alloc: Global, ran: &Ran, name: &str, text: &str) -> b
             .as_slice()
 }
 
-/// The script of the second case of the table, whose flow has an output.
-fn forwarding(rt: &impl Abort) -> &'static str {
+/// The script of the second case of the table, whose flow has an output, with its status and report.
+pub fn forwarding(rt: &impl Abort) -> (&'static str, &'static str) {
     let case = RUNS.split("\n\n").nth(1).expect(rt, "a case");
-    let (asked, _) = case.split_once("\n--\n").expect(rt, "a case");
+    let (asked, wanted) = case.split_once("\n--\n").expect(rt, "a case");
     let (_, script) = asked.split_once('\n').expect(rt, "a script");
-    script
+    (script, wanted)
 }
 
 #[test]
@@ -560,7 +555,8 @@ fn makes_captures(rt: HostRuntime) {
     assert!(rt; flows.len() == 2 && flows[0].len() == 1 && flows[1].len() == 1);
     assert!(rt; flows[0].packet(0) == [15, 15, 15, 15].as_slice());
     assert!(rt; flows[1].packet(0) == [15, 15].as_slice());
-    let depot = whole_folder(&rt, alloc, forwarding(&rt));
+    let (script, _) = forwarding(&rt);
+    let depot = whole_folder(&rt, alloc, script);
     let ran = call(&rt, alloc, "run s -w 3", depot, 0, &OpenGate);
     assert!(rt; holds(&rt, alloc, &ran, "o.pcap", FORWARDED));
 }
@@ -570,12 +566,16 @@ pub fn with_line(rt: &impl Abort, alloc: Global, line: &str) -> String {
     format!(in alloc; "{ONE_LABEL}{line}\n").expect(rt, "there is memory")
 }
 
+/// The lines of so many of the three packets.
+fn delivered(packets: usize) -> &'static str {
+    DELIVERED.get(..50 * packets.min(3)).unwrap_or("")
+}
+
 /// The status and the report with a capture of so many octets.
-fn cut_report(rt: &impl Abort, alloc: Global, octets: usize) -> String {
-    let count = octets.saturating_sub(24) / 44;
-    let lines = DELIVERED.get(..50 * count.min(3)).expect(rt, "lines");
-    let whole = octets == 24 || octets == 68 || octets == 112 || octets == 156;
-    let text = if whole {
+fn cut_report(rt: &impl Abort, alloc: Global, three: &Three, octets: usize) -> String {
+    let count = three.packets_in(octets);
+    let lines = delivered(count);
+    let text = if three.is_whole(octets) {
         format!(in alloc;
             "0\n{ONE_LABEL_REPLIES}flow 1 one.pcap\n{lines}end 1 packets {count} passed {count} denied 0\ndone\n"
         )
@@ -587,41 +587,106 @@ fn cut_report(rt: &impl Abort, alloc: Global, octets: usize) -> String {
     text.expect(rt, "there is memory")
 }
 
-#[test]
-fn runs_a_cut_capture_up_to_its_end(rt: HostRuntime) {
-    let alloc = rt.alloc();
-    let script = with_line(&rt, alloc, "flow one.pcap - receive:r,eth0");
-    let three = octets_of(alloc, THREE).expect(&rt, "there is memory");
-    assert_eq!(rt; three.len(), 156);
-    for octets in 0..157usize {
-        let mut depot = folder(&rt, alloc, script.as_str(), 0);
-        put(&rt, &mut depot, "one.pcap", &three[..octets]);
-        let ran = call(&rt, alloc, "run s", depot, 0, &OpenGate);
-        let wanted = cut_report(&rt, alloc, octets);
-        assert_eq!(rt;
-            text_of(&rt, alloc, &ran).as_str(),
-            wanted.as_str(),
-            "of {octets} octets"
-        );
-    }
+/// The octets of a capture of three packets.
+fn octets_in(rt: &impl Abort, alloc: Global, three: &Three) -> Vec<u8> {
+    octets_of(alloc, three.digits).expect(rt, "there is memory")
 }
 
-/// The worked script with an output, where the call of this number to the folder fails, and the write of this number.
-fn failing<R: Threads + Wait + Sync + Abort>(rt: &R, alloc: Global, fails: u32, write: u32) -> Ran {
+/// The worked script with an output, over this capture, where the call of this number to the folder fails, and the write of this number.
+fn passing<R: Threads + Wait + Sync + Abort>(
+    rt: &R,
+    alloc: Global,
+    capture: &[u8],
+    fails: u32,
+    write: u32,
+) -> Ran {
     let script = with_line(rt, alloc, "flow one.pcap o.pcap receive:r,eth0");
     let mut depot = folder(rt, alloc, script.as_str(), fails);
-    let three = octets_of(alloc, THREE).expect(rt, "there is memory");
-    put(rt, &mut depot, "one.pcap", &three);
+    put(rt, &mut depot, "one.pcap", capture);
     call(rt, alloc, "run s", depot, write, &OpenGate)
 }
 
+/// Whether the output is a capture of so many of the three packets, or there is none where the capture's beginning is broken.
+fn passed(rt: &impl Abort, alloc: Global, ran: &Ran, three: &Three, packets: usize) -> bool {
+    let octets = octets_in(rt, alloc, three);
+    ran.depot.get("o.pcap") == octets.get(..three.length_of(packets))
+}
+
+/// Whether this report and this output are left of so many octets of that capture.
+fn runs_cut<R: Threads + Wait + Sync + Abort>(
+    rt: &R,
+    alloc: Global,
+    three: &Three,
+    octets: usize,
+) -> bool {
+    let capture = octets_in(rt, alloc, three);
+    let ran = passing(rt, alloc, capture.get(..octets).unwrap_or(&[]), 0, 0);
+    let text = text_of(rt, alloc, &ran);
+    let wanted = cut_report(rt, alloc, three, octets);
+    let made = if octets < three.beginning() {
+        ran.depot.get("o.pcap").is_none()
+    } else {
+        passed(rt, alloc, &ran, three, three.packets_in(octets))
+    };
+    made && text.as_str() == wanted.as_str()
+}
+
+#[test]
+fn runs_a_cut_capture_up_to_its_end(rt: HostRuntime) {
+    for three in BOTH {
+        for octets in 0..=three.length_of(3) {
+            assert!(rt;
+                runs_cut(&rt, rt.alloc(), &three, octets),
+                "of {octets} octets"
+            );
+        }
+    }
+}
+
+/// Whether the fault of that capture with an octet changed is told behind the packets in front of it, which pass.
+fn runs_changed<R: Threads + Wait + Sync + Abort>(
+    rt: &R,
+    alloc: Global,
+    three: &Three,
+    change: &Change,
+) -> bool {
+    let (octet, value, packets, told) = *change;
+    let mut capture = octets_in(rt, alloc, three);
+    if let Some(changed) = capture.get_mut(octet) {
+        *changed = value;
+    }
+    let ran = passing(rt, alloc, &capture, 0, 0);
+    let lines = delivered(packets);
+    let wanted = format!(in alloc;
+        "5\n{ONE_LABEL_REPLIES}flow 1 one.pcap\n{lines}capture 1 {told}\n"
+    ).expect(rt, "there is memory");
+    let made = if octet < three.beginning() {
+        ran.depot.get("o.pcap").is_none()
+    } else {
+        passed(rt, alloc, &ran, three, packets)
+    };
+    made && text_of(rt, alloc, &ran).as_str() == wanted.as_str()
+}
+
+#[test]
+fn tells_the_first_fault_of_a_capture(rt: HostRuntime) {
+    for three in BOTH {
+        for change in three.changes {
+            let (octet, value, _, _) = *change;
+            assert!(rt;
+                runs_changed(&rt, rt.alloc(), &three, change),
+                "with {octet} as {value}"
+            );
+        }
+    }
+}
+
 /// The report is some first octets of the whole one, and so is the output.
-fn is_a_beginning(rt: &impl Abort, alloc: Global, ran: &Ran) -> bool {
-    let whole = cut_report(rt, alloc, 156);
+fn is_a_beginning(rt: &impl Abort, alloc: Global, three: &Three, ran: &Ran) -> bool {
+    let whole = cut_report(rt, alloc, three, three.length_of(3));
     let whole = whole.as_str().strip_prefix("0\n").expect(rt, "a status");
-    let three = octets_of(alloc, THREE).expect(rt, "there is memory");
     whole.as_bytes().starts_with(&ran.printed)
-        && three.starts_with(ran.depot.get("o.pcap").unwrap_or(&[]))
+        && octets_in(rt, alloc, three).starts_with(ran.depot.get("o.pcap").unwrap_or(&[]))
 }
 
 /// As many packets have versions as have a line.
@@ -635,48 +700,59 @@ fn all_seen_are_printed(rt: &impl Abort, ran: &Ran) -> bool {
     lines.count() == seen
 }
 
-#[test]
-fn tells_each_call_that_fails(rt: HostRuntime) {
-    let alloc = rt.alloc();
-    let mut met = 0;
+/// How many calls to the folder there are, each of which is told where it fails.
+fn calls_that_fail<R: Threads + Wait + Sync + Abort>(rt: &R, alloc: Global, three: &Three) -> u32 {
+    let capture = octets_in(rt, alloc, three);
     for number in 1..1000u32 {
-        let ran = failing(&rt, alloc, number, 0);
+        let ran = passing(rt, alloc, &capture, number, 0);
         let status = match ran.depot.failed() {
             Some(DepotCall::Append) => 4,
             Some(_) => 3,
             None => 0,
         };
         assert_eq!(rt; ran.status, status, "at call {number}");
-        assert!(rt; is_a_beginning(&rt, alloc, &ran), "at call {number}");
+        assert!(rt; is_a_beginning(rt, alloc, three, &ran), "at call {number}");
         assert!(rt;
-            status == 4 || all_seen_are_printed(&rt, &ran),
+            status == 4 || all_seen_are_printed(rt, &ran),
             "at call {number}"
         );
         if status == 0 {
-            break;
+            return number - 1;
         }
-        met = number;
     }
-    // The script and the capture are read, and the output is written, by sevens.
-    assert!(rt; met > 60 && met < 999);
+    0
+}
+
+#[test]
+fn tells_each_call_that_fails(rt: HostRuntime) {
+    for three in BOTH {
+        // The script and the capture are read, and the output is written, by sevens.
+        assert!(rt; calls_that_fail(&rt, rt.alloc(), &three) > 60);
+    }
+}
+
+/// How many writes of the report there are, each of which is told where it fails.
+fn writes_that_fail<R: Threads + Wait + Sync + Abort>(rt: &R, alloc: Global, three: &Three) -> u32 {
+    let capture = octets_in(rt, alloc, three);
+    for number in 1..1000u32 {
+        let ran = passing(rt, alloc, &capture, 0, number);
+        assert!(rt; is_a_beginning(rt, alloc, three, &ran), "at write {number}");
+        if ran.status == 0 {
+            return number - 1;
+        }
+        assert_eq!(rt; ran.status, 4, "at write {number}");
+        assert!(rt; number > 1 || ran.printed.is_empty());
+    }
+    0
 }
 
 #[test]
 fn tells_each_write_that_fails(rt: HostRuntime) {
     let alloc = rt.alloc();
-    let mut met = 0;
-    for number in 1..1000u32 {
-        let ran = failing(&rt, alloc, 0, number);
-        assert!(rt; is_a_beginning(&rt, alloc, &ran), "at write {number}");
-        if ran.status == 0 {
-            break;
-        }
-        assert_eq!(rt; ran.status, 4, "at write {number}");
-        assert!(rt; number > 1 || ran.printed.is_empty());
-        met = number;
+    for three in BOTH {
+        // The report has 273 octets.
+        assert_eq!(rt; writes_that_fail(&rt, alloc, &three), 39);
     }
-    // The report has 273 octets.
-    assert_eq!(rt; met, 39);
     // An event that came first keeps its status where its line isn't printed.
     let script = "node a\ncipsov4 add pass doi:0 tags:1";
     let ran = call(

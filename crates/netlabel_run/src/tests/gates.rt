@@ -2,7 +2,8 @@
 
 ghost use Rattle.std.specs.Prelude.{◌<◌};
 
-use super::flows::{ONE_LABEL_REPLIES, THREE, call, folder, with_line};
+use super::flows::{ONE_LABEL_REPLIES, call, folder, with_line};
+use super::three::DIGITS;
 use call_report::FlowSeen;
 use label_flow::{Gate, OpenGate};
 use octet_grammar::write_decimal;
@@ -120,7 +121,7 @@ fn a_look_finds_the_commands_before_it(rt: HostRuntime) {
 
 /// A capture with one packet again and again.
 fn repeated(rt: &impl Abort, alloc: Global, count: u32) -> Vec<u8> {
-    let three = octets_of(alloc, THREE).expect(rt, "there is memory");
+    let three = octets_of(alloc, DIGITS).expect(rt, "there is memory");
     let head = three.get(..24).expect(rt, "a head");
     let record = three.get(24..68).expect(rt, "a record");
     let mut capture = Vec::from_slice(alloc, head).expect(rt, "there is memory");
