@@ -162,16 +162,38 @@ def of_runs(runs):
     return frame
 
 
-def write_capture(path, frame, packets, seed):
+# --- captures ---------------------------------------------------------------------------------------------------------------------------------
+
+
+def little(*numbers):
+    return b"".join(number.to_bytes(4, "little") for number in numbers)
+
+
+def record(n, octets):
+    """The frame in a libpcap file, at second n."""
+    return little(n, n % 1000, len(octets), len(octets)) + octets
+
+
+def block(n, octets):
+    """The frame in a pcapng file, at second n: an enhanced packet block of interface 0, whose times are nanoseconds."""
+    padding, time = bytes(-len(octets) % 4), n * 10**9 + n % 1000
+    total = 32 + len(octets) + len(padding)
+    return little(6, total, 0, time >> 32, time & 0xFFFFFFFF, len(octets), len(octets)) + octets + padding + little(total)
+
+
+HEADER = little(0xA1B2C3D4, 4 << 16 | 2, 0, 0, 262144, 1)
+# A section header, and an Ethernet interface whose option 9 says nanoseconds.
+SECTION = little(0x0A0D0D0A, 28, 0x1A2B3C4D, 1, 0xFFFFFFFF, 0xFFFFFFFF, 28) + little(1, 32, 1, 262144, 1 << 16 | 9, 9, 0, 32)
+FORMATS = {"pcap": (HEADER, record), "pcapng": (SECTION, block)}
+
+
+def write_capture(path, frame, packets, seed, format="pcap"):
     """A capture of so many packets, each one of FRAMES that are made by `frame`."""
     chance = random.Random(seed)
-    records = []
-    for n in range(FRAMES):
-        octets = frame(chance)
-        size = len(octets).to_bytes(4, "little")
-        records.append(n.to_bytes(4, "little") + (n % 1000).to_bytes(4, "little") + size + size + octets)
+    head, written = FORMATS[format]
+    records = [written(n, frame(chance)) for n in range(FRAMES)]
     with path.open("wb") as file:
-        file.write(bytes.fromhex("d4c3b2a102000400000000000000000000000400" "01000000"))
+        file.write(head)
         while packets:
             count = min(packets, 50_000)
             file.write(b"".join(chance.choices(records, k=count)))

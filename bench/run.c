@@ -611,7 +611,7 @@ static void write_walked(uint64_t count, const struct walked *walked) {
 
 /* --- the captures --------------------------------------------------------------------------------------------------------------- */
 
-static uint8_t kept[PIECE + 16 + MOST_CAPTURED];
+static uint8_t kept[PIECE + MOST_WAITING];
 static size_t keeping;
 
 static void put_le(uint32_t n) {
@@ -623,22 +623,40 @@ static void hand_on(int output) {
     keeping = 0;
 }
 
-static void keep_head(int nanos) {
-    put_le(nanos ? 0xa1b23c4d : 0xa1b2c3d4);
-    put_le(0x00040002);
-    put_le(0);
-    put_le(0);
-    put_le(MOST_CAPTURED);
-    put_le(101);
+static void put_all(const uint32_t *numbers, int count) {
+    for (int i = 0; i < count; i++) put_le(numbers[i]);
 }
 
-static void keep(int output, uint32_t seconds, uint32_t fraction, const struct walked *walked) {
-    put_le(seconds);
-    put_le(fraction);
-    put_le(walked->length);
-    put_le(walked->length);
+/* The head of an output: the input's format and resolution, in pcapng nanoseconds, and raw IP. */
+static void keep_head(const struct capture *capture) {
+    static const uint32_t ng[] = {SECTION, 28, 0x1a2b3c4d, 1, -1, -1, 28, INTERFACE, 32, 101, MOST_CAPTURED, 1 << 16 | 9, 9, 0, 32};
+    uint32_t pcap[] = {capture->nanos ? 0xa1b23c4d : 0xa1b2c3d4, 0x00040002, 0, 0, MOST_CAPTURED, 101};
+    if (capture->is_ng) put_all(ng, 15);
+    else put_all(pcap, 6);
+}
+
+static void put_octets(const struct walked *walked) {
     memcpy(kept + keeping, walked->octets, walked->length);
     keeping += walked->length;
+}
+
+static void keep_record(const struct frame *frame, const struct walked *walked) {
+    put_all((uint32_t[]){frame->seconds, frame->fraction, walked->length, walked->length}, 4);
+    put_octets(walked);
+}
+
+static void keep_block(const struct frame *frame, const struct walked *walked) {
+    uint32_t length = walked->length, total = 32 + ((length + 3) & ~3u);
+    uint64_t nanos = frame->seconds * 1000000000ull + frame->fraction;
+    put_all((uint32_t[]){ENHANCED, total, 0, nanos >> 32, nanos, length, length}, 7);
+    put_octets(walked);
+    while (length++ % 4) kept[keeping++] = 0;
+    put_le(total);
+}
+
+static void keep(int output, const struct capture *capture, const struct frame *frame, const struct walked *walked) {
+    if (capture->is_ng) keep_block(frame, walked);
+    else keep_record(frame, walked);
     if (keeping >= PIECE) hand_on(output);
 }
 
@@ -660,11 +678,11 @@ static void broken(const struct capture *capture, int output) {
 }
 
 /* Opens a flow's output and writes its head; -1 where it has none. */
-static int open_output(const char *name, int nanos) {
+static int open_output(const char *name, const struct capture *capture) {
     if (strcmp(name, "-") == 0) return -1;
     int output = open(name, O_WRONLY | O_CREAT | O_TRUNC, 0666);
     if (output < 0) ended(3, output);
-    keep_head(nanos);
+    keep_head(capture);
     return output;
 }
 
@@ -692,23 +710,23 @@ static void end_flow(uint64_t count, uint64_t passed) {
 
 static void run_flow(const char *input, const char *output_name) {
     static struct capture capture;
+    struct frame frame;
     uint64_t count = 0, passed = 0;
-    int length;
     begin_flow(&capture, input);
-    int output = open_output(output_name, capture.nanos);
-    for (const uint8_t *record; (record = read_record(&capture, &length));) {
+    int output = open_output(output_name, &capture);
+    while (read_frame(&capture, &frame)) {
         if (packets++ == MOST_PACKETS) {
             text("limit packets 1048576");
             end_line();
             ended(7, output);
         }
-        const uint8_t *packet = ip_part(capture.link, record + 16, &length);
+        const uint8_t *packet = ip_part(frame.link, frame.octets, &frame.length);
         struct walked walked = {.denial = because(NOT_IP)};
-        if (packet) walked = walk(packet, length);
+        if (packet) walked = walk(packet, frame.length);
         write_walked(++count, &walked);
         if (walked.denial.why) continue;
         passed++;
-        if (output >= 0) keep(output, order_u32(record, capture.little), order_u32(record + 4, capture.little), &walked);
+        if (output >= 0) keep(output, &capture, &frame, &walked);
     }
     if (capture.fault) broken(&capture, output);
     close(capture.file);

@@ -15,9 +15,9 @@ runs            each packet is delivered with a label of so many runs of categor
 receivers       labelled packets to so many receivers with different levels
 other work      one hop and four while all processors but one are busy with other work
 
-Where a name has "output", what passed is written to a capture. Reports and outputs of C and of the program with 1, 2 and 4 workers are compared
-octet by octet first. A time is the least of several runs, the programs in turn, with the report thrown away; the process's start is in it. Memory
-is the most that the process held, and system calls are counted, both in runs of their own.
+Where a name has "output", what passed is written to a capture; where it has "pcapng", input and output are of that format. Reports and outputs of C
+and of the program with 1, 2 and 4 workers are compared octet by octet first. A time is the least of several runs, the programs in turn, with the
+report thrown away; the process's start is in it. Memory is the most that the process held, and system calls are counted, both in runs of their own.
 """
 import pathlib
 from typing import Callable, NamedTuple
@@ -31,13 +31,14 @@ WORKERS = PROGRAMS[1:]
 
 
 class Row(NamedTuple):
-    """A flow that is measured: its script, the frames of its capture, and the part of the packets that are asked for."""
+    """A flow that is measured: its script, the frames of its capture, the part of the packets that are asked for, and the capture's format."""
 
     name: str
     script: str
     frame: Callable
     part: int = 1
     has_other_work: bool = False
+    format: str = "pcap"
 
 
 # --- scripts and frames -----------------------------------------------------------------------------------------------------------------------
@@ -167,6 +168,7 @@ TRANSLATING = (shifted(16, 4), shifted(16, 4), shifted(17, 8, "2,5"))
 ROWS = [
     Row("one hop", receiving(), some_plain(30)),
     Row("one hop, output", receiving("out.pcap"), some_plain(30)),
+    Row("one hop, output, pcapng", receiving("out.pcap"), some_plain(30), format="pcapng"),
     Row("two hops", sending(), some_plain(75)),
     Row("two hops, output", sending("out.pcap"), some_plain(75)),
     Row("two hops translate, output", sending("out.pcap", TRANSLATING), some_plain(75)),
@@ -215,7 +217,7 @@ def measured(row, packets, runs, commands):
 def bench(row, asked, plain):
     pathlib.Path("script").write_text(row.script)
     packets = max(asked.packets // row.part, 1)
-    frames.write_capture(pathlib.Path("in.pcap"), row.frame, packets, 11)
+    frames.write_capture(pathlib.Path("in.pcap"), row.frame, packets, 11, row.format)
     commands = {"C": [plain, "script"]} | {count: [asked.program, "run", "script", "-w", count] for count in WORKERS}
     size = beside.compared(commands).report.stat().st_size
     cells = [row.name, *measured(row, packets, asked.runs, commands)]

@@ -1,6 +1,6 @@
 /* What `netlabel show` prints, as a plain C program: bench/show.py compares both reports and times.
 
-   It reads a capture of the libpcap file format, record by record, and prints a line for each packet: what its label option says
+   It reads a capture of the libpcap file format or of pcapng, frame by frame, and prints a line for each packet: what its label option says
    (CIPSO in IPv4, CALIPSO in IPv6), or the first octet at fault. Numbers are appended to a buffer by hand, as in the product. */
 #include "wire.h"
 
@@ -54,11 +54,11 @@ static int ended(int status) {
 
 int main(int argc, char **argv) {
     static struct capture capture;
+    struct frame frame;
     uint64_t shown = 0;
-    int length;
     if (argc != 2 || !open_capture(&capture, argv[1])) return 3;
     make_table();
-    for (const uint8_t *record; !capture.fault && (record = read_record(&capture, &length));) {
+    while (!capture.fault && read_frame(&capture, &frame)) {
         if (shown == MOST_PACKETS) {
             text("limit packets 1048576");
             return ended(7);
@@ -66,8 +66,8 @@ int main(int argc, char **argv) {
         text("packet ");
         number(++shown);
         text(" ");
-        const uint8_t *packet = ip_part(capture.link, record + 16, &length);
-        if (packet) show_packet(packet, length);
+        const uint8_t *packet = ip_part(frame.link, frame.octets, &frame.length);
+        if (packet) show_packet(packet, frame.length);
         else text("NotIp");
         end_line();
     }

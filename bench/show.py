@@ -5,7 +5,7 @@
 The program is the one that `./prove` proves and builds, or another build of it. A row is a capture of 1,000,000 packets, or of fewer where the lines of a
 report are long: a mix (CIPSO options of each tag type, CALIPSO options, packets without a label, broken headers and options, frames that aren't
 IP, some behind a VLAN tag), or packets whose labels have so many runs of categories each, in CIPSO's tag 1 up to 120, in CALIPSO up to 976, which is
-the most that an option can have. Both reports are compared octet by octet first. A time is the least of several runs, the two programs in turn, with the
+the most that an option can have. Captures are of the libpcap format, and where a name says so the same packets in pcapng. Both reports are compared octet by octet first. A time is the least of several runs, the two programs in turn, with the
 report thrown away; the process's start is in it. Memory is the most that the process held, and system calls are counted, both in runs of their own.
 """
 import pathlib
@@ -17,11 +17,12 @@ import scratch
 
 
 class Row(NamedTuple):
-    """A capture that is shown: its frames, and the part of the packets that are asked for."""
+    """A capture that is shown: its frames, the part of the packets that are asked for, and its format."""
 
     name: str
     frame: Callable
     part: int = 1
+    format: str = "pcap"
 
 
 ROWS = [
@@ -30,6 +31,8 @@ ROWS = [
     Row("120 runs", frames.of_runs(120), 5),
     Row("240 runs", frames.of_runs(240), 10),
     Row("976 runs", frames.of_runs(976), 50),
+    Row("mixed, pcapng", frames.mixed, format="pcapng"),
+    Row("2 runs, pcapng", frames.of_runs(2), format="pcapng"),
 ]
 
 
@@ -41,7 +44,7 @@ def cells_of_times(seconds, packets):
 def bench(row, asked, plain):
     capture = pathlib.Path("in.pcap")
     packets = max(asked.packets // row.part, 1)
-    frames.write_capture(capture, row.frame, packets, 7)
+    frames.write_capture(capture, row.frame, packets, 7, row.format)
     commands = {"C": [plain, capture], "show": [asked.program, "show", capture]}
     size = beside.compared(commands).report.stat().st_size
     took = beside.least(commands, asked.runs)

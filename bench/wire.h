@@ -321,19 +321,31 @@ static int read_header(const uint8_t *s, int length, struct packet *packet) {
 
 /* --- captures ------------------------------------------------------------------------------------------------------------- */
 
-/* A capture that is read: what its header says, how far it was read, what was at fault there, and octets that wait. */
+enum { SECTION = 0x0a0d0d0a, INTERFACE = 1, OBSOLETE = 2, SIMPLE = 3, ENHANCED = 6, MOST_WAITING = 32 + MOST_CAPTURED };
+
+/* A frame: its time, its link type and its octets, which stay until the next one is read. */
+struct frame { uint32_t seconds, fraction, link; const uint8_t *octets; int length; };
+struct interface { uint32_t link; int resolution; };
+
+/* A capture that is read: what its beginning says, how far it was read, what was at fault there, and octets that wait. */
 struct capture {
-    int file, little, nanos;
+    int file, is_ng, little, nanos;
     uint32_t link;
+    struct interface *interface;
+    size_t interfaces, room;
     uint64_t at;
     const char *fault;
     size_t next, end;
-    uint8_t octets[16 + MOST_CAPTURED + READ];
+    uint8_t octets[MOST_WAITING + READ];
 };
 
 static uint32_t order_u32(const uint8_t *s, int little) {
     return little ? s[0] | s[1] << 8 | s[2] << 16 | (uint32_t)s[3] << 24 : u32_at(s);
 }
+
+static uint32_t order_u16(const uint8_t *s, int little) { return little ? s[0] | (uint32_t)s[1] << 8 : u16_at(s); }
+
+static int is_link(uint32_t link) { return link == 1 || link == 101 || link == 228 || link == 229; }
 
 /* How many octets wait, up to so many that are wanted: fewer where the file ends. */
 static size_t fetch(struct capture *capture, size_t wanted) {
@@ -349,17 +361,25 @@ static size_t fetch(struct capture *capture, size_t wanted) {
     return capture->end - capture->next < wanted ? capture->end - capture->next : wanted;
 }
 
-static void is_bad(struct capture *capture, uint64_t octet, const char *fault) {
-    capture->at = octet;
-    capture->fault = fault;
+/* Goes behind so many octets, of which some may not wait. */
+static void pass(struct capture *capture, uint32_t octets) {
+    capture->at += octets;
+    if (octets <= capture->end - capture->next) capture->next += octets;
+    else {
+        capture->next = capture->end = 0;
+        if (lseek(capture->file, capture->at, SEEK_SET) < 0) exit(3);
+    }
 }
 
-/* Opens a capture and reads its header; 0 where it can't be opened. */
-static int open_capture(struct capture *capture, const char *name) {
-    capture->file = open(name, O_RDONLY);
-    if (capture->file < 0) return 0;
-    capture->fault = NULL;
-    capture->next = capture->end = 0;
+static int is_bad(struct capture *capture, uint64_t octet, const char *fault) {
+    capture->at = octet;
+    capture->fault = fault;
+    return 0;
+}
+
+/* --- the libpcap format --- */
+
+static int begin_pcap(struct capture *capture) {
     size_t n = fetch(capture, 24);
     const uint8_t *head = capture->octets;
     uint32_t magic = order_u32(head, 1);
@@ -367,35 +387,161 @@ static int open_capture(struct capture *capture, const char *name) {
     magic = order_u32(head, capture->little);
     capture->nanos = magic == 0xa1b23c4d;
     capture->link = order_u32(head + 20, capture->little);
-    int is_known = capture->link == 1 || capture->link == 101 || capture->link == 228 || capture->link == 229;
-    if (n < 24) is_bad(capture, n, "Short");
-    else if (magic != 0xa1b2c3d4 && magic != 0xa1b23c4d) is_bad(capture, 0, "Magic");
-    else if (order_u32(head + 4, capture->little) != (capture->little ? 0x00040002u : 0x00020004u)) is_bad(capture, 4, "Version");
-    else if (!is_known) is_bad(capture, 20, "LinkType");
-    else capture->at = capture->next = 24;
+    if (n < 24) return is_bad(capture, n, "Short");
+    if (magic != 0xa1b2c3d4 && magic != 0xa1b23c4d) return is_bad(capture, 0, "Magic");
+    if (order_u32(head + 4, capture->little) != (capture->little ? 0x00040002u : 0x00020004u)) return is_bad(capture, 4, "Version");
+    if (!is_link(capture->link)) return is_bad(capture, 20, "LinkType");
+    pass(capture, 24);
     return 1;
 }
 
-/* The next record, its header first, or NULL where the capture ends or is at fault. It stays until the next one is read. */
-static const uint8_t *read_record(struct capture *capture, int *length) {
+/* The next record; 0 where the capture ends or is at fault. */
+static int read_record(struct capture *capture, struct frame *frame) {
     size_t n = fetch(capture, 16);
-    if (n == 0) return NULL;
+    if (n == 0) return 0;
     const uint8_t *head = capture->octets + capture->next;
     uint32_t captured = n < 16 ? 0 : order_u32(head + 8, capture->little);
-    if (n < 16) is_bad(capture, capture->at + n, "Short");
-    else if (captured > MOST_CAPTURED) is_bad(capture, capture->at + 8, "Captured");
-    else if (captured < order_u32(head + 12, capture->little)) is_bad(capture, capture->at + 8, "SnapCut");
-    if (capture->fault) return NULL;
+    if (n < 16) return is_bad(capture, capture->at + n, "Short");
+    if (captured > MOST_CAPTURED) return is_bad(capture, capture->at + 8, "Captured");
+    if (captured < order_u32(head + 12, capture->little)) return is_bad(capture, capture->at + 8, "SnapCut");
     n = fetch(capture, 16 + captured);
-    if (n < 16 + captured) {
-        is_bad(capture, capture->at + n, "Short");
-        return NULL;
-    }
+    if (n < 16 + captured) return is_bad(capture, capture->at + n, "Short");
     head = capture->octets + capture->next;
-    capture->next += 16 + captured;
-    capture->at += 16 + captured;
-    *length = captured;
-    return head;
+    *frame = (struct frame){order_u32(head, capture->little), order_u32(head + 4, capture->little), capture->link, head + 16, captured};
+    pass(capture, 16 + captured);
+    return 1;
+}
+
+/* --- the pcapng format --- */
+
+/* The whole block is there, and its end repeats its length. Of a block that is too long to wait, the first 32 octets wait. */
+static int is_whole(struct capture *capture, uint32_t total) {
+    uint8_t far[4];
+    const uint8_t *trailer = far;
+    size_t wanted = total <= MOST_WAITING ? total : 32, n = fetch(capture, wanted);
+    if (n < wanted) return is_bad(capture, capture->at + n, "Short");
+    if (wanted == total) trailer = capture->octets + capture->next + total - 4;
+    else if (pread(capture->file, far, 4, capture->at + total - 4) != 4) return is_bad(capture, lseek(capture->file, 0, SEEK_END), "Short");
+    return order_u32(trailer, capture->little) == total ? 1 : is_bad(capture, capture->at + total - 4, "Trailer");
+}
+
+/* Type and length of the next block, which is whole; 0 where the capture ends or is at fault. A section header sets the order of octets. */
+static int read_block(struct capture *capture, uint32_t *type, uint32_t *total) {
+    size_t n = fetch(capture, 12);
+    const uint8_t *head = capture->octets + capture->next;
+    if (n == 0) return 0;
+    if (n < 12) return is_bad(capture, capture->at + n, "Short");
+    if (capture->at >> 40) return is_bad(capture, capture->at, "Long");
+    if (order_u32(head, 1) == SECTION) {
+        capture->little = order_u32(head + 8, 1) == 0x1a2b3c4d;
+        if (order_u32(head + 8, capture->little) != 0x1a2b3c4d) return is_bad(capture, capture->at + 8, "Magic");
+    }
+    *type = order_u32(head, capture->little);
+    *total = order_u32(head + 4, capture->little);
+    uint32_t least = *type == SECTION ? 28 : *type == INTERFACE ? 20 : *type == ENHANCED ? 32 : 12;
+    if (*total % 4 || *total < least) return is_bad(capture, capture->at + 4, "BlockLength");
+    return is_whole(capture, *total);
+}
+
+/* The resolution that an interface's options tell; 0 where one of them is at fault. */
+static int read_options(struct capture *capture, uint32_t total, int *resolution) {
+    uint8_t far[8];
+    int is_told = 0;
+    *resolution = 6;
+    for (uint32_t at = 16; at + 8 <= total;) {
+        const uint8_t *option = capture->octets + capture->next + at;
+        if (total > MOST_WAITING) {
+            if (pread(capture->file, far, 8, capture->at + at) != 8) exit(3);
+            option = far;
+        }
+        uint32_t code = order_u16(option, capture->little), length = order_u16(option + 2, capture->little), padded = (length + 3) & ~3u;
+        if (code == 0) break;
+        if (padded > total - 8 - at || (code == 9 && length != 1)) return is_bad(capture, capture->at + at, "Options");
+        if (code == 9 && !is_told) *resolution = option[4], is_told = 1;
+        at += 4 + padded;
+    }
+    return 1;
+}
+
+static int read_interface(struct capture *capture, uint32_t total) {
+    struct interface interface = {.link = order_u16(capture->octets + capture->next + 8, capture->little)};
+    if (!read_options(capture, total, &interface.resolution)) return 0;
+    if (capture->interfaces == capture->room) {
+        capture->room = 2 * capture->room + 8;
+        capture->interface = realloc(capture->interface, capture->room * sizeof interface);
+        if (!capture->interface) exit(6);
+    }
+    capture->interface[capture->interfaces++] = interface;
+    return 1;
+}
+
+/* The frame of an enhanced packet block, with a time in nanoseconds. */
+static int read_enhanced(struct capture *capture, uint32_t total, struct frame *frame) {
+    const uint8_t *head = capture->octets + capture->next;
+    uint32_t place = order_u32(head + 8, capture->little), captured = order_u32(head + 20, capture->little);
+    uint64_t units = (uint64_t)order_u32(head + 12, capture->little) << 32 | order_u32(head + 16, capture->little);
+    if (place >= capture->interfaces) return is_bad(capture, capture->at + 8, "Interface");
+    struct interface of = capture->interface[place];
+    uint64_t second = of.resolution == 9 ? 1000000000 : 1000000;
+    if (!is_link(of.link)) return is_bad(capture, capture->at + 8, "LinkType");
+    if (of.resolution != 6 && of.resolution != 9) return is_bad(capture, capture->at + 8, "Resolution");
+    if (captured > MOST_CAPTURED) return is_bad(capture, capture->at + 20, "Captured");
+    if (captured < order_u32(head + 24, capture->little)) return is_bad(capture, capture->at + 20, "SnapCut");
+    if (((captured + 3) & ~3u) > total - 32) return is_bad(capture, capture->at + 4, "BlockLength");
+    if (units / second >> 32) return is_bad(capture, capture->at + 12, "Time");
+    fetch(capture, 28 + captured);
+    head = capture->octets + capture->next;
+    *frame = (struct frame){units / second, units % second * (1000000000 / second), of.link, head + 28, captured};
+    return 1;
+}
+
+/* Takes a block that is no packet; 0 where it is at fault. */
+static int take_block(struct capture *capture, uint32_t type, uint32_t total) {
+    const uint8_t *head = capture->octets + capture->next;
+    if (type == SECTION && order_u16(head + 12, capture->little) != 1) return is_bad(capture, capture->at + 12, "Version");
+    if (type == OBSOLETE || type == SIMPLE) return is_bad(capture, capture->at, "Block");
+    if (type == SECTION) capture->interfaces = 0;
+    if (type == INTERFACE) return read_interface(capture, total);
+    return 1;
+}
+
+static int begin_ng(struct capture *capture) {
+    uint32_t type, total;
+    capture->is_ng = 1;
+    if (!read_block(capture, &type, &total) || !take_block(capture, type, total)) return 0;
+    pass(capture, total);
+    return 1;
+}
+
+/* The next packet; 0 where the capture ends or is at fault. */
+static int find_packet(struct capture *capture, struct frame *frame) {
+    uint32_t type, total;
+    while (read_block(capture, &type, &total)) {
+        if (!(type == ENHANCED ? read_enhanced(capture, total, frame) : take_block(capture, type, total))) return 0;
+        pass(capture, total);
+        if (type == ENHANCED) return 1;
+    }
+    return 0;
+}
+
+/* --- either format --- */
+
+/* Opens a capture and reads its beginning; 0 where it can't be opened. */
+static int open_capture(struct capture *capture, const char *name) {
+    capture->file = open(name, O_RDONLY);
+    if (capture->file < 0) return 0;
+    capture->fault = NULL;
+    capture->is_ng = 0;
+    capture->at = capture->interfaces = 0;
+    capture->next = capture->end = 0;
+    if (fetch(capture, 4) == 4 && order_u32(capture->octets, 1) == SECTION) begin_ng(capture);
+    else begin_pcap(capture);
+    return 1;
+}
+
+/* The next frame; 0 where the capture ends or is at fault. */
+static int read_frame(struct capture *capture, struct frame *frame) {
+    return capture->is_ng ? find_packet(capture, frame) : read_record(capture, frame);
 }
 
 /* The packet of a frame, or NULL where it isn't IP. */
