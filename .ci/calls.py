@@ -1,5 +1,5 @@
 """Calls of the program with what each has to print, its status, and what it has to leave: the examples, captures that a Linux kernel labelled, captures
-that are made, and what is promised of names of files.
+that are made, captures of the pcapng format, and what is promised of names of files.
 
 Each call is made in a folder of its own. `.ci/checks.py` makes the examples' calls by the built program, and `.ci/tests.py` all of them before any proof.
 """
@@ -229,4 +229,66 @@ LONG = [
     making("a capture made of 100,000 packets", count=100000),
     names("that capture, shown", [], words=[b"show", b"m.pcap"], status=0, report=b"".join(made_captures.shown(7, 100000)),
           more=lambda at: (at / "m.pcap").write_bytes(made_captures.capture(7, 100000))),
+    names("its packets in pcapng, shown", [], words=[b"show", b"m.pcapng"], status=0, report=b"".join(made_captures.shown(7, 100000)),
+          more=lambda at: (at / "m.pcapng").write_bytes(made_captures.in_pcapng(7, 100000))),
+]
+
+# --- captures of the pcapng format --------------------------------------------------------------------------------------------------------------
+
+# Interface 0 is Ethernet, interface 1 raw IP, both of them with times in microseconds.
+TWO_INTERFACES = made_captures.section() + made_captures.interface(1) + made_captures.interface(101)
+EMPTY_NG = made_captures.written([])
+MADE_NG = {"o.pcap": EMPTY_NG}
+# The commands of one node that forwards all packets with a label as they are, but for their hops.
+FORWARDING = b"node fw\ncipsov4 add pass doi:16 tags:1\nmap add default protocol:cipsov4,16\nflow m.pcapng o.pcap forward:fw,eth0,eth1,any\n"
+
+
+def pcapng(name, octets, flows=("b.pcap o.pcap",), *, status, report, **rest):
+    """A call over this file as `b.pcap`, beside an output that is there already."""
+
+    def fill(folder):
+        (folder / "b.pcap").write_bytes(octets)
+        (folder / "o.pcap").write_bytes(b"kept")
+
+    return names(name, list(flows), status=status, report=report, more=fill, **rest)
+
+
+def broken(name, octets, fault, *, left=MADE_NG):
+    """A call over a pcapng file whose fault is told behind its frames, of which no one is IP; `left` is empty where the file's beginning is at fault."""
+    return pcapng(name, octets, status=5, report=BEGUN + b"capture 1 %s\n" % fault, left=left)
+
+
+def forwarding(seed, count):
+    """`run` over packets of a number in pcapng: the output has the same with one hop less, in pcapng too."""
+    lines = b"".join(b"packet 1.%d sent cipsov4,16 versions 2\n" % n for n in range(1, count + 1))
+    return names(
+        "packets in pcapng, forwarded", [], status=0, left={"o.pcap": made_captures.in_pcapng(seed, count, hops=63)},
+        report=b"command 1 fw done\ncommand 2 fw done\nflow 1 m.pcapng\n" + lines + b"end 1 packets %d passed %d denied 0\ndone\n" % (count, count),
+        more=lambda at: ((at / "s").write_bytes(FORWARDING), (at / "m.pcapng").write_bytes(made_captures.in_pcapng(seed, count))),
+    )
+
+
+FRAME = made_captures.enhanced(5, ARP)
+PCAPNG = [
+    pcapng("pcapng, with an output over an old file", TWO_INTERFACES + FRAME, status=0, report=WHOLE + b"done\n", left=MADE_NG),
+    pcapng("pcapng without a packet", made_captures.section(), status=0, report=BEGUN + b"end 1 packets 0 passed 0 denied 0\ndone\n", left=MADE_NG),
+    pcapng("flows of both formats", TWO_INTERFACES + FRAME, ["b.pcap o.pcap", "c.pcap p.pcap"], status=0, left={**MADE_NG, "p.pcap": EMPTY},
+           report=WHOLE + b"flow 2 c.pcap\n" + FLOW_OF_ONE % (2, 2) + b"done\n"),
+    pcapng("blocks that are passed over", TWO_INTERFACES + made_captures.block(0x80000001, bytes(200000)) + FRAME + made_captures.block(5, bytes(12)),
+           status=0, report=WHOLE + b"done\n", left=MADE_NG),
+    pcapng("sections of both orders", made_captures.section(order=">") + made_captures.interface(101, order=">") + TWO_INTERFACES + FRAME,
+           status=0, report=WHOLE + b"done\n", left=MADE_NG),
+    broken("pcapng of fewer octets than its format takes", b"\n\r\r", b"octet 3 Short", left={}),
+    broken("a section header of another version", made_captures.section()[:12] + b"\2" + made_captures.section()[13:], b"octet 12 Version", left={}),
+    broken("a section header that ends in the file's end", TWO_INTERFACES[:20], b"octet 20 Short", left={}),
+    broken("an interface that ends in the file's end", TWO_INTERFACES[:40], b"octet 40 Short"),
+    broken("a simple packet block", TWO_INTERFACES + made_captures.block(3, bytes(8)), b"octet 68 Block"),
+    broken("a packet of an interface that isn't there", TWO_INTERFACES + made_captures.enhanced(5, ARP, place=2), b"octet 76 Interface"),
+    broken("a packet of an interface of a section before", TWO_INTERFACES + made_captures.section() + FRAME, b"octet 104 Interface"),
+    broken("a resolution that isn't read", made_captures.section() + made_captures.interface(1, [(9, b"\3")]) + FRAME, b"octet 68 Resolution"),
+    pcapng("pcapng, shown", made_captures.of_two_interfaces(), [], words=[b"show", b"b.pcap"], status=0,
+           report=(TOP / "examples/pcapng/report-show").read_bytes()),
+    pcapng("pcapng as a packet", made_captures.of_two_interfaces(), [], words=[b"judge", b"16", b"s2", b"b.pcap"], status=0,
+           report=b"denied 1 BadHeader octet 0\n"),
+    forwarding(11, 300),
 ]

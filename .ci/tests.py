@@ -96,7 +96,7 @@ def crate_tests(name, environment):
 def all_calls():
     """Each call in a folder of its own; the program is compiled once for all of them."""
     unproved.say = lambda text: None
-    made = [*calls.examples(), *calls.kernel_captures(), *calls.NAMES, *calls.MAKING, *calls.UNANSWERED]
+    made = [*calls.examples(), *calls.kernel_captures(), *calls.NAMES, *calls.MAKING, *calls.PCAPNG, *calls.UNANSWERED]
     with unproved.private_folder() as folder:
         trial = unproved.Trial(pathlib.Path(folder) / "cases", SECONDS)
         trial.folder.mkdir()
