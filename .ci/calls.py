@@ -244,13 +244,14 @@ FORWARDING = b"node fw\ncipsov4 add pass doi:16 tags:1\nmap add default protocol
 
 
 def pcapng(name, octets, flows=("b.pcap o.pcap",), *, status, report, **rest):
-    """A call over this file as `b.pcap`, beside an output that is there already."""
+    """A call over this file as `b.pcap`, beside an output that is there already. The script has a name of its own length: `rt try` has 36 of one letter."""
 
     def fill(folder):
         (folder / "b.pcap").write_bytes(octets)
         (folder / "o.pcap").write_bytes(b"kept")
+        (folder / "s").rename(folder / "flows")
 
-    return names(name, list(flows), status=status, report=report, more=fill, **rest)
+    return names(name, list(flows), own="flows", status=status, report=report, more=fill, **rest)
 
 
 def broken(name, octets, fault, *, left=MADE_NG):
@@ -262,9 +263,9 @@ def forwarding(seed, count):
     """`run` over packets of a number in pcapng: the output has the same with one hop less, in pcapng too."""
     lines = b"".join(b"packet 1.%d sent cipsov4,16 versions 2\n" % n for n in range(1, count + 1))
     return names(
-        "packets in pcapng, forwarded", [], status=0, left={"o.pcap": made_captures.in_pcapng(seed, count, hops=63)},
+        "packets in pcapng, forwarded", [], own="flows", status=0, left={"o.pcap": made_captures.in_pcapng(seed, count, hops=63)},
         report=b"command 1 fw done\ncommand 2 fw done\nflow 1 m.pcapng\n" + lines + b"end 1 packets %d passed %d denied 0\ndone\n" % (count, count),
-        more=lambda at: ((at / "s").write_bytes(FORWARDING), (at / "m.pcapng").write_bytes(made_captures.in_pcapng(seed, count))),
+        more=lambda at: ((at / "flows").write_bytes(FORWARDING), (at / "m.pcapng").write_bytes(made_captures.in_pcapng(seed, count))),
     )
 
 
