@@ -9,9 +9,9 @@ use Rattle.command_values.specs.Doi.{doi_of_text}
 use Rattle.flow_lines.specs.declared.flow.FlowLine.{FlowLine}
 use Rattle.label_commands.specs.declared.script.Script.{Script}
 use Rattle.label_commands.specs.declared.stop.ScriptStop.{ScriptStop}
-use Rattle.pcap_frames.specs.declared.header.CaptureHeader.{CaptureHeader}
-use Rattle.pcap_frames.specs.declared.fault.CaptureFault.{CaptureFault}
-use Rattle.pcap_frames.specs.Capture.{Capture, capture_of}
+use Rattle.capture_reader.specs.declared.format.CaptureFormat.{CaptureFormat}
+use Rattle.capture_reader.specs.declared.fault.FileFault.{FileFault}
+use Rattle.capture_reader.specs.CaptureFile.{CaptureFile, capture_file}
 use Rattle.netlabel_run.specs.declared.command.Command.{Command}
 use Rattle.netlabel_run.specs.declared.command.Command.TheVariants.{Judge, Check, Show, Agree, Make, Run}
 use Rattle.call_report.specs.Lines.Denial.{verdict_line}
@@ -53,16 +53,16 @@ judge_status_once (Some octets) a b (inl x) (inr y) = absurd (omega (x.0, y.0, a
 judge_status_once (Some octets) a b (inr x) (inl y) = absurd (omega (x.0, y.0, arith))
 judge_status_once (Some octets) a b (inr x) (inr y) = x.1 ∙ sym y.1
 
-capture_report_once : (read : Result Capture CaptureFault) → IsOne (CaptureReport read)
+capture_report_once : (read : Result CaptureFile FileFault) → IsOne (CaptureReport read)
 capture_report_once (Err fault) a b x y = x ∙ sym y
 capture_report_once (Ok capture) a b x y =
     x.2
-    ∙ ap (λ lines. lines_report lines (capture_event 1 packets_limit capture)) (lines_once capture.header.link 1 (take packets_limit capture.frames) x.0 y.0 x.1 y.1)
+    ∙ ap (λ lines. lines_report lines (capture_event 1 packets_limit capture)) (lines_once 1 (take packets_limit capture.frames) x.0 y.0 x.1 y.1)
     ∙ sym y.2
 
 pub show_report_once : (file : Option (List ℕ)) → IsOne (ShowReport file)
 show_report_once None a b x y = x ∙ sym y
-show_report_once (Some octets) a b x y = capture_report_once (capture_of octets) a b x y
+show_report_once (Some octets) a b x y = capture_report_once (capture_file octets) a b x y
 
 show_status_once : (file : Option (List ℕ)) → IsOne (ShowStatus file)
 show_status_once None a b x y = absurd x
@@ -96,16 +96,16 @@ agree_report_once name number named file = by_script_once name file (λ report. 
     (λ script report. (status : ℕ) × AgreeAnswer script number named status report)
     (λ a b x y. x ∙ sym y) (λ stop a b x y. x ∙ sym y) (λ script a b x y. (one_answer script number named x.0 y.0 a b x.1 y.1).1)
 
-status_or_once : (event : Option Event) (header : Option CaptureHeader) (Rest : ℕ → Type 0) → IsOne Rest → IsOne (λ status. StatusOr event header (Rest status) status)
-status_or_once (Some event) header Rest one a b x y = x ∙ sym y
-status_or_once None (Some header) Rest one a b x y = one a b x y
+status_or_once : (event : Option Event) (format : Option CaptureFormat) (Rest : ℕ → Type 0) → IsOne Rest → IsOne (λ status. StatusOr event format (Rest status) status)
+status_or_once (Some event) format Rest one a b x y = x ∙ sym y
+status_or_once None (Some format) Rest one a b x y = one a b x y
 status_or_once None None Rest one a b x y = absurd x
 
 flows_status_once : (held : Folder) (number most : ℕ) (flows : List FlowLine) → IsOne (FlowsStatus held number most flows)
 flows_status_once held number most [] a b x y = x ∙ sym y
 flows_status_once held number most (flow ∷ flows) a b x y =
     let input = flow_input number most (held flow.input) in
-    status_or_once input.event input.header (FlowsStatus held (number + 1) (most - length input.frames) flows) (flows_status_once held (number + 1) (most - length input.frames) flows) a b x y
+    status_or_once input.event input.format (FlowsStatus held (number + 1) (most - length input.frames) flows) (flows_status_once held (number + 1) (most - length input.frames) flows) a b x y
 
 run_has_no_word : (words : List (List ℕ)) (file : List ℕ) (workers : ℕ) (command other : List ℕ) → AsksToRun words file workers → words ≡ command ∷ other ∷ [] → (command ≡ codes "run" → ⊥) → ⊥
 run_has_no_word words file workers command other (plainly are name) is other_word = other_word (ap (λ ws. get_or ws 0 []) (sym is ∙ are))

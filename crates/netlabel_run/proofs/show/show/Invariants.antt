@@ -1,5 +1,5 @@
 use Rattle.std.proofs.Common.{◌-◌}
-use Rattle.pcap_frames.specs.Reader.{IsReady}
+use Rattle.capture_reader.specs.Reader.{IsReadable}
 use Rattle.call_report.specs.Outside.{Outside}
 use Rattle.netlabel_run.proofs.Shown.{IsShowing}
 use Rattle.netlabel_run.proofs.show.show.Given as goal
@@ -15,6 +15,6 @@ invariant-loop-head g l =
     let before : Outside = record { folder = depot_of l.fn.depot; stream = sink_of l.fn.out } in
     let now : Outside = record { folder = depot_of l.depot; stream = sink_of l.out } in
     record {
-      showing : IsShowing l.fn.file before now l.frames l.report.waiting.items l.shown;
-      ready : IsReady now.folder l.frames;
+      showing : IsShowing l.fn.file before now l.reader l.report.waiting.items l.shown;
+      ready : IsReadable now.folder l.reader;
     }
