@@ -1,5 +1,5 @@
 -- What a reader gives, and what it leaves, by the answers of its format's reader.
-use Rattle.std.proofs.Common.{◌≡◌, ℕ, ◌+◌, ◌<◌, List, [], ◌∷◌, length, map, drop, Option, Some, None, Result, Ok, Err, sym, ap, ◌∙◌}
+use Rattle.std.proofs.Common.{◌≡◌, ℕ, ◌+◌, List, [], ◌∷◌, length, map, drop, Option, Some, None, Result, Ok, Err, sym, ap, ◌∙◌}
 use Rattle.std.specs.Option.{option_map}
 use Rattle.std.proofs.lemmas.List.{drop-drop}
 use Rattle.pcap_frames.specs.declared.header.CaptureHeader.{CaptureHeader}
@@ -25,7 +25,6 @@ use Rattle.capture_reader.specs.CaptureFile.{frame_of_record, frame_of_packet}
 use Rattle.capture_reader.specs.Reader.{FramesLeft, left_of}
 use Rattle.capture_reader.specs.inside.Stops.{pcap_stop, ng_stop}
 use Rattle.capture_reader.specs.inside.Given.{frame_given, IsGiven}
-use Rattle.capture_reader.proofs.Nanos.{nanos_below}
 
 abbrev of_records : ℕ → Records → FramesLeft
 of_records link records = record { frames = map (frame_of_record link) records.frames; fault = option_map fault.Pcap records.fault }
@@ -87,10 +86,10 @@ module _ (reader : NgReader) (file : List ℕ) where
   no_packet here = packets_are (Ok None) here
 
   pub one_packet : (reader' : NgReader) (given : LinkedHead) (octets : List ℕ) (head : NgHead)
-      → (head.nanos < 1000000000 → given ≡ record { head = record { seconds = head.seconds; fraction = head.nanos }; link = head.link })
+      → given ≡ record { head = record { seconds = head.seconds; fraction = head.nanos }; link = head.link }
       → next_at reader.section reader.place (drop reader.place file) ≡ Ok (Some (found_here reader'.section reader'.place octets head))
       → left_of (Pcapng reader) file ≡ with_frame given octets (left_of (Pcapng reader') file)
   one_packet reader' given octets head same here =
       let found = found_here reader'.section reader'.place octets head in
       packets_are (Ok (Some found)) here
-      ∙ ap (λ (g : LinkedHead). with_frame g octets (left_of (Pcapng reader') file)) (sym (same (nanos_below reader.section reader.place (drop reader.place file) found here)))
+      ∙ ap (λ (g : LinkedHead). with_frame g octets (left_of (Pcapng reader') file)) (sym same)

@@ -1,5 +1,4 @@
 pub mod Parts
-pub mod Nanos
 pub mod Leaving
 pub mod Beginning
 pub mod Written

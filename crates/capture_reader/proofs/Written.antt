@@ -11,7 +11,7 @@ use Rattle.pcap_frames.proofs.Law.{a_written_capture_reads_back}
 use Rattle.pcapng_frames.specs.declared.fault.NgFault.{NgFault}
 use Rattle.pcapng_frames.specs.Section.{no_section}
 use Rattle.pcapng_frames.specs.Block.{NgFrame, NgBlock, block_at}
-use Rattle.pcapng_frames.specs.Capture.{NgCapture, go_on, frames_at, ng_of}
+use Rattle.pcapng_frames.specs.Capture.{NgCapture, with_block, frames_at, ng_of}
 use Rattle.pcapng_frames.specs.Written.{IsWritableNg, ng_head_octets, ng_frame_octets, ng_frames_octets, ng_octets}
 use Rattle.pcapng_frames.proofs.Law.{blocks_come_one_behind_another, a_written_pcapng_file_reads_back}
 use Rattle.capture_reader.specs.declared.format.CaptureFormat.TheVariants.{Pcap, Pcapng}
@@ -62,7 +62,7 @@ writable_packets frames writable times =
     record { seconds = one.seconds; nanos = times k frame within; link = refl; octets = one.octets })
 
 -- a file without a fault has a first block without one
-by_block : (first : Result (Option NgBlock) NgFault) (file : List ℕ) (capture : NgCapture) → go_on frames_at 0 file first ≡ capture → capture.fault ≡ None
+by_block : (first : Result (Option NgBlock) NgFault) (file : List ℕ) (capture : NgCapture) → with_block frames_at 0 file first ≡ capture → capture.fault ≡ None
     → by_pcapng first capture ≡ Ok (record { format = Pcapng; frames = map frame_of_packet capture.frames; fault = None })
 by_block (Err fault) file capture is none = absurd (let no = ap (λ (c : NgCapture). c.fault) is ∙ none in cc)
 by_block (Ok block) file capture is none =

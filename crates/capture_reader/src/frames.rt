@@ -19,18 +19,16 @@ pub struct LinkedHead {
     pub link: u32,
 }
 
-/// The head of a packet of pcapng. Its nanoseconds are below a second. Where a folder doesn't tell what it holds, no clause of the
-/// reader below says so, and they are bounded here.
+/// The head of a packet of pcapng.
 fn linked(given: NgHead) -> LinkedHead
-    ensures below { result.head.fraction < 1000000000 }
-    ensures same { given.nanos < 1000000000 → result ≡ record {
+    ensures { result ≡ record {
       head = record { seconds = given.seconds; fraction = given.nanos };
       link = given.link;
     } }
 {
     let head = FrameHead {
         seconds: given.seconds,
-        fraction: given.nanos.min(999_999_999),
+        fraction: given.nanos,
     };
     LinkedHead {
         head,

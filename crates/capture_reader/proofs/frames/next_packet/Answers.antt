@@ -14,7 +14,7 @@ returns-in_err-given-clause-answer g c told =
 pub returns-in-Some-clause-answer : goal.returns-in-Some-clause-answer
 returns-in-Some-clause-answer g c told =
     let clauses = rw c.in-Some.is at c.in_ok-given.ensures in
-    one_packet c.args.frames.now (octets_of ((g.D.Depot.state c.args.depot.now).held c.args.frames.now.name)) c.next.new.self c.linked.result c.next.new.into.items c.in-Some.given c.linked.ensures.same
+    one_packet c.args.frames.now (octets_of ((g.D.Depot.state c.args.depot.now).held c.args.frames.now.name)) c.next.new.self c.linked.result c.next.new.into.items c.in-Some.given c.linked.ensures
     (clauses.answer told)
 
 pub returns-in-None-clause-answer : goal.returns-in-None-clause-answer
