@@ -14,9 +14,34 @@ use Rattle.std.proofs.lemmas.Int.Digits.{digits_value_more, digits_more}
 pub own : IsNumeralModel (AllDigits 10) (digits_value 10)
 own = record { to = λ ds h. h; from = λ ds h. h; same = λ ds h. refl }
 
--- the spelling of a number of two digits
-pub two_digits : (n : ℕ) → 10 ≤ n → n < 100 → decimal n ≡ (48 + n / 10) ∷ (48 + n % 10) ∷ []
-two_digits n many few = decimal_step n many (omega arith) ∙ ap (λ t. t ++ (48 + n % 10) ∷ []) (decimal_digit (n / 10) (omega arith))
+-- the spelling of a number of two digits, of three, and so on
+pub two_digits : (n : ℕ) → 10 ≤ n → n < 100 → decimal n ≡ (48 + n / 10 % 10) ∷ (48 + n % 10) ∷ []
+two_digits n many few =
+    let front : decimal (n / 10) ≡ (48 + n / 10 % 10) ∷ [] = decimal_digit (n / 10) (omega arith) ∙ ap (λ k. (48 + k) ∷ []) (omega arith) in
+    decimal_step n many (omega arith) ∙ ap (λ t. t ++ (48 + n % 10) ∷ []) front
+
+pub three_digits : (n : ℕ) → 100 ≤ n → n < 1000 → decimal n ≡ (48 + n / 100 % 10) ∷ (48 + n / 10 % 10) ∷ (48 + n % 10) ∷ []
+three_digits n many few =
+    let tens : n / 10 / 10 ≡ n / 100 = omega arith in
+    let front = two_digits (n / 10) (omega arith) (omega arith) in
+    decimal_step n (omega arith) (omega arith) ∙ ap (λ t. t ++ (48 + n % 10) ∷ []) front ∙ ap (λ k. (48 + k % 10) ∷ (48 + n / 10 % 10) ∷ (48 + n % 10) ∷ []) tens
+
+pub four_digits : (n : ℕ) → 1000 ≤ n → n < 10000 → decimal n ≡ (48 + n / 1000 % 10) ∷ (48 + n / 100 % 10) ∷ (48 + n / 10 % 10) ∷ (48 + n % 10) ∷ []
+four_digits n many few =
+    let tens : n / 10 / 10 ≡ n / 100 = omega arith in
+    let hundreds : n / 10 / 100 ≡ n / 1000 = omega arith in
+    let front = three_digits (n / 10) (omega arith) (omega arith) in
+    decimal_step n (omega arith) (omega arith) ∙ ap (λ t. t ++ (48 + n % 10) ∷ []) front
+    ∙ (λ i. (48 + hundreds i % 10) ∷ (48 + tens i % 10) ∷ (48 + n / 10 % 10) ∷ (48 + n % 10) ∷ [])
+
+pub five_digits : (n : ℕ) → 10000 ≤ n → n < 100000 → decimal n ≡ (48 + n / 10000 % 10) ∷ (48 + n / 1000 % 10) ∷ (48 + n / 100 % 10) ∷ (48 + n / 10 % 10) ∷ (48 + n % 10) ∷ []
+five_digits n many few =
+    let tens : n / 10 / 10 ≡ n / 100 = omega arith in
+    let hundreds : n / 10 / 100 ≡ n / 1000 = omega arith in
+    let thousands : n / 10 / 1000 ≡ n / 10000 = omega arith in
+    let front = four_digits (n / 10) (omega arith) (omega arith) in
+    decimal_step n (omega arith) (omega arith) ∙ ap (λ t. t ++ (48 + n % 10) ∷ []) front
+    ∙ (λ i. (48 + thousands i % 10) ∷ (48 + hundreds i % 10) ∷ (48 + tens i % 10) ∷ (48 + n / 10 % 10) ∷ (48 + n % 10) ∷ [])
 
 pub room_for_decimal : (n : ℕ) → n < 2 ^ 64 → length (decimal n) ≤ 20
 room_for_decimal n small = length-decimal-le 20 n (omega arith) (omega arith) small

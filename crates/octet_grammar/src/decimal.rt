@@ -1,7 +1,7 @@
 //! Numbers as decimal text, without sign or leading zero: the one spelling that words, texts of labels and the report share. A contract sees
 //! the spelling as std's `decimal`, which is what `{}` prints.
 
-ghost use Rattle.std.specs.Prelude.{◌≡◌, ℕ, ◌+◌, ◌*◌, ◌<◌, ◌≤◌, ◌^◌, ◌⊎◌, ◌++◌, length, drop, slice_index, IfSome, IfNone, MatchBool, OnOk, OnErr};
+ghost use Rattle.std.specs.Prelude.{◌≡◌, ℕ, ◌+◌, ◌*◌, ◌%◌, ◌<◌, ◌≤◌, ◌^◌, ◌⊎◌, ◌++◌, length, drop, slice_index, IfSome, IfNone, MatchBool, OnOk, OnErr};
 ghost use Rattle.std.specs.Option.{SomeIff};
 ghost use Rattle.std.specs.Fmt.{decimal};
 ghost use Rattle.std.specs.Str.Parse.{AllDigits, digits_value};
@@ -12,18 +12,49 @@ use std::alloc::AllocError;
 const MOST_DIGITS: usize = 20;
 
 /// Appends the decimal text of a number. After an error `out` is as it was.
-#[tactic(auto, using(std::proofs::lemmas::Fmt::decimal_digit, crate::proofs::Digits::two_digits))]
+#[tactic(auto, using(std::proofs::lemmas::Fmt::decimal_digit, crate::proofs::Digits::two_digits, crate::proofs::Digits::three_digits, crate::proofs::Digits::four_digits, crate::proofs::Digits::five_digits))]
 pub fn write_decimal(n: u64, out: &mut Vec<u8>) -> Result<(), AllocError>
     ensures ok { OnOk result (out.new.items ≡ out.old.items ++ decimal n) }
     ensures err { OnErr result (out.new.items ≡ out.old.items) }
 {
     // Most numbers are short, and then no room for 20 digits has to be cleared.
     if n < 10 {
-        return out.extend_from_slice(&[b'0' + n as u8]);
+        return out.extend_from_slice(&[digit(n)]);
     }
     if n < 100 {
-        return out.extend_from_slice(&[b'0' + (n / 10) as u8, b'0' + (n % 10) as u8]);
+        return out.extend_from_slice(&[digit(n / 10), digit(n)]);
     }
+    if n < 1000 {
+        return out.extend_from_slice(&[digit(n / 100), digit(n / 10), digit(n)]);
+    }
+    if n < 10000 {
+        return out.extend_from_slice(&[digit(n / 1000), digit(n / 100), digit(n / 10), digit(n)]);
+    }
+    if n < 100000 {
+        return out.extend_from_slice(&[
+            digit(n / 10000),
+            digit(n / 1000),
+            digit(n / 100),
+            digit(n / 10),
+            digit(n),
+        ]);
+    }
+    write_long(n, out)
+}
+
+/// The last digit of a number.
+fn digit(n: u64) -> u8
+    ensures { result ≡ 48 + n % 10 }
+{
+    b'0' + (n % 10) as u8
+}
+
+/// The same of a number of any length.
+#[inline(never)]
+fn write_long(n: u64, out: &mut Vec<u8>) -> Result<(), AllocError>
+    ensures ok { OnOk result (out.new.items ≡ out.old.items ++ decimal n) }
+    ensures err { OnErr result (out.new.items ≡ out.old.items) }
+{
     let mut digits = [0u8; MOST_DIGITS];
     let first = fill_from_end(n, &mut digits);
     out.extend_from_slice(&digits[first..])
