@@ -144,6 +144,18 @@ highest_bounds runs r c a some at e =
       | inr le ↦ le
     ]
 
+-- a run round the first and the last is round all
+pub inside_first : (inner outer : List Run) (d : Run) → AreApart 0 inner → 0 < length inner → 0 < length outer → (get_or outer 0 d).first ≤ (get_or inner 0 d).first → (get_or inner (length inner - 1) d).last ≤ (get_or outer 0 d).last
+    → IsSubset (cats_of inner) (cats_of outer)
+inside_first [] outer d a some others first_le last_le = absurd (omega arith)
+inside_first (run ∷ rest) [] d a some others first_le last_le = absurd (omega arith)
+inside_first (run ∷ rest) (cover ∷ covers) d a some others first_le last_le =
+    let runs : List Run = run ∷ rest in
+    let last : Run = get_or runs (length runs - 1) d in
+    let at : last ≡ get_or runs (length runs - 1) last = get_or_default runs (length runs - 1) d last (omega arith) in
+    (subset_iff runs (cover ∷ covers)).0 (λ c e.
+    in_first cover covers c (omega (arith, first_le, in_at_least run rest c a e)) (omega (arith, last_le, highest_bounds runs last c a some at (has-cats_of runs c ∙ e))))
+
 pub ascends_length : (low high : ℕ) (xs : List ℕ) → low ≤ high → Ascends low high xs → length xs + low ≤ high
 ascends_length low high [] le a = omega arith
 ascends_length low high (x ∷ xs) le a = omega (arith, a.0, ascends_length (x + 1) high xs (omega (arith, a.1)) a.2)

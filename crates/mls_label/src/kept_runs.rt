@@ -166,8 +166,32 @@ pub fn holds(runs: &[Run], c: u16) -> bool
     place < runs.len() && runs[place].first <= c
 }
 
-/// Whether each category of the inner runs is one of the outer. It walks both lists once.
-pub fn is_inside(mut inner: &[Run], mut outer: &[Run]) -> bool
+/// Whether each category of the inner runs is one of the outer. Where the first of the outer runs is round all, no list has to be walked.
+pub fn is_inside(inner: &[Run], outer: &[Run]) -> bool
+    requires inner_apart { AreApart 0 inner.now }
+    requires outer_apart { AreApart 0 outer.now }
+    ensures { IsTrue result ↔ IsSubset (cats_of inner.now) (cats_of outer.now) }
+{
+    is_within_first(inner, outer) || is_inside_by_walk(inner, outer)
+}
+
+// Whether the first of the outer runs is round all of the inner ones.
+fn is_within_first(inner: &[Run], outer: &[Run]) -> bool
+    requires { AreApart 0 inner.now }
+    ensures { IsTrue result → IsSubset (cats_of inner.now) (cats_of outer.now) }
+{
+    let [cover, ..] = outer else {
+        return false;
+    };
+    let [first, ..] = inner else {
+        return false;
+    };
+    let last = inner[inner.len() - 1];
+    cover.first <= first.first && last.last <= cover.last
+}
+
+// The same by a walk, once over both lists.
+fn is_inside_by_walk(mut inner: &[Run], mut outer: &[Run]) -> bool
     requires inner_apart { AreApart 0 inner.now }
     requires outer_apart { AreApart 0 outer.now }
     ensures { IsTrue result ↔ IsSubset (cats_of inner.now) (cats_of outer.now) }

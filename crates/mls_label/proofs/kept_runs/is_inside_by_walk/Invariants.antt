@@ -1,7 +1,7 @@
 use Rattle.std.proofs.Common.{◌+◌, ◌↔◌, length}
 use Rattle.mls_label.specs.inside.Kept.{AreApart}
 use Rattle.mls_label.proofs.Inside.{IsInside}
-use Rattle.mls_label.proofs.kept_runs.is_inside.Given as goal
+use Rattle.mls_label.proofs.kept_runs.is_inside_by_walk.Given as goal
 
 abbrev pub invariant-loop-inner : goal.invariant-loop-inner
 invariant-loop-inner l = record {

@@ -1,7 +1,7 @@
 use Rattle.std.proofs.Common.{arith}
 use Rattle.mls_label.proofs.Inside.{skip_apart, skip_step, take_step, fail_step, end_step, all_inside, answer_no, answer_yes}
-use Rattle.mls_label.proofs.kept_runs.is_inside.Goals.{else-cover-run-2-via-then-cover-run-2+else-run-cover, else-cover-run-2-via-else-cover-run-2}
-use Rattle.mls_label.proofs.kept_runs.is_inside.Goals as goal
+use Rattle.mls_label.proofs.kept_runs.is_inside_by_walk.Goals.{else-cover-run-2-via-then-cover-run-2+else-run-cover, else-cover-run-2-via-else-cover-run-2}
+use Rattle.mls_label.proofs.kept_runs.is_inside_by_walk.Goals as goal
 
 pub returns-in_default-outer : goal.returns-in_default-outer
 returns-in_default-outer c =
