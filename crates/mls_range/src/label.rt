@@ -1,7 +1,8 @@
 //! Labels, read from their texts and written in their one form.
 
 ghost use Rattle.std.specs.Prelude.{◌≡◌, [], ◌∷◌, ◌++◌, ◌≤◌, length, Some, None, IfOk, IfErr, OnOk, OnErr, MatchResult};
-ghost use Rattle.mls_range.specs.LabelText.{IsLabelText, label_text, terms_of_run};
+ghost use Rattle.std.specs.Fmt.{decimal};
+ghost use Rattle.mls_range.specs.LabelText.{IsLabelText, label_text, letter_c, terms_of_run};
 ghost use Rattle.mls_range.specs.inside.Rest.{Extends, separated};
 ghost use Rattle.mls_range.specs.inside.Stops.{ReadsCats, ReadsPart, StopsCats, StopsPart};
 ghost use Rattle.mls_range.specs.TextFault.{IsRoomyLabel, StopsLabel};
@@ -111,27 +112,22 @@ fn append_run(separator: u8, first: u16, last: u16, out: &mut Vec<u8>) -> Result
         (out.new.items ≡ out.old.items ++ separated separator (terms_of_run (first, last))) }
     ensures err { OnErr result (Extends out.old.items out.new.items) }
 {
-    if last - first == 1 {
-        append_term(separator, first, first, out)?;
-        append_term(b',', last, last, out)
-    } else {
-        append_term(separator, first, last, out)
+    append_category(separator, first, out)?;
+    if first == last {
+        return Ok(());
     }
+    // Two categories are two terms, and more are one.
+    let between = if last - first == 1 { b',' } else { b'.' };
+    append_category(between, last, out)
 }
 
-/// Appends a term behind a separator, or a part of that.
-fn append_term(separator: u8, first: u16, last: u16, out: &mut Vec<u8>) -> Result<(), OutOfMemory>
-    requires { first ≤ last }
+/// Appends a category behind a separator, or a part of that.
+fn append_category(separator: u8, category: u16, out: &mut Vec<u8>) -> Result<(), OutOfMemory>
     ensures ok { OnOk result
-        (out.new.items ≡ out.old.items ++ separated separator ((first, last) ∷ [])) }
+        (out.new.items ≡ out.old.items ++ separator ∷ letter_c ∷ decimal category) }
     ensures err { OnErr result (Extends out.old.items out.new.items) }
 {
-    out.push(separator)?;
-    out.push(b'c')?;
-    write_decimal(u64::from(first), out)?;
-    if first != last {
-        out.extend_from_slice(b".c")?;
-        write_decimal(u64::from(last), out)?;
-    }
+    out.extend_from_slice(&[separator, b'c'])?;
+    write_decimal(u64::from(category), out)?;
     Ok(())
 }
