@@ -1,5 +1,5 @@
 -- The categories of a bitmap, collected stretch by stretch.
-use Rattle.std.proofs.Common.{◌≡◌, ℕ, ◌+◌, ◌-◌, ◌*◌, ◌/◌, ◌%◌, ◌<◌, ◌≤◌, Bool, true, false, not, ◌==◌, ◌&&◌, ◌||◌, nat_lt, List, [], length, get_or, Option, Some, None, is_some, IfSome, MatchOption, sym, ap, subst, ◌∙◌, arith, inl, inr}
+use Rattle.std.proofs.Common.{◌≡◌, ℕ, ◌+◌, ◌-◌, ◌*◌, ◌/◌, ◌%◌, ◌<◌, ◌≤◌, Bool, true, false, not, ◌==◌, ◌&&◌, ◌||◌, nat_lt, List, [], length, get_or, Option, Some, None, is_some, IfSome, MatchOption, refl, sym, ap, subst, ◌∙◌, arith, inl, inr}
 use Rattle.std.proofs.lemmas.Bool.{cases_lt, cases_eq, true≢false, and_parts, ltb-true}
 use Rattle.std.proofs.lemmas.Bool.Decides.{nat_tests}
 use Rattle.std.proofs.lemmas.Nat.Bits.{bit_at-zero}
@@ -178,6 +178,54 @@ pub read_turn : (bitmap cats new : List ℕ) (begun next : Option ℕ) (at place
 read_turn bitmap cats new begun next at place bit turn lt found is then added more =
     let after : 8 * at + place + 1 ≡ 8 * at + (place + 1) = omega arith in
     subst (IsRead bitmap new next) after (turned bitmap cats new begun next (8 * at + place) is (octet_bit bitmap at place lt ∙ found ∙ other (is_some begun) bit turn) then added more)
+
+-- ---- the runs of an octet
+
+begun_some : (begun : Option ℕ) (first : ℕ) → begun ≡ Some first → is_some begun ≡ true
+begun_some begun first e = ap is_some e
+
+pub begun_few : (bitmap cats : List ℕ) (begun : Option ℕ) (at : ℕ) → IsRead bitmap cats begun at → IfSome begun (λ first. length (runs_of cats) ≤ first)
+begun_few bitmap cats None at is = tt
+begun_few bitmap cats (Some first) at is = is.few
+
+-- a run that goes on ends at a turn
+pub run_ended : (bitmap cats new : List ℕ) (begun next : Option ℕ) (at place : ℕ) → is_some begun ≡ true → place < 8 → (bit_at (get_or bitmap at 0) (7 - place) == 1) ≡ false → IsRead bitmap cats begun (8 * at + place)
+    → MatchOption begun (next ≡ Some (8 * at + place)) (λ first. next ≡ None) → MatchOption begun (new ≡ cats) (λ first. new ≡ cats_where (λ d. has cats d || is_within first (8 * at + place - 1) d))
+    → MatchOption begun (new ≡ cats) (λ first. length (runs_of new) ≤ length (runs_of cats) + 1) → IsRead bitmap new None (8 * at + (place + 1))
+run_ended bitmap cats new None next at place some lt found is then added more = absurd (true≢false (sym some))
+run_ended bitmap cats new (Some first) next at place some lt found is then added more =
+    subst (λ o. IsRead bitmap new o (8 * at + (place + 1))) then (read_turn bitmap cats new (Some first) next at place false refl lt found is then added more)
+
+-- a run ends behind its first category
+ends_behind : (bitmap : List ℕ) (at start end : ℕ) → start ≤ end → start < 8 → (bit_at (get_or bitmap at 0) (7 - start) == 1) ≡ true → (end < 8 → (bit_at (get_or bitmap at 0) (7 - end) == 1) ≡ false) → start < end
+ends_behind bitmap at start end le lt one zero =
+    elim (cases_eq start end) [
+      | inl e ↦ absurd (true≢false (sym one ∙ ap (λ k. bit_at (get_or bitmap at 0) (7 - k) == 1) e ∙ zero (omega (arith, e))))
+      | inr ne ↦ omega arith
+    ]
+
+-- the next run of an octet begins, and goes on up to a place
+pub run_read : (bitmap cats new : List ℕ) (begun : Option ℕ) (at place start end : ℕ) → IsRead bitmap cats None (8 * at + place) → place ≤ start → start < 8
+    → ((k : ℕ) → place ≤ k → k < start → (bit_at (get_or bitmap at 0) (7 - k) == 1) ≡ false) → (bit_at (get_or bitmap at 0) (7 - start) == 1) ≡ true
+    → begun ≡ Some (8 * at + start) → new ≡ cats → start ≤ end → end ≤ 8
+    → ((k : ℕ) → start ≤ k → k < end → (bit_at (get_or bitmap at 0) (7 - k) == 1) ≡ true) → (end < 8 → (bit_at (get_or bitmap at 0) (7 - end) == 1) ≡ false)
+    → IsRead bitmap new begun (8 * at + end)
+run_read bitmap cats new begun at place start end is le lt before one then same on within ones zero =
+    let there = read_up_to bitmap cats None at place start true refl le (omega arith) before is in
+    let begins = read_turn bitmap cats new None begun at start true refl lt one there then same same in
+    let behind = ends_behind bitmap at start end on lt one zero in
+    read_up_to bitmap new begun at (start + 1) end false (begun_some begun (8 * at + start) then) (omega arith) within (λ k from to. ones k (omega arith) to) begins
+
+-- an octet is read where no run goes on from this place
+pub zeros_read : (bitmap cats : List ℕ) (at place next : ℕ) → IsRead bitmap cats None (8 * at + place) → place ≤ next → next ≡ 8
+    → ((k : ℕ) → place ≤ k → k < next → (bit_at (get_or bitmap at 0) (7 - k) == 1) ≡ false) → IsRead bitmap cats None (8 * (at + 1))
+zeros_read bitmap cats at place next is le all zeros =
+    let end : 8 * at + next ≡ 8 * (at + 1) = omega (arith, all) in
+    subst (IsRead bitmap cats None) end (read_up_to bitmap cats None at place next true refl le (omega (arith, all)) zeros is)
+
+pub none_read : (bitmap cats : List ℕ) (at place : ℕ) → IsRead bitmap cats None (8 * at + place) → place ≤ 8 → get_or bitmap at 0 ≡ 0 → IsRead bitmap cats None (8 * (at + 1))
+none_read bitmap cats at place is le none =
+    zeros_read bitmap cats at place 8 is le refl (λ k from to. ap (λ o. bit_at o (7 - k) == 1) none ∙ ap (λ b. b == 1) (bit_at-zero (7 - k)))
 
 -- all is read, and no run goes on
 pub read_whole : (bitmap cats : List ℕ) → IsRead bitmap cats None (8 * length bitmap) → cats ≡ bitmap_cats bitmap

@@ -1,5 +1,5 @@
 -- Bitmaps in which runs are set one after another.
-use Rattle.std.proofs.Common.{◌≡◌, ℕ, ◌+◌, ◌-◌, ◌*◌, ◌/◌, ◌%◌, ◌<◌, ◌≤◌, min, Bool, true, false, ◌==◌, ◌&&◌, ◌||◌, nat_lt, nat_le, List, [], ◌∷◌, ◌++◌, length, length-set, get_or, take, set, replicate, bit_or, Some, refl, sym, ap, ◌∙◌, arith, inl, inr}
+use Rattle.std.proofs.Common.{◌≡◌, ℕ, ◌+◌, ◌-◌, ◌*◌, ◌/◌, ◌%◌, ◌<◌, ◌≤◌, min, Bool, true, false, ◌==◌, ◌&&◌, ◌||◌, nat_lt, nat_le, List, [], ◌∷◌, ◌++◌, length, length-set, get_or, take, set, replicate, bit_or, Some, refl, sym, ap, subst, ◌∙◌, arith, inl, inr}
 use Rattle.std.specs.Int.{bit_at}
 use Rattle.std.specs.List.{list_any, slice_get}
 use Rattle.std.proofs.Math.Bool.{or-false}
@@ -130,6 +130,16 @@ all_there false c last at long lt f g = refl
 pub has_whole : (old bitmap : List ℕ) (first last at : ℕ) → min (length old) (last / 8 + 1) ≤ at → HasRun old bitmap first last at → (c : ℕ) → c < 8 * length old → has_bit bitmap c ≡ (has_bit old c || is_within first last c)
 has_whole old bitmap first last at end h c lt =
     h.bits c lt ∙ ap (λ b. has_bit old c || b) (all_there (is_within first last c) c last at (length old) lt (λ le. omega arith) (λ e. within_last first last c e))
+
+-- a run that stands in one octet
+pub one_octet : (old : List ℕ) (first last ones : ℕ) → first / 8 ≡ last / 8 → last / 8 < length old → ((k : ℕ) → k < 8 → (bit_at ones (7 - k) == 1) ≡ is_within (first % 8) (last % 8) k)
+    → (c : ℕ) → c < 8 * length old → has_bit (set old (last / 8) (bit_or (get_or old (last / 8) 0) ones)) c ≡ (has_bit old c || is_within first last c)
+one_octet old first last ones same lt are =
+    let at = last / 8 in
+    let from : first % 8 ≡ first - 8 * at = omega (arith, same) in
+    let to : last % 8 ≡ min (last - 8 * at) 7 = omega arith in
+    let set_there = has_more old old first last at ones lt (omega (arith, same)) (omega arith) (subst (HasRun old old first last) same (has_none old first last)) (λ k small. are k small ∙ (λ i. is_within (from i) (to i) k)) in
+    has_whole old (set old at (bit_or (get_or old at 0) ones)) first last (at + 1) (omega arith) set_there
 
 -- ---- the bits of runs
 

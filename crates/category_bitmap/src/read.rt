@@ -33,17 +33,45 @@ fn read_octet(bitmap: &[u8], at: usize, begun: Option<u16>, cats: &mut CatSet) -
     requires read { IsRead bitmap.now cats.old begun (8 * at) }
     ensures { IsRead bitmap.now cats.new result (8 * (at + 1)) }
 {
-    let octet = bitmap[at];
-    let mut begun = begun;
-    let mut place = 0;
-    while place < 8 {
-        place = next_in_octet(octet, place, begun.is_none());
-        if place < 8 {
-            begun = turn(begun, (8 * at) as u16 + place as u16, cats);
-            place += 1;
-        }
+    if begun.is_none() {
+        return read_runs(bitmap, at, 0, cats);
     }
-    begun
+    let end = next_in_octet(bitmap[at], 0, false);
+    if end == 8 {
+        return begun;
+    }
+    turn(begun, (8 * at) as u16 + end as u16, cats);
+    read_runs(bitmap, at, end + 1, cats)
+}
+
+// Reads an octet from a place on at which no run goes on.
+fn read_runs(bitmap: &[u8], at: usize, from: u32, cats: &mut CatSet) -> Option<u16>
+    requires octet { at < length bitmap.now }
+    requires place { from ≤ 8 }
+    requires most { length bitmap.now ≤ 244 }
+    requires read { IsRead bitmap.now cats.old None (8 * at + from) }
+    ensures { IsRead bitmap.now cats.new result (8 * (at + 1)) }
+{
+    let octet = bitmap[at];
+    // Most octets have no bit.
+    if octet == 0 {
+        return None;
+    }
+    let mut place = from;
+    while place < 8 {
+        let start = next_in_octet(octet, place, true);
+        if start == 8 {
+            return None;
+        }
+        let begun = turn(None, (8 * at) as u16 + start as u16, cats);
+        let end = next_in_octet(octet, start, false);
+        if end == 8 {
+            return begun;
+        }
+        turn(begun, (8 * at) as u16 + end as u16, cats);
+        place = end + 1;
+    }
+    None
 }
 
 // Begins a run at `c`, or ends the begun one before it.

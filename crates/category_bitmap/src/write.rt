@@ -60,6 +60,11 @@ fn set_run(first: usize, last: usize, bitmap: &mut [u8])
     ensures bits { (c : ℕ) → c < 8 * length bitmap.old
         → has_bit bitmap.new c ≡ (has_bit bitmap.old c || is_within first last c) }
 {
+    // Most runs stand in one octet.
+    if first / 8 == last / 8 && last / 8 < bitmap.len() {
+        bitmap[last / 8] |= ones(first % 8, last % 8);
+        return;
+    }
     let end = bitmap.len().min(last / 8 + 1);
     for at in first / 8..end {
         let from = first.saturating_sub(8 * at);

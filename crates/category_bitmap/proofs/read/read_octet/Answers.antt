@@ -1,24 +1,15 @@
-use Rattle.std.proofs.Common.{arith}
-use Rattle.category_bitmap.proofs.Bits.{begun_behind, read_up_to, read_turn}
+use Rattle.std.proofs.Common.{◌≡◌, ◌+◌, ◌*◌, false, not, ap, subst, ◌∙◌, arith}
+use Rattle.category_bitmap.specs.inside.Read.{IsRead}
+use Rattle.category_bitmap.proofs.Bits.{begun_behind, read_up_to, run_ended}
 use Rattle.category_bitmap.proofs.read.read_octet.Goals as goal
 
-pub turn-begun-requires-clause-behind : goal.turn-begun-requires-clause-behind
-turn-begun-requires-clause-behind c = begun_behind c.args.bitmap.now c.loop-place.cats c.loop-place.begun _ c.loop-place.invariant.read
+pub turn-requires-clause-behind : goal.turn-requires-clause-behind
+turn-requires-clause-behind c = begun_behind c.args.bitmap.now c.args.cats.now c.args.begun _ c.requires.read
 
-pub loop-place-preserved-then-place-lt8 : goal.loop-place-preserved-then-place-lt8
-loop-place-preserved-then-place-lt8 c =
-    let next = c.next_in_octet-place in
-    let seen = read_up_to c.args.bitmap.now c.loop-place.cats c.loop-place.begun c.args.at c.loop-place.place next.result _ c.is_none.ensures next.ensures.start next.ensures.end next.ensures.before c.loop-place.invariant.read in
-    record {
-      within = omega (arith, c.if-place-lt8.true);
-      read = read_turn c.args.bitmap.now c.loop-place.cats c.turn-begun.new.cats c.loop-place.begun c.turn-begun.result c.args.at next.result _ c.is_none.ensures c.if-place-lt8.true (next.ensures.found c.if-place-lt8.true) seen
-          c.turn-begun.ensures.next c.turn-begun.ensures.cats c.turn-begun.ensures.one_more;
-    }
-
-pub loop-place-preserved : goal.loop-place-preserved
-loop-place-preserved c =
-    let next = c.next_in_octet-place in
-    record {
-      within = next.ensures.end;
-      read = read_up_to c.args.bitmap.now c.loop-place.cats c.loop-place.begun c.args.at c.loop-place.place next.result _ c.is_none.ensures next.ensures.start next.ensures.end next.ensures.before c.loop-place.invariant.read;
-    }
+pub read_runs-requires-2-clause-read : goal.read_runs-requires-2-clause-read
+read_runs-requires-2-clause-read c =
+    let end = c.next_in_octet-end in
+    let some = c.is_none.ensures ∙ ap not c.if-is_none.false in
+    let from : 8 * c.args.at ≡ 8 * c.args.at + 0 = omega arith in
+    let read = read_up_to c.args.bitmap.now c.args.cats.now c.args.begun c.args.at 0 end.result false some end.ensures.start end.ensures.end end.ensures.before (subst (IsRead c.args.bitmap.now c.args.cats.now c.args.begun) from c.requires.read) in
+    run_ended c.args.bitmap.now c.args.cats.now c.turn.new.cats c.args.begun c.turn.result c.args.at end.result some (omega (arith, end.ensures.end, c.if-end-eq8.false)) (end.ensures.found (omega (arith, end.ensures.end, c.if-end-eq8.false))) read c.turn.ensures.next c.turn.ensures.cats c.turn.ensures.one_more

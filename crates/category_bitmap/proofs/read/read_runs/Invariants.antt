@@ -1,11 +1,11 @@
-use Rattle.std.proofs.Common.{◌+◌, ◌-◌, ◌*◌, ◌≤◌}
+use Rattle.std.proofs.Common.{None, ◌+◌, ◌-◌, ◌*◌, ◌≤◌}
 use Rattle.category_bitmap.specs.inside.Read.{IsRead}
-use Rattle.category_bitmap.proofs.read.read_octet.Given as goal
+use Rattle.category_bitmap.proofs.read.read_runs.Given as goal
 
 abbrev pub invariant-loop-place : goal.invariant-loop-place
 invariant-loop-place l = record {
   within : l.place ≤ 8;
-  read : IsRead l.bitmap l.cats l.begun (8 * l.at + l.place);
+  read : IsRead l.bitmap l.cats None (8 * l.at + l.place);
 }
 
 abbrev pub decreases-loop-place : goal.decreases-loop-place
