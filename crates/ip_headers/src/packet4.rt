@@ -145,12 +145,15 @@ impl<'a> Packet4<'a> {
         }
     }
 
-    /// The octets of the list of options.
+    /// The octets of the list of options; none where none is kept, so that no list has to be gone over then.
     fn options(&self) -> &'a [u8]
         ensures whole { IsWholeList V4 result.now }
         ensures others { others_in V4 result.now ≡ self.now.others }
         ensures short { length result.now < 65536 }
     {
+        if !self.parts.has_others {
+            return &self.parts.head[..0];
+        }
         &self.parts.head[20..]
     }
 }

@@ -150,6 +150,9 @@ impl<'a> Packet6<'a> {
         ensures others { others_in V6 result.now ≡ self.now.others }
         ensures short { length result.now < 65536 }
     {
+        if !self.parts.has_others {
+            return &self.parts.head[..0];
+        }
         option_octets(Version::V6, self.parts.head)
     }
 }
