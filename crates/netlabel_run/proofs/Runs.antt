@@ -148,7 +148,7 @@ and_second true b h = h
 and_second false b h = absurd (nope h)
 
 judged_of : (run : FlowRun) → IsTrue (goes_on run) → IsTrue (is_judged run)
-judged_of run h = first_true (is_judged run) (is_some run.input.header) (not (is_some run.input.event)) h
+judged_of run h = first_true (is_judged run) (is_some run.input.format) (not (is_some run.input.event)) h
 
 if_none : (b : Bool) (event : Option Event) → event ≡ None → (if b then event else None) ≡ None
 if_none true event is = is
@@ -157,7 +157,7 @@ if_none false event is = refl
 all_go_on : (runs : List FlowRun) → IsTrue (list_all goes_on runs) → last_event runs ≡ None
 all_go_on [] h = refl
 all_go_on (run ∷ []) h =
-    if_none (is_judged run) run.input.event (no_event (is_judged run) (is_some run.input.header) run.input.event (and_first (goes_on run) true h))
+    if_none (is_judged run) run.input.event (no_event (is_judged run) (is_some run.input.format) run.input.event (and_first (goes_on run) true h))
 all_go_on (run ∷ next ∷ runs) h = all_go_on (next ∷ runs) (and_second (goes_on run) (list_all goes_on (next ∷ runs)) h)
 
 done_goes_on : (script : Script) (runs : List FlowRun) → IsTrue (is_done script runs) → IsTrue (list_all goes_on runs)
