@@ -10,12 +10,12 @@ use Rattle.pcapng_frames.proofs.Law.{the_first_block_gives_no_frame}
 use Rattle.pcap_frames.specs.Capture.{capture_of}
 use Rattle.capture_reader.specs.declared.reader.AnyFrames.TheVariants.{Pcapng}
 use Rattle.capture_reader.specs.CaptureFile.{by_pcapng, by_pcap, is_pcapng, capture_file}
-use Rattle.capture_reader.specs.Reader.{IsBegun}
+use Rattle.capture_reader.specs.Reader.{IsFileBegun}
 
 pub file_of_pcapng : (file : List ℕ) → is_pcapng file ≡ true → capture_file file ≡ by_pcapng (block_at no_section 0 file) (ng_of file)
 file_of_pcapng file is = ap (λ ng. if ng then by_pcapng (block_at no_section 0 file) (ng_of file) else by_pcap (capture_of file)) is
 
-pub begins_pcapng : (held : Option (List ℕ)) (reader : NgReader) → is_pcapng (octets_of held) ≡ true → block_at no_section 0 (octets_of held) ≡ Ok (begun_block reader) → IsBegun (Ok (Pcapng reader)) held
+pub begins_pcapng : (held : Option (List ℕ)) (reader : NgReader) → is_pcapng (octets_of held) ≡ true → block_at no_section 0 (octets_of held) ≡ Ok (begun_block reader) → IsFileBegun (Ok (Pcapng reader)) held
 begins_pcapng None reader is here = absurd cc
 begins_pcapng (Some file) reader is here = (
   file,

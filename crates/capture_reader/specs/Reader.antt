@@ -20,9 +20,9 @@ use Rattle.capture_reader.specs.Frame.{CapturedFrame, packet_in}
 use Rattle.capture_reader.specs.CaptureFile.{CaptureFile, frame_of_record, frame_of_packet, capture_file}
 
 -- the name of its file
-abbrev pub name_of : AnyFrames → List ℕ
-name_of (Pcap frames) = frames.name
-name_of (Pcapng frames) = frames.name
+abbrev pub file_name_of : AnyFrames → List ℕ
+file_name_of (Pcap frames) = frames.name
+file_name_of (Pcapng frames) = frames.name
 
 -- the file's format
 abbrev pub format_of : AnyFrames → CaptureFormat
@@ -52,12 +52,12 @@ abbrev pub begun_file : AnyFrames → List ℕ → CaptureFile
 begun_file reader file = let left = left_of reader file in record { format = format_of reader; frames = left.frames; fault = left.fault }
 
 -- how the reading of a file begins: with all its frames left, or with the fault of its beginning; the other stops say nothing of the file
-abbrev pub IsBegun : Result AnyFrames ReadStop → Option (List ℕ) → Type 0
-IsBegun (Ok reader) held = (file : List ℕ) × (held ≡ Some file) × (capture_file file ≡ Ok (begun_file reader file))
-IsBegun (Err (stop.Capture broken)) held = (file : List ℕ) × (held ≡ Some file) × (capture_file file ≡ Err (fault.Pcap broken))
-IsBegun (Err (stop.Ng broken)) held = (file : List ℕ) × (held ≡ Some file) × (capture_file file ≡ Err (fault.Pcapng broken))
-IsBegun (Err stop.ReadFault) held = Unit {0}
-IsBegun (Err stop.OutOfMemory) held = Unit {0}
+abbrev pub IsFileBegun : Result AnyFrames ReadStop → Option (List ℕ) → Type 0
+IsFileBegun (Ok reader) held = (file : List ℕ) × (held ≡ Some file) × (capture_file file ≡ Ok (begun_file reader file))
+IsFileBegun (Err (stop.Capture broken)) held = (file : List ℕ) × (held ≡ Some file) × (capture_file file ≡ Err (fault.Pcap broken))
+IsFileBegun (Err (stop.Ng broken)) held = (file : List ℕ) × (held ≡ Some file) × (capture_file file ≡ Err (fault.Pcapng broken))
+IsFileBegun (Err stop.ReadFault) held = Unit {0}
+IsFileBegun (Err stop.OutOfMemory) held = Unit {0}
 
 -- the next frame, whose packet was read, and what is left behind it
 abbrev pub IsTaken : FrameHead → PacketIn → FramesLeft → FramesLeft → Type 0
@@ -65,10 +65,10 @@ IsTaken head packet left left' =
     (frame : CapturedFrame) × (frame.head ≡ head) × (packet_in frame ≡ packet) × (left ≡ record { frames = frame ∷ left'.frames; fault = left'.fault })
 
 -- an answer by what is left, and what is left then: a frame; that there is none; or the fault there; the other stops say nothing of the file
-abbrev pub IsNext : Result (Option FrameHead) ReadStop → PacketIn → FramesLeft → FramesLeft → Type 0
-IsNext (Ok (Some head)) packet left left' = IsTaken head packet left left'
-IsNext (Ok None) packet left left' = left ≡ record { frames = []; fault = None }
-IsNext (Err (stop.Capture broken)) packet left left' = left ≡ record { frames = []; fault = Some (fault.Pcap broken) }
-IsNext (Err (stop.Ng broken)) packet left left' = left ≡ record { frames = []; fault = Some (fault.Pcapng broken) }
-IsNext (Err stop.ReadFault) packet left left' = Unit {0}
-IsNext (Err stop.OutOfMemory) packet left left' = Unit {0}
+abbrev pub IsNextFrame : Result (Option FrameHead) ReadStop → PacketIn → FramesLeft → FramesLeft → Type 0
+IsNextFrame (Ok (Some head)) packet left left' = IsTaken head packet left left'
+IsNextFrame (Ok None) packet left left' = left ≡ record { frames = []; fault = None }
+IsNextFrame (Err (stop.Capture broken)) packet left left' = left ≡ record { frames = []; fault = Some (fault.Pcap broken) }
+IsNextFrame (Err (stop.Ng broken)) packet left left' = left ≡ record { frames = []; fault = Some (fault.Pcapng broken) }
+IsNextFrame (Err stop.ReadFault) packet left left' = Unit {0}
+IsNextFrame (Err stop.OutOfMemory) packet left left' = Unit {0}

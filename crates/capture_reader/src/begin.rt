@@ -2,7 +2,7 @@
 ghost use Rattle.std.specs.Prelude.{◌≡◌, IsTrue, true, false, IfOk};
 ghost use Rattle.net_io.specs.Depot.{octets_of, OnlyReads};
 ghost use Rattle.capture_reader.specs.CaptureFile.{is_pcapng};
-ghost use Rattle.capture_reader.specs.Reader.{name_of, IsReadable, IsBegun};
+ghost use Rattle.capture_reader.specs.Reader.{file_name_of, IsReadable, IsFileBegun};
 
 use crate::ReadStop;
 use crate::reader::AnyFrames;
@@ -31,8 +31,8 @@ fn begin_pcap<D: Depot>(alloc: Global, depot: &mut D, name: &str) -> Result<AnyF
     requires pcap { IsTrue (D.state depot.old).tells
         → is_pcapng (octets_of ((D.state depot.old).held name.now)) ≡ false }
     ensures answer { IsTrue (D.state depot.old).tells
-        → IsBegun result ((D.state depot.old).held name.now) }
-    ensures name { IfOk result (λ reader. name_of reader ≡ name.now) }
+        → IsFileBegun result ((D.state depot.old).held name.now) }
+    ensures name { IfOk result (λ reader. file_name_of reader ≡ name.now) }
     ensures ready { IfOk result (λ reader. IsReadable (D.state depot.new) reader) }
     ensures frame { OnlyReads ReadStop.ReadFault result name.now (D.state depot.old)
         (D.state depot.new) }
@@ -46,8 +46,8 @@ fn begin_pcapng<D: Depot>(alloc: Global, depot: &mut D, name: &str) -> Result<An
     requires pcapng { IsTrue (D.state depot.old).tells
         → is_pcapng (octets_of ((D.state depot.old).held name.now)) ≡ true }
     ensures answer { IsTrue (D.state depot.old).tells
-        → IsBegun result ((D.state depot.old).held name.now) }
-    ensures name { IfOk result (λ reader. name_of reader ≡ name.now) }
+        → IsFileBegun result ((D.state depot.old).held name.now) }
+    ensures name { IfOk result (λ reader. file_name_of reader ≡ name.now) }
     ensures ready { IfOk result (λ reader. IsReadable (D.state depot.new) reader) }
     ensures frame { OnlyReads ReadStop.ReadFault result name.now (D.state depot.old)
         (D.state depot.new) }
@@ -66,8 +66,8 @@ fn begin_as<D: Depot>(
     requires format { IsTrue (D.state depot.old).tells
         → is_pcapng (octets_of ((D.state depot.old).held name.now)) ≡ is_ng }
     ensures answer { IsTrue (D.state depot.old).tells
-        → IsBegun result ((D.state depot.old).held name.now) }
-    ensures name { IfOk result (λ reader. name_of reader ≡ name.now) }
+        → IsFileBegun result ((D.state depot.old).held name.now) }
+    ensures name { IfOk result (λ reader. file_name_of reader ≡ name.now) }
     ensures ready { IfOk result (λ reader. IsReadable (D.state depot.new) reader) }
     ensures frame { OnlyReads ReadStop.ReadFault result name.now (D.state depot.old)
         (D.state depot.new) }
@@ -86,8 +86,8 @@ pub(crate) fn begin_frames<D: Depot>(
     name: &str,
 ) -> Result<AnyFrames, ReadStop>
     ensures answer { IsTrue (D.state depot.old).tells
-        → IsBegun result ((D.state depot.old).held name.now) }
-    ensures name { IfOk result (λ reader. name_of reader ≡ name.now) }
+        → IsFileBegun result ((D.state depot.old).held name.now) }
+    ensures name { IfOk result (λ reader. file_name_of reader ≡ name.now) }
     ensures ready { IfOk result (λ reader. IsReadable (D.state depot.new) reader) }
     ensures frame { OnlyReads ReadStop.ReadFault result name.now (D.state depot.old)
         (D.state depot.new) }

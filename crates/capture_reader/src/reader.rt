@@ -4,7 +4,7 @@ ghost use Rattle.std.specs.Prelude.{◌≡◌, ◌≤◌, ℕ, List, IsTrue, [],
 ghost use Rattle.std.specs.Result.{result_map_both};
 ghost use Rattle.net_io.specs.Depot.{octets_of, OnlyReads};
 ghost use Rattle.capture_reader.specs.declared.format.CaptureFormat.{CaptureFormat as Format};
-ghost use Rattle.capture_reader.specs.Reader.{FramesLeft, name_of, format_of, left_of, IsReadable, IsBegun, IsNext};
+ghost use Rattle.capture_reader.specs.Reader.{FramesLeft, file_name_of, format_of, left_of, IsReadable, IsFileBegun, IsNextFrame};
 ghost use Rattle.capture_reader.specs.Written.{IsTime};
 ghost use Rattle.capture_reader.specs.inside.Given.{IsGiven};
 
@@ -50,8 +50,8 @@ fn next_frame<D: Depot>(
 ) -> Result<Option<LinkedHead>, ReadStop>
     requires ready { IsReadable (D.state depot.old) frames.old }
     ensures answer { IsTrue (D.state depot.old).tells → IsGiven result into.new.items
-        (left_of frames.old (octets_of ((D.state depot.old).held (name_of frames.old))))
-        (left_of frames.new (octets_of ((D.state depot.old).held (name_of frames.old)))) }
+        (left_of frames.old (octets_of ((D.state depot.old).held (file_name_of frames.old))))
+        (left_of frames.new (octets_of ((D.state depot.old).held (file_name_of frames.old)))) }
     ensures short { vec_len into.new ≤ 262144 }
     ensures time { IfOk result (λ read. IfSome read
         (λ given. IsTime (format_of frames.old) given.head)) }
@@ -59,10 +59,10 @@ fn next_frame<D: Depot>(
     ensures empty { OnErr result (into.new.items ≡ []) }
     ensures stands { OnErr result
         ((file : List ℕ) → left_of frames.new file ≡ left_of frames.old file) }
-    ensures name { name_of frames.new ≡ name_of frames.old }
+    ensures name { file_name_of frames.new ≡ file_name_of frames.old }
     ensures format { format_of frames.new ≡ format_of frames.old }
     ensures ready { IsReadable (D.state depot.new) frames.new }
-    ensures frame { OnlyReads ReadStop.ReadFault result (name_of frames.old) (D.state depot.old)
+    ensures frame { OnlyReads ReadStop.ReadFault result (file_name_of frames.old) (D.state depot.old)
         (D.state depot.new) }
 {
     match frames {
@@ -81,7 +81,7 @@ fn put(
     requires empty { OnErr read (octets.items ≡ []) }
     ensures same { result ≡ result_map_both (option_map (λ given. given.head)) (λ stop. stop) read }
     ensures answer { (left left' : FramesLeft) → IsGiven read octets.items left left'
-        → IsNext result into.new left left' }
+        → IsNextFrame result into.new left left' }
     ensures short { length into.new.bytes ≤ length octets.items }
     ensures time { (format : Format)
         → IfOk read (λ given. IfSome given (λ linked. IsTime format linked.head))
@@ -116,8 +116,8 @@ impl CaptureReader {
         name: &str,
     ) -> Result<CaptureReader, ReadStop>
         ensures answer { IsTrue (D.state depot.old).tells
-            → IsBegun result ((D.state depot.old).held name.now) }
-        ensures name { IfOk result (λ reader. name_of reader ≡ name.now) }
+            → IsFileBegun result ((D.state depot.old).held name.now) }
+        ensures name { IfOk result (λ reader. file_name_of reader ≡ name.now) }
         ensures ready { IfOk result (λ reader. IsReadable (D.state depot.new) reader) }
         ensures frame { OnlyReads ReadStop.ReadFault result name.now (D.state depot.old)
             (D.state depot.new) }
@@ -136,18 +136,20 @@ impl CaptureReader {
         into: &mut PacketIn,
     ) -> Result<Option<FrameHead>, ReadStop>
         requires ready { IsReadable (D.state depot.old) self.old }
-        ensures answer { IsTrue (D.state depot.old).tells → IsNext result into.new
-            (left_of self.old (octets_of ((D.state depot.old).held (name_of self.old))))
-            (left_of self.new (octets_of ((D.state depot.old).held (name_of self.old)))) }
+        ensures answer { IsTrue (D.state depot.old).tells → IsNextFrame result into.new
+            (left_of self.old (octets_of ((D.state depot.old).held (file_name_of self.old))))
+            (left_of self.new (octets_of ((D.state depot.old).held (file_name_of self.old)))) }
         ensures short { length into.new.bytes ≤ 262144 }
-        ensures time { IfOk result (λ read. IfSome read (λ head. IsTime (format_of self.old) head)) }
+        ensures time { IfOk result
+            (λ read. IfSome read (λ head. IsTime (format_of self.old) head)) }
         ensures none { IfOk result (λ read. read ≡ None → into.new.bytes ≡ []) }
         ensures empty { OnErr result (into.new.bytes ≡ []) }
-        ensures stands { OnErr result ((file : List ℕ) → left_of self.new file ≡ left_of self.old file) }
-        ensures name { name_of self.new ≡ name_of self.old }
+        ensures stands { OnErr result
+            ((file : List ℕ) → left_of self.new file ≡ left_of self.old file) }
+        ensures name { file_name_of self.new ≡ file_name_of self.old }
         ensures format { format_of self.new ≡ format_of self.old }
         ensures ready { IsReadable (D.state depot.new) self.new }
-        ensures frame { OnlyReads ReadStop.ReadFault result (name_of self.old) (D.state depot.old)
+        ensures frame { OnlyReads ReadStop.ReadFault result (file_name_of self.old) (D.state depot.old)
             (D.state depot.new) }
     {
         let mut octets = taken(self.alloc, into);

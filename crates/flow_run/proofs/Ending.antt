@@ -18,7 +18,7 @@ use Rattle.capture_reader.specs.declared.fault.ReadStop.TheVariants as read_stop
 use Rattle.capture_reader.specs.declared.reader.AnyFrames.{AnyFrames}
 use Rattle.capture_reader.specs.Frame.{CapturedFrame, packet_in}
 use Rattle.capture_reader.specs.CaptureFile.{CaptureFile, capture_file}
-use Rattle.capture_reader.specs.Reader.{name_of, format_of, left_of, begun_file, IsBegun as IsReadBegun}
+use Rattle.capture_reader.specs.Reader.{file_name_of, format_of, left_of, begun_file, IsFileBegun}
 use Rattle.capture_reader.specs.Written.{file_frames, file_octets}
 use Rattle.shared_tables.specs.Plan.{PlanState}
 use Rattle.label_flow.specs.Pair.{PairState}
@@ -187,7 +187,7 @@ module _ (plan : PlanState) (names : List (List ℕ)) (workers number most upto 
 -- ---- a flow that has run
 
 -- the input that was begun
-begun_holds : (reader : AnyFrames) (held : Option (List ℕ)) → IsReadBegun (Ok reader) held → Holds held (Ok (begun_file reader (octets_of held)))
+begun_holds : (reader : AnyFrames) (held : Option (List ℕ)) → IsFileBegun (Ok reader) held → Holds held (Ok (begun_file reader (octets_of held)))
 begun_holds reader held begun = (begun.0, begun.1, begun.2 ∙ ap (λ (f : List ℕ). Ok (begun_file reader f)) (sym (ap octets_of begun.1)))
 
 held_file : (held : Option (List ℕ)) (capture : CaptureFile) → Holds held (Ok capture) → capture_file (octets_of held) ≡ Ok capture
@@ -563,7 +563,7 @@ start_of flow most before mid folder source octets apart read created head =
       here = λ told. created.here refl (ready told);
       others = λ told name other. created.others (ready told) name other ∙ read.kept told name;
       head = head;
-      fed = fed_kept mid folder source source created.told (λ told. created.others told (name_of source.reader) (λ is. apart (is ∙ ap Some read.fresh.name))) refl refl refl refl refl read.fed;
+      fed = fed_kept mid folder source source created.told (λ told. created.others told (file_name_of source.reader) (λ is. apart (is ∙ ap Some read.fresh.name))) refl refl refl refl refl read.fed;
       reads = λ name. created.reads name ∙ read.reads name;
       creates = λ name. created.moved name ∙ read.creates name;
       appends = λ name. created.appends name ∙ read.appends name;
@@ -604,7 +604,7 @@ ends_uncreated plan names workers number most upto flow before after waits waits
 -- ---- the beginning of the input
 
 pub read_of : (flow : FlowLine) (most : ℕ) (before mid : DepotState) (source : Source) → IsFresh flow.input most source → IsFed mid source
-    → (IsTrue before.tells → IsReadBegun (Ok source.reader) (before.held flow.input)) → OnlyReads {T = Source} read_stop.ReadFault (Ok source) flow.input before mid → HasRead flow most before mid source
+    → (IsTrue before.tells → IsFileBegun (Ok source.reader) (before.held flow.input)) → OnlyReads {T = Source} read_stop.ReadFault (Ok source) flow.input before mid → HasRead flow most before mid source
 read_of flow most before mid source fresh fed begun only = record {
   told = only.told;
   fresh = fresh;
@@ -632,7 +632,7 @@ ends_at_fault plan names workers number most upto flow before after waits waits'
 
 pub ends_unbegun : (plan : PlanState) (names : List (List ℕ)) (workers number most upto : ℕ) (flow : FlowLine) (before after : Outside) (waits waits' : List ℕ)
     (stop : ReadStop) → flow.before ≤ upto → waits' ≡ waits ++ flow_line number flow.input → after.stream ≡ before.stream
-    → (IsTrue before.folder.tells → IsReadBegun (Err stop) (before.folder.held flow.input))
+    → (IsTrue before.folder.tells → IsFileBegun (Err stop) (before.folder.held flow.input))
     → OnlyReads {T = Source} read_stop.ReadFault (Err stop) flow.input before.folder after.folder
     → FlowEnds plan names workers number most upto flow before after waits waits' [] (end_at stop)
 ends_unbegun plan names workers number most upto flow before after waits waits' (read_stop.Capture fault) low waits_are stream begun only =

@@ -17,7 +17,7 @@ use Rattle.capture_reader.specs.declared.reader.AnyFrames.{AnyFrames}
 use Rattle.capture_reader.specs.declared.reader.AnyFrames.TheVariants.{Pcap, Pcapng}
 use Rattle.capture_reader.specs.Frame.{CapturedFrame, packet_in}
 use Rattle.capture_reader.specs.CaptureFile.{CaptureFile}
-use Rattle.capture_reader.specs.Reader.{FramesLeft, name_of, format_of, left_of, IsReadable, IsTaken, IsNext}
+use Rattle.capture_reader.specs.Reader.{FramesLeft, file_name_of, format_of, left_of, IsReadable, IsTaken, IsNextFrame}
 use Rattle.capture_reader.specs.Written.{IsTime}
 use Rattle.call_report.specs.Event.{capture_event}
 use Rattle.flow_run.specs.declared.source.Source.{Source}
@@ -89,7 +89,7 @@ module _ (old new : Source) (file : List ℕ) (unended : is_end old.behind ≡ f
 
   -- where the reader has stopped
   stopped_left : (stop : ReadStop) (packet : PacketIn) → new.behind ≡ Some (behind_at stop) → left_of new.reader file ≡ left_of old.reader file → new.most ≡ old.most → new.read ≡ old.read
-      → IsNext (Err stop) packet (left_of old.reader file) (left_of new.reader file) → frames_left old file ≡ frames_left new file
+      → IsNextFrame (Err stop) packet (left_of old.reader file) (left_of new.reader file) → frames_left old file ≡ frames_left new file
   stopped_left (read_stop.Capture fault) packet behind same most read here = stops_left (ap is_end behind) (Some (file_fault.Pcap fault)) here
   stopped_left (read_stop.Ng fault) packet behind same most read here = stops_left (ap is_end behind) (Some (file_fault.Pcapng fault)) here
   stopped_left read_stop.ReadFault packet behind same most read here = stays_left (ap is_end behind) same most read
@@ -169,10 +169,10 @@ module _ (source source' : Source) (file : List ℕ) (amid : IsAmid source file)
   -- or a stop
   pub stopped_stands : (stop : ReadStop) (packet : PacketIn) (more : FramesLeft) → source'.behind ≡ Some (behind_at stop) → format_of source'.reader ≡ format_of source.reader
       → left_of source'.reader file ≡ left_of source.reader file → source'.most ≡ source.most → source'.read ≡ source.read → source.read ≤ source.most
-      → IsNext (Err stop) packet (left_of source.reader file) more → StandsBy source'.behind source' file
+      → IsNextFrame (Err stop) packet (left_of source.reader file) more → StandsBy source'.behind source' file
   stopped_stands stop packet more behind format same most read within here = subst (λ (b : Option Behind). StandsBy b source' file) (sym behind) (by_stop stop here)
     where
-      by_stop : (stop : ReadStop) → IsNext (Err stop) packet (left_of source.reader file) more → StandsBy (Some (behind_at stop)) source' file
+      by_stop : (stop : ReadStop) → IsNextFrame (Err stop) packet (left_of source.reader file) more → StandsBy (Some (behind_at stop)) source' file
       by_stop (read_stop.Capture fault) here = ends_broken (file_fault.Pcap fault) most within here
       by_stop (read_stop.Ng fault) here = ends_broken (file_fault.Pcapng fault) most within here
       by_stop read_stop.ReadFault here = amid_stays format same read
@@ -236,7 +236,7 @@ module _ (tells : Bool) (file : List ℕ) (old new : Source) (batch batch' : Lis
 
   pub got_stop : (stop : ReadStop) (packet : PacketIn) → new.heads.items ≡ old.heads.items → batch' ≡ batch → old.behind ≡ None → new.behind ≡ Some (behind_at stop)
       → left_of new.reader file ≡ left_of old.reader file → new.read ≡ old.read
-      → (IsTrue tells → IsNext (Err stop) packet (left_of old.reader file) (left_of new.reader file)) → HasGot tells file old new batch batch'
+      → (IsTrue tells → IsNextFrame (Err stop) packet (left_of old.reader file) (left_of new.reader file)) → HasGot tells file old new batch batch'
   got_stop stop packet heads packets none behind still read here =
       got_nothing heads packets (λ told. stopped_left old new file (ap is_end none) stop packet behind still same.most read (here told))
 
@@ -321,7 +321,7 @@ only_more behind name a b c one other = record {
 }
 
 -- a reader of a file that is still what it was
-pub readable_kept : (a b : DepotState) (reader : AnyFrames) → b.tells ≡ a.tells → (IsTrue a.tells → b.held (name_of reader) ≡ a.held (name_of reader)) → IsReadable a reader → IsReadable b reader
+pub readable_kept : (a b : DepotState) (reader : AnyFrames) → b.tells ≡ a.tells → (IsTrue a.tells → b.held (file_name_of reader) ≡ a.held (file_name_of reader)) → IsReadable a reader → IsReadable b reader
 readable_kept a b (Pcap frames) told held ready =
     λ told'.
     let before = subst IsTrue told told' in
@@ -333,9 +333,9 @@ readable_kept a b (Pcapng frames) told held ready =
 
 -- ---- one read behind others
 
-pub same_file : (behind : Option Behind) (a b : DepotState) (s s' : Source) → HasOnlyRead behind (name_of s.reader) a b → name_of s'.reader ≡ name_of s.reader → IsTrue a.tells
+pub same_file : (behind : Option Behind) (a b : DepotState) (s s' : Source) → HasOnlyRead behind (file_name_of s.reader) a b → file_name_of s'.reader ≡ file_name_of s.reader → IsTrue a.tells
     → file_of b s' ≡ file_of a s
-same_file behind a b s s' only name told = ap (λ n. octets_of (b.held n)) name ∙ ap octets_of (only.kept told (name_of s.reader))
+same_file behind a b s s' only name told = ap (λ n. octets_of (b.held n)) name ∙ ap octets_of (only.kept told (file_name_of s.reader))
 
 got_at : (tells tells' : Bool) (file file' : List ℕ) (old new : Source) (xs ys : List PacketIn) → tells' ≡ tells → (IsTrue tells → file' ≡ file)
     → HasGot tells' file' old new xs ys → HasGot tells file old new xs ys
@@ -352,7 +352,7 @@ got_at tells tells' file file' old new xs ys same files got = record {
   read = λ told. subst (λ (f : List ℕ). AreRead f old new got.times got.packets) (files told) (got.read (subst IsTrue (sym same) told));
 }
 
-module _ (a b : DepotState) (s s' : Source) (xs ys : List PacketIn) (only : HasOnlyRead None (name_of s.reader) a b) (got : HasGot a.tells (file_of a s) s s' xs ys) where
+module _ (a b : DepotState) (s s' : Source) (xs ys : List PacketIn) (only : HasOnlyRead None (file_name_of s.reader) a b) (got : HasGot a.tells (file_of a s) s s' xs ys) where
   pub next_got : (s'' : Source) (zs : List PacketIn) → HasGot b.tells (file_of b s') s' s'' ys zs → HasGot a.tells (file_of a s) s s'' xs zs
   next_got s'' zs more =
       got_more a.tells (file_of a s) s s' s'' xs ys zs got
@@ -362,17 +362,17 @@ module _ (a b : DepotState) (s s' : Source) (xs ys : List PacketIn) (only : HasO
   next_stands behind s'' stands told =
       subst (λ (f : List ℕ). StandsBy behind s'' f) (same_file None a b s s' only got.same.name told) (stands (subst IsTrue (sym only.told) told))
 
-  pub next_only : (behind : Option Behind) (c : DepotState) → HasOnlyRead behind (name_of s'.reader) b c → HasOnlyRead behind (name_of s.reader) a c
-  next_only behind c more = only_more behind (name_of s.reader) a b c only (subst (λ (n : List ℕ). HasOnlyRead behind n b c) got.same.name more)
+  pub next_only : (behind : Option Behind) (c : DepotState) → HasOnlyRead behind (file_name_of s'.reader) b c → HasOnlyRead behind (file_name_of s.reader) a c
+  next_only behind c more = only_more behind (file_name_of s.reader) a b c only (subst (λ (n : List ℕ). HasOnlyRead behind n b c) got.same.name more)
 
   pub next_amid : (s'' : Source) → s''.behind ≡ None → (IsTrue b.tells → StandsBy s''.behind s'' (file_of b s')) → IsTrue a.tells → IsAmid s'' (file_of a s)
   next_amid s'' none stands told = subst (λ (x : Option Behind). StandsBy x s'' (file_of a s)) none (next_stands s''.behind s'' stands told)
 
-  pub next_none : (s'' : Source) (c : DepotState) → s''.behind ≡ None → HasOnlyRead s''.behind (name_of s'.reader) b c → HasOnlyRead None (name_of s.reader) a c
-  next_none s'' c none more = subst (λ (x : Option Behind). HasOnlyRead x (name_of s.reader) a c) none (next_only s''.behind c more)
+  pub next_none : (s'' : Source) (c : DepotState) → s''.behind ≡ None → HasOnlyRead s''.behind (file_name_of s'.reader) b c → HasOnlyRead None (file_name_of s.reader) a c
+  next_none s'' c none more = subst (λ (x : Option Behind). HasOnlyRead x (file_name_of s.reader) a c) none (next_only s''.behind c more)
 
 -- a batch behind what a source needs
-pub fed_on : (a b : DepotState) (s s' : Source) (xs ys : List PacketIn) → IsFed a s → IsReadable b s'.reader → s'.read ≤ s'.most → HasOnlyRead s'.behind (name_of s.reader) a b
+pub fed_on : (a b : DepotState) (s s' : Source) (xs ys : List PacketIn) → IsFed a s → IsReadable b s'.reader → s'.read ≤ s'.most → HasOnlyRead s'.behind (file_name_of s.reader) a b
     → (IsTrue a.tells → StandsBy s'.behind s' (file_of a s)) → HasGot a.tells (file_of a s) s s' xs ys → IsFed b s'
 fed_on a b s s' xs ys fed ready within only stands got = record {
   ready = ready;

@@ -14,7 +14,7 @@ use Rattle.packet_walk.specs.declared.walked.Walked.{Walked}
 use Rattle.capture_reader.specs.declared.format.CaptureFormat.{CaptureFormat}
 use Rattle.capture_reader.specs.declared.reader.AnyFrames.{AnyFrames}
 use Rattle.capture_reader.specs.Frame.{CapturedFrame}
-use Rattle.capture_reader.specs.Reader.{name_of, format_of, IsReadable}
+use Rattle.capture_reader.specs.Reader.{file_name_of, format_of, IsReadable}
 use Rattle.capture_reader.specs.Written.{file_frame, file_frames, IsTime}
 use Rattle.label_flow.specs.Pair.{PairState, pair}
 use Rattle.label_flow.specs.Schedule.{versions_in}
@@ -183,7 +183,7 @@ module _ (number : ℕ) (names : List (List ℕ)) (flow : FlowLine) (was now : M
     same_then new (inl one) told name = one.1.kept told name
     same_then new (inr stays) told name = ap (λ (d : DepotState). d.held name) stays.1
 
-    reads_then : (new : Moment) → name_of now.source.reader ≡ flow.input → HasMoved now.source new.source now.folder new.folder → ReadsMove new.source.behind flow.input was.folder.reads new.folder.reads
+    reads_then : (new : Moment) → file_name_of now.source.reader ≡ flow.input → HasMoved now.source new.source now.folder new.folder → ReadsMove new.source.behind flow.input was.folder.reads new.folder.reads
     reads_then new input (inl one) =
         reads_more new.source.behind flow.input was.folder.reads now.folder.reads new.folder.reads
         (subst (λ (b : Option Behind). ReadsMove b flow.input was.folder.reads now.folder.reads) one.0 taken.reads)
@@ -204,7 +204,7 @@ module _ (number : ℕ) (names : List (List ℕ)) (flow : FlowLine) (was now : M
     told_then new (inr stays) = ap (λ (d : DepotState). d.tells) stays.1
 
     -- the file of the input is what it was
-    file_now : flow.output ≢ Some flow.input → name_of was.source.reader ≡ flow.input → IsTrue was.folder.tells → file_of now.folder now.source ≡ file_of was.folder was.source
+    file_now : flow.output ≢ Some flow.input → file_name_of was.source.reader ≡ flow.input → IsTrue was.folder.tells → file_of now.folder now.source ≡ file_of was.folder was.source
     file_now apart input told =
         ap (λ n. octets_of (now.folder.held n)) taken.source.name
         ∙ ap (λ n. octets_of (now.folder.held n)) input
@@ -212,14 +212,14 @@ module _ (number : ℕ) (names : List (List ℕ)) (flow : FlowLine) (was now : M
         ∙ ap (λ n. octets_of (was.folder.held n)) (sym input)
 
     -- nothing but the folder, the source and the stop has changed
-    pub taken_fetched : (new : Moment) → name_of now.source.reader ≡ flow.input → flow.output ≢ Some flow.input
+    pub taken_fetched : (new : Moment) → file_name_of now.source.reader ≡ flow.input → flow.output ≢ Some flow.input
         → new.stream ≡ now.stream → new.lines ≡ now.lines → new.octets ≡ now.octets → new.seen ≡ now.seen → new.passed ≡ now.passed → new.denied ≡ now.denied
         → HasStepped now.source new.source now.folder new.folder → (new.stop ≡ None) ⊎ (new.stop ≡ pending new.source.behind) → HasTaken number names flow was new pairs
     unfolding text_of
     taken_fetched new input apart stream lines octets seen passed denied stepped stop =
         let moved = stepped.moved in
         let text = walked_lines number (length was.seen + 1) names flow.hops pairs in
-        let was_input : name_of was.source.reader ≡ flow.input = sym taken.source.name ∙ input in
+        let was_input : file_name_of was.source.reader ≡ flow.input = sym taken.source.name ∙ input in
         let handed : IsHandedOn text was.lines new.lines was.stream new.stream =
         subst (λ (w : List ℕ). IsHandedOn text was.lines w was.stream new.stream) (sym lines) (subst (λ (s : SinkState). IsHandedOn text was.lines now.lines was.stream s) (sym stream) lines_none) in
         let still_moved : IsMoved flow None (outside_of was) (outside_of new) =
@@ -452,13 +452,13 @@ module _ (stop : Option FlowStop) (text : List ℕ) (output : Option (List ℕ))
       (here.held ++ here.sent, here.now)
   handed_there (inr failed) there = subst (λ (d : DepotState). IsThere output d) (sym failed.3) there
 
-pub fed_kept : (a b : DepotState) (s s' : Source) → b.tells ≡ a.tells → (IsTrue a.tells → b.held (name_of s.reader) ≡ a.held (name_of s.reader))
+pub fed_kept : (a b : DepotState) (s s' : Source) → b.tells ≡ a.tells → (IsTrue a.tells → b.held (file_name_of s.reader) ≡ a.held (file_name_of s.reader))
     → s'.reader ≡ s.reader → s'.most ≡ s.most → s'.read ≡ s.read → s'.behind ≡ s.behind → s'.heads.items ≡ s.heads.items → IsFed a s → IsFed b s'
 fed_kept a b s s' told held reader most read behind heads fed = record {
   ready = subst (λ (r : AnyFrames). IsReadable b r) (sym reader) (readable_kept a b s.reader told held fed.ready);
   stands = λ told'.
       let before = subst IsTrue told told' in
-      let here = ap (λ (r : AnyFrames). octets_of (b.held (name_of r))) reader ∙ ap octets_of (held before) in
+      let here = ap (λ (r : AnyFrames). octets_of (b.held (file_name_of r))) reader ∙ ap octets_of (held before) in
       subst (λ (f : List ℕ). StandsBy s'.behind s' f) (sym here)
       (subst (λ (x : Option Behind). StandsBy x s' (file_of a s)) (sym behind) (stands_same s.behind s s' (file_of a s) reader most read (fed.stands before)));
   within = subst (λ n. s'.read ≤ n) (sym most) (subst (λ n. n ≤ s.most) (sym read) fed.within);
@@ -472,12 +472,12 @@ module _ (flow : FlowLine) (now new : Moment) (stop : Option FlowStop) (text fra
       → IsFed new.folder new.source
   fed_handed fed most read behind heads =
       fed_kept now.folder new.folder now.source new.source (handed_told stop text flow.output frame (outlets_at now) (outlets_at new) handed)
-      (λ told. handed_others stop text flow.output frame (outlets_at now) (outlets_at new) handed told (name_of now.source.reader) (λ is. going.apart (is ∙ ap Some going.input)))
+      (λ told. handed_others stop text flow.output frame (outlets_at now) (outlets_at new) handed told (file_name_of now.source.reader) (λ is. going.apart (is ∙ ap Some going.input)))
       reader most read behind heads fed
 
   going_handed : (versions : List ℕ) (denied : Bool) → new.seen ≡ now.seen ++ versions ∷ [] → new.passed ≡ now.passed + cond denied 0 1 → new.denied ≡ now.denied + cond denied 1 0 → IsGoing flow new
   going_handed versions denied seen passed more = record {
-    input = ap name_of reader ∙ going.input;
+    input = ap file_name_of reader ∙ going.input;
     apart = going.apart;
     present = handed_there stop text flow.output frame (outlets_at now) (outlets_at new) handed going.present;
     counts = omega (arith, going.counts, ap length seen, length-append now.seen (versions ∷ []), passed, more, one_counts denied);

@@ -1,7 +1,7 @@
 //! One flow, from its line to the next one's.
 
 ghost use Rattle.std.specs.Prelude.{◌≡◌, ◌≢◌, ◌⊎◌, ◌+◌, ◌≤◌, [], length, None, Some, true, OnOk, IfOk, IsOk};
-ghost use Rattle.capture_reader.specs.Reader.{name_of};
+ghost use Rattle.capture_reader.specs.Reader.{file_name_of};
 ghost use Rattle.label_flow.specs.Round.{AreReplies};
 ghost use Rattle.flow_run.specs.Place.{StandsAt, tables_at};
 ghost use Rattle.flow_run.specs.Ends.{HasEnded, FlowEndsAt};
@@ -131,7 +131,7 @@ fn finish<D: Depot, S: Sink>(
     ensures gives { IfOk driven (λ replies. Gives result network replies.items) }
     ensures done { HasEnded result → IsOk driven }
     ensures fed { IsFed (D.state feed.old.depot.now) feed.old.source
-        → feed.old.place.flow.now.output ≢ Some (name_of feed.old.source.reader)
+        → feed.old.place.flow.now.output ≢ Some (file_name_of feed.old.source.reader)
         → IsFed (D.state feed.new.depot.now) feed.new.source }
 {
     match driven {

@@ -2,7 +2,7 @@
 
 ghost use Rattle.std.specs.Prelude.{◌≡◌, ◌≤◌, ◌<◌, ◌⊎◌, IsTrue, ◌+◌, [], length, None, Some, Ok, Err, IsSome, if◌then◌else◌, All, OnErr, IfOk, IfErr, true, false, vec_len, vec_capacity};
 ghost use Rattle.net_io.specs.Depot.{OnlyReads};
-ghost use Rattle.capture_reader.specs.Reader.{name_of, format_of, IsReadable, IsBegun};
+ghost use Rattle.capture_reader.specs.Reader.{file_name_of, format_of, IsReadable, IsFileBegun};
 ghost use Rattle.capture_reader.specs.Written.{IsTime};
 ghost use Rattle.label_flow.specs.Feed.{HasFetched};
 ghost use Rattle.flow_run.specs.inside.Flown.{IsFresh};
@@ -97,7 +97,7 @@ fn read_one<D: Depot>(
     requires begins { source.old.behind ≡ None }
     ensures within { source.new.read ≤ source.new.most }
     ensures ready { IsReadable (D.state depot.new) source.new.reader }
-    ensures reads { HasOnlyRead source.new.behind (name_of source.old.reader)
+    ensures reads { HasOnlyRead source.new.behind (file_name_of source.old.reader)
         (D.state depot.old) (D.state depot.new) }
     ensures stands { IsTrue (D.state depot.old).tells
         → StandsBy source.new.behind source.new (file_of (D.state depot.old) source.old) }
@@ -157,7 +157,7 @@ fn fill<D: Depot>(alloc: Global, depot: &mut D, source: &mut Source, batch: &mut
     requires empty { batch.old.items ≡ [] }
     ensures within { source.new.read ≤ source.new.most }
     ensures ready { IsReadable (D.state depot.new) source.new.reader }
-    ensures reads { HasOnlyRead source.new.behind (name_of source.old.reader)
+    ensures reads { HasOnlyRead source.new.behind (file_name_of source.old.reader)
         (D.state depot.old) (D.state depot.new) }
     ensures stands { IsTrue (D.state depot.old).tells
         → StandsBy source.new.behind source.new (file_of (D.state depot.old) source.old) }
@@ -239,9 +239,9 @@ pub(crate) fn begin_source<D: Depot>(
     ensures fresh { IfOk result (λ source. IsFresh name.now most source) }
     ensures fed { IfOk result (λ source. IsFed (D.state depot.new) source) }
     ensures begun { IfOk result (λ source. IsTrue (D.state depot.old).tells
-        → IsBegun (Ok source.reader) ((D.state depot.old).held name.now)) }
+        → IsFileBegun (Ok source.reader) ((D.state depot.old).held name.now)) }
     ensures stops { IfErr result (λ stop. IsTrue (D.state depot.old).tells
-        → IsBegun (Err stop) ((D.state depot.old).held name.now)) }
+        → IsFileBegun (Err stop) ((D.state depot.old).held name.now)) }
     ensures frame { OnlyReads ReadStop.ReadFault result name.now
         (D.state depot.old) (D.state depot.new) }
 {

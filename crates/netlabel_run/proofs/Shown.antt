@@ -17,7 +17,7 @@ use Rattle.capture_reader.specs.declared.fault.ReadStop.TheVariants as stop
 use Rattle.capture_reader.specs.declared.reader.AnyFrames.{AnyFrames}
 use Rattle.capture_reader.specs.Frame.{CapturedFrame, packet_in}
 use Rattle.capture_reader.specs.CaptureFile.{CaptureFile, capture_file}
-use Rattle.capture_reader.specs.Reader.{name_of, format_of, left_of, IsBegun, IsNext}
+use Rattle.capture_reader.specs.Reader.{file_name_of, format_of, left_of, IsFileBegun, IsNextFrame}
 use Rattle.netlabel_run.specs.declared.command.Command.{Command}
 use Rattle.netlabel_run.specs.declared.command.Command.TheVariants.{Show}
 use Rattle.call_report.specs.declared.status.Status.{Status}
@@ -125,15 +125,15 @@ module _ (file : List ℕ) where
 
 -- Nothing has failed, and so many frames were shown; the reader stands in front of the next.
 pub record IsShowing (file : List ℕ) (before now : Outside) (reader : AnyFrames) (waiting : List ℕ) (n : ℕ) : Type 0 where
-  pub name : name_of reader ≡ file
+  pub name : file_name_of reader ≡ file
   pub same : IsUnmoved before.folder now.folder
   pub text : List ℕ
   pub way : IsUnderWay text waiting before.stream now.stream
   pub told : IsTrue before.folder.tells → (octets : List ℕ) × (before.folder.held file ≡ Some octets) × IsAmid octets (format_of reader) (left_of reader octets) n text
   pub few : n ≤ packets_limit
 
-pub shows_start : (file : List ℕ) (before now : Outside) (reader : AnyFrames) (waiting : List ℕ) → name_of reader ≡ file → waiting ≡ [] → now.stream ≡ before.stream → IsUnmoved before.folder now.folder
-    → (IsTrue before.folder.tells → IsBegun (Ok reader) (before.folder.held file)) → IsShowing file before now reader waiting 0
+pub shows_start : (file : List ℕ) (before now : Outside) (reader : AnyFrames) (waiting : List ℕ) → file_name_of reader ≡ file → waiting ≡ [] → now.stream ≡ before.stream → IsUnmoved before.folder now.folder
+    → (IsTrue before.folder.tells → IsFileBegun (Ok reader) (before.folder.held file)) → IsShowing file before now reader waiting 0
 shows_start file before now reader waiting name none stream same begun = record {
   name = name;
   same = same;
@@ -146,22 +146,22 @@ shows_start file before now reader waiting name none stream same begun = record 
 module _ (file : List ℕ) (before now after : Outside) (reader : AnyFrames) (waiting : List ℕ) (n : ℕ) (showing : IsShowing file before now reader waiting n) where
   -- what `next` has left of the folder
   abbrev Reads : Result (Option FrameHead) ReadStop → Type 0
-  Reads result = OnlyReads stop.ReadFault result (name_of reader) now.folder after.folder
+  Reads result = OnlyReads stop.ReadFault result (file_name_of reader) now.folder after.folder
 
   -- and what it has answered of a file, with this packet, where it is left so
   abbrev Answers : PacketIn → AnyFrames → Result (Option FrameHead) ReadStop → List ℕ → Type 0
-  Answers packet next result file = IsNext result packet (left_of reader file) (left_of next file)
+  Answers packet next result file = IsNextFrame result packet (left_of reader file) (left_of next file)
 
   -- of the file that is there
   abbrev Said : PacketIn → AnyFrames → Result (Option FrameHead) ReadStop → Type 0
-  Said packet next result = IsTrue now.folder.tells → Answers packet next result (octets_of (now.folder.held (name_of reader)))
+  Said packet next result = IsTrue now.folder.tells → Answers packet next result (octets_of (now.folder.held (file_name_of reader)))
 
   only : (result : Result (Option FrameHead) ReadStop) → Reads result → IsOnlyRead before.folder after.folder
-  only result reads = then_read before.folder now.folder after.folder showing.same stop.ReadFault result (name_of reader) reads
+  only result reads = then_read before.folder now.folder after.folder showing.same stop.ReadFault result (file_name_of reader) reads
 
   said : (packet : PacketIn) (next : AnyFrames) (result : Result (Option FrameHead) ReadStop) → Said packet next result → (told : IsTrue before.folder.tells) → Answers packet next result (showing.told told).0
   said packet next result answer told =
-      let held : now.folder.held (name_of reader) ≡ Some (showing.told told).0 = showing.same.kept told (name_of reader) ∙ ap before.folder.held showing.name ∙ (showing.told told).1 in
+      let held : now.folder.held (file_name_of reader) ≡ Some (showing.told told).0 = showing.same.kept told (file_name_of reader) ∙ ap before.folder.held showing.name ∙ (showing.told told).1 in
       subst (Answers packet next result) (ap octets_of held) (answer (subst IsTrue (sym showing.same.told) told))
 
   begins : IsTrue before.folder.tells → Begins (show_says file) before.folder.held showing.text
@@ -258,7 +258,7 @@ module _ (file : List ℕ) (before now after : Outside) (reader : AnyFrames) (wa
       ends_at_fault (stop.Ng fault) (Pcapng fault) status reads (λ failed. absurd cc) (said packet next (Err (stop.Ng fault)) answer) printed
   ends_at_stop stop.ReadFault packet next status reads answer printed =
       ends_stopped_unread (asked file) before after (reading_stage file ∷ []) (knows (Err stop.ReadFault) reads printed.told) showing.text (has_form file) begins status
-      (record { name = file; counted = inl refl; rose = then_rose before.folder now.folder after.folder showing.same stop.ReadFault (name_of reader) file showing.name reads })
+      (record { name = file; counted = inl refl; rose = then_rose before.folder now.folder after.folder showing.same stop.ReadFault (file_name_of reader) file showing.name reads })
       pauses (not_late file)
       (a_report_is_printed showing.text waiting before.stream now.stream showing.way [] ReadFault status after.stream printed)
   ends_at_stop stop.OutOfMemory packet next status reads answer printed =
@@ -279,11 +279,11 @@ module _ (file : List ℕ) (before now after : Outside) (reader : AnyFrames) (wa
         (amid_next t.0 (format_of reader) (left_of reader t.0) (left_of next t.0) n showing.text s taken.0 t.2 taken.3 is)
 
     -- its line was handed on
-    pub shows_next : {T : Type 0} (still : List ℕ) (x : T) → name_of next ≡ name_of reader → HandsOn (shown_line (n + 1) s) waiting still (Ok x) now.stream after.stream
+    pub shows_next : {T : Type 0} (still : List ℕ) (x : T) → file_name_of next ≡ file_name_of reader → HandsOn (shown_line (n + 1) s) waiting still (Ok x) now.stream after.stream
         → IsShowing file before after next still (n + 1)
     shows_next still x name hands = record {
       name = name ∙ showing.name;
-      same = then_unmoved before.folder now.folder after.folder showing.same stop.ReadFault (Some head) (name_of reader) reads;
+      same = then_unmoved before.folder now.folder after.folder showing.same stop.ReadFault (Some head) (file_name_of reader) reads;
       text = showing.text ++ shown_line (n + 1) s;
       way = a_report_goes_on showing.text waiting before.stream now.stream showing.way (shown_line (n + 1) s) still x after.stream hands;
       told = λ told. let t = showing.told told in (t.0, t.1, amid_more told);
@@ -342,7 +342,7 @@ module _ (file : List ℕ) (before after : Outside) where
       }))
       status (reads.reads.still other) printed
 
-  pub ends_unbegun : (why : ReadStop) (status : Status) → Began why → (IsTrue before.folder.tells → IsBegun (Err why) (before.folder.held file))
+  pub ends_unbegun : (why : ReadStop) (status : Status) → Began why → (IsTrue before.folder.tells → IsFileBegun (Err why) (before.folder.held file))
       → Printed [] (stop_line why) (stop_status why) status before.stream after.stream → CallEnds netlabel_says (asked file) before after (status_number status) []
   ends_unbegun (stop.Capture fault) status reads answer printed = ends_at_begin (stop.Capture fault) (Pcap fault) status reads (λ failed. absurd cc) answer printed
   ends_unbegun (stop.Ng fault) status reads answer printed = ends_at_begin (stop.Ng fault) (Pcapng fault) status reads (λ failed. absurd cc) answer printed

@@ -7,7 +7,7 @@ use Rattle.flow_lines.specs.declared.flow.FlowLine.{FlowLine}
 use Rattle.capture_reader.specs.declared.fault.FileFault.TheVariants as file
 use Rattle.capture_reader.specs.declared.fault.ReadStop.{ReadStop}
 use Rattle.capture_reader.specs.declared.fault.ReadStop.TheVariants as read_stop
-use Rattle.capture_reader.specs.Reader.{name_of, format_of, IsBegun}
+use Rattle.capture_reader.specs.Reader.{file_name_of, format_of, IsFileBegun}
 use Rattle.packet_walk.specs.declared.packet.PacketIn.{PacketIn}
 use Rattle.node_tables.specs.declared.reply.Reply.{Reply}
 use Rattle.node_tables.specs.Tables.{TableState}
@@ -35,7 +35,7 @@ use Rattle.flow_run.specs.inside.Taken.{Moment, HasTaken}
 
 -- nothing was read of this capture but its beginning
 pub record IsFresh (input : List ℕ) (most : ℕ) (source : Source) : Type 0 where
-  pub name : name_of source.reader ≡ input
+  pub name : file_name_of source.reader ≡ input
   pub most_is : source.most ≡ most
   pub read : source.read ≡ 0
   pub behind : source.behind ≡ None
@@ -66,7 +66,7 @@ pub record HasCreated (stop : Option FlowStop) (output : Option (List ℕ)) (old
 pub record HasRead (flow : FlowLine) (most : ℕ) (before folder : DepotState) (source : Source) : Type 0 where
   pub told : folder.tells ≡ before.tells
   pub fresh : IsFresh flow.input most source
-  pub begun : IsTrue before.tells → IsBegun (Ok source.reader) (before.held flow.input)
+  pub begun : IsTrue before.tells → IsFileBegun (Ok source.reader) (before.held flow.input)
   pub kept : IsTrue before.tells → SameHeld before.held folder.held
   pub fed : IsFed folder source
   pub reads : SameCounts before.reads folder.reads
@@ -77,7 +77,7 @@ pub record HasRead (flow : FlowLine) (most : ℕ) (before folder : DepotState) (
 pub record IsStart (flow : FlowLine) (most : ℕ) (before folder : DepotState) (source : Source) (octets : List ℕ) : Type 0 where
   pub told : folder.tells ≡ before.tells
   pub fresh : IsFresh flow.input most source
-  pub begun : IsTrue before.tells → IsBegun (Ok source.reader) (before.held flow.input)
+  pub begun : IsTrue before.tells → IsFileBegun (Ok source.reader) (before.held flow.input)
   pub here : IsTrue before.tells → (name : List ℕ) → flow.output ≡ Some name → folder.held name ≡ Some []
   pub others : IsTrue before.tells → (name : List ℕ) → flow.output ≢ Some name → folder.held name ≡ before.held name
   pub head : HasHead flow.output (format_of source.reader) octets

@@ -9,7 +9,7 @@ use Rattle.capture_reader.specs.declared.fault.ReadStop.{ReadStop}
 use Rattle.capture_reader.specs.declared.fault.ReadStop.TheVariants as read_stop
 use Rattle.capture_reader.specs.Frame.{CapturedFrame, packet_in}
 use Rattle.capture_reader.specs.CaptureFile.{CaptureFile, capture_file}
-use Rattle.capture_reader.specs.Reader.{name_of, format_of, left_of, IsReadable}
+use Rattle.capture_reader.specs.Reader.{file_name_of, format_of, left_of, IsReadable}
 use Rattle.capture_reader.specs.Written.{IsTime}
 use Rattle.call_report.specs.Lines.Capture.{capture_line}
 use Rattle.call_report.specs.Lines.Fixed.{packets_limit_line}
@@ -40,7 +40,7 @@ packets_left false source file = None
 
 -- what a folder holds of a source's file
 abbrev pub file_of : DepotState → Source → List ℕ
-file_of folder source = octets_of (folder.held (name_of source.reader))
+file_of folder source = octets_of (folder.held (file_name_of source.reader))
 
 abbrev pub left_in : DepotState → Source → Option (List PacketIn)
 left_in folder source = packets_left folder.tells source (file_of folder source)
@@ -99,7 +99,7 @@ pending (Some NoMemory) = Some the_stop.OutOfMemory
 
 -- the same reader of the same capture
 pub record IsSame (old new : Source) : Type 0 where
-  pub name : name_of new.reader ≡ name_of old.reader
+  pub name : file_name_of new.reader ≡ file_name_of old.reader
   pub format : format_of new.reader ≡ format_of old.reader
   pub most : new.most ≡ old.most
 
@@ -149,7 +149,7 @@ pub record IsFed (folder : DepotState) (source : Source) : Type 0 where
 
 -- a batch was read, or nothing where what stands behind the last packet is known already
 abbrev pub HasMoved : Source → Source → DepotState → DepotState → Type 0
-HasMoved old new before after = ((old.behind ≡ None) × HasOnlyRead new.behind (name_of old.reader) before after) ⊎ ((new.behind ≡ old.behind) × (after ≡ before))
+HasMoved old new before after = ((old.behind ≡ None) × HasOnlyRead new.behind (file_name_of old.reader) before after) ⊎ ((new.behind ≡ old.behind) × (after ≡ before))
 
 -- An empty batch was filled.
 pub record HasFilled (before after : DepotState) (old new : Source) (batch : List PacketIn) : Type 0 where

@@ -8,7 +8,7 @@ use Rattle.net_io.specs.declared.fault.IoFault.TheVariants as io
 use Rattle.flow_lines.specs.declared.flow.FlowLine.{FlowLine}
 use Rattle.pcap_frames.specs.declared.record.FrameHead.{FrameHead}
 use Rattle.pcap_frames.specs.Record.{Frame}
-use Rattle.capture_reader.specs.Reader.{name_of, format_of}
+use Rattle.capture_reader.specs.Reader.{file_name_of, format_of}
 use Rattle.capture_reader.specs.Written.{file_frames}
 use Rattle.label_flow.specs.Pair.{PairState}
 use Rattle.label_flow.specs.Schedule.{versions_in}
@@ -121,7 +121,7 @@ HasTakenAt place was now pairs = HasTaken place.number place.names.now place.flo
 
 -- What is true of a flow at each moment, and what its calls need.
 pub record IsGoing (flow : FlowLine) (now : Moment) : Type 0 where
-  pub input : name_of now.source.reader ≡ flow.input
+  pub input : file_name_of now.source.reader ≡ flow.input
   pub apart : flow.output ≢ Some flow.input
   pub present : IsThere flow.output now.folder
   pub counts : now.passed + now.denied ≡ length now.seen

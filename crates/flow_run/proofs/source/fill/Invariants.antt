@@ -1,5 +1,5 @@
 use Rattle.std.proofs.Common.{◌≡◌, ◌≤◌, ◌-◌, IsTrue, length, None}
-use Rattle.capture_reader.specs.Reader.{name_of, IsReadable}
+use Rattle.capture_reader.specs.Reader.{file_name_of, IsReadable}
 use Rattle.flow_run.specs.inside.Source.{IsAmid, HasGot, HasOnlyRead, file_of}
 use Rattle.flow_run.proofs.source.fill.Given as goal
 
@@ -15,7 +15,7 @@ invariant-loop-alloc g l =
       within : l.source.read ≤ l.source.most;
       ready : IsReadable now l.source.reader;
       amid : IsTrue before.tells → IsAmid l.source (file_of before l.fn.source);
-      reads : HasOnlyRead None (name_of l.fn.source.reader) before now;
+      reads : HasOnlyRead None (file_name_of l.fn.source.reader) before now;
       got : HasGot before.tells (file_of before l.fn.source) l.fn.source l.source l.fn.batch.items l.batch.items;
       behind : l.source.behind ≡ None;
       few : length l.batch.items ≤ 1024;
