@@ -62,8 +62,8 @@ fn next_frame<D: Depot>(
     ensures name { file_name_of frames.new ≡ file_name_of frames.old }
     ensures format { format_of frames.new ≡ format_of frames.old }
     ensures ready { IsReadable (D.state depot.new) frames.new }
-    ensures frame { OnlyReads ReadStop.ReadFault result (file_name_of frames.old) (D.state depot.old)
-        (D.state depot.new) }
+    ensures frame { OnlyReads ReadStop.ReadFault result (file_name_of frames.old)
+        (D.state depot.old) (D.state depot.new) }
 {
     match frames {
         AnyFrames::Pcap(records) => next_record(records, depot, into),
@@ -149,8 +149,8 @@ impl CaptureReader {
         ensures name { file_name_of self.new ≡ file_name_of self.old }
         ensures format { format_of self.new ≡ format_of self.old }
         ensures ready { IsReadable (D.state depot.new) self.new }
-        ensures frame { OnlyReads ReadStop.ReadFault result (file_name_of self.old) (D.state depot.old)
-            (D.state depot.new) }
+        ensures frame { OnlyReads ReadStop.ReadFault result (file_name_of self.old)
+            (D.state depot.old) (D.state depot.new) }
     {
         let mut octets = taken(self.alloc, into);
         let read = next_frame(&mut self.frames, depot, &mut octets);
