@@ -1,12 +1,9 @@
 -- What the octets of a window say of the file that they stand in.
-use Rattle.std.proofs.Common.{arith, ◌≡◌, ◌≤◌, ◌<◌, ◌+◌, ℕ, List, ◌++◌, length, take, drop, Some, None, Option, refl, ap, sym, ◌∙◌, inl, inr}
-use Rattle.std.proofs.lemmas.Bool.{cases_lt}
+use Rattle.std.proofs.Common.{arith, ◌≡◌, ◌≤◌, ◌<◌, ℕ, List, ◌++◌, length, take, Some, None, Option, refl, ap, ◌∙◌}
 use Rattle.std.proofs.lemmas.Bool.Decides.{nat_tests}
-use Rattle.std.proofs.lemmas.List.{take-append-drop, take_all, length-append, drop_all}
+use Rattle.std.proofs.lemmas.List.{length-append}
 use Rattle.file_window.specs.declared.order.OctetOrder.{OctetOrder}
 use Rattle.file_window.specs.declared.order.OctetOrder.TheVariants.{Little, Big}
-use Rattle.file_window.specs.Window.{IsFrom}
-use Rattle.file_window.specs.Numbers.{ordered_number}
 use Rattle.file_window.proofs.Law.{what_a_window_tells_the_file_tells, a_number_reads_its_own_octets as number_front, a_number_behind_reads_its_own_octets as number_behind}
 use Rattle.pcapng_frames.specs.Head.{section_order, block_order, head_by, block_head_at}
 

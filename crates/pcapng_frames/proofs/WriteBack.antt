@@ -1,7 +1,7 @@
 -- What is written is read back.
 use Rattle.std.proofs.Common.{arith, ◌≡◌, ◌≤◌, ◌<◌, ◌+◌, ◌-◌, ◌*◌, ◌/◌, ◌%◌, ◌^◌, ℕ, suc, List, [], ◌∷◌, ◌++◌, length, take, drop, All, Ok, Some, None, refl, ap, sym, ◌∙◌, append_assoc}
 use Rattle.std.proofs.lemmas.Bool.Decides.{nat_tests}
-use Rattle.std.proofs.lemmas.List.{length-append, take_at, drop_at, length-replicate}
+use Rattle.std.proofs.lemmas.List.{length-append, take_at, drop_at}
 use Rattle.byteorder.specs.Endian.{little_bytes}
 use Rattle.file_window.specs.declared.order.OctetOrder.TheVariants.{Little}
 use Rattle.pcap_frames.specs.declared.record.FrameHead.{FrameHead}

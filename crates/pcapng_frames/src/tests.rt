@@ -138,7 +138,9 @@ fn capture(alloc: Global) -> Result<Vec<u8>, AllocError> {
 }
 
 /// The first `n` octets of a file, or all.
-fn cut(file: &[u8], n: usize) -> &[u8] {
+fn cut(file: &[u8], n: usize) -> &[u8]
+    ensures { length result.now ≤ n }
+{
     &file[..n.min(file.len())]
 }
 

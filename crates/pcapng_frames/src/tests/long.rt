@@ -21,7 +21,9 @@ fn long_blocks_are_passed_over(rt: HostRuntime) -> Result<(), Fail> {
     for (count, end) in LONG {
         let mut file = Vec::new(alloc);
         file.extend_from_slice(&HEAD)?;
-        add_block(&mut file, little, 0x8000_0001, cut(&body, count))?;
+        let long = cut(&body, count);
+        assert!(rt; long.len() <= 262_144);
+        add_block(&mut file, little, 0x8000_0001, long)?;
         add_packet(&mut file, little, 0, (0, 1_000_000_000), &PACKET)?;
         assert_eq!(rt; read_file(alloc, &file), whole(1, 28, ONE));
         for less in [1usize, 2, 3, 4] {
@@ -117,7 +119,21 @@ fn long_packets_are_whole(rt: HostRuntime) -> Result<(), Fail> {
     Ok(())
 }
 
-/// Calls of the folder that fail, and how often a reader then stops before it gives the long packet of a file.
+/// Whether a reader whose read of this number fails stands where it stood, and then gives a frame of this many octets.
+fn goes_on(alloc: Global, file: &[u8], fail: u32, count: usize) -> Result<bool, NgStop> {
+    if !file.starts_with(&[0x0a, 0x0d, 0x0d, 0x0a]) {
+        return Ok(false);
+    }
+    let mut depot = MemoryDepot::new(alloc, &[fail], 1_000_000)?;
+    depot.put("a.pcapng", file)?;
+    let mut frames = NgFrames::begin(alloc, &mut depot, "a.pcapng")?;
+    let mut into = Vec::new(alloc);
+    let failed = frames.next(&mut depot, &mut into);
+    let stood = into.is_empty();
+    let given = frames.next(&mut depot, &mut into);
+    Ok(failed == Err(NgStop::ReadFault) && stood && given == Ok(Some(ONE)) && into.len() == count)
+}
+
 #[test]
 fn a_reader_goes_on_where_it_stood(rt: HostRuntime) -> Result<(), Fail> {
     let alloc = rt.alloc();
@@ -132,15 +148,11 @@ fn a_reader_goes_on_where_it_stood(rt: HostRuntime) -> Result<(), Fail> {
         &octets,
     )?;
     for fail in [2u32, 3] {
-        let mut depot = MemoryDepot::new(alloc, &[fail], 1_000_000)?;
-        depot.put("a.pcapng", &file)?;
-        let mut frames = NgFrames::begin(alloc, &mut depot, "a.pcapng")?;
-        let mut into = Vec::new(alloc);
-        assert_eq!(rt; frames.next(&mut depot, &mut into), Err(NgStop::ReadFault));
-        assert_eq!(rt; into.len(), 0);
-        assert_eq!(rt; frames.next(&mut depot, &mut into), Ok(Some(ONE)));
-        assert_eq!(rt; into.len(), 100_000);
-        assert_eq!(rt; frames.next(&mut depot, &mut into), Ok(None));
+        assert_eq!(rt;
+            goes_on(alloc, &file, fail, 100_000),
+            Ok(true),
+            "where read {fail} fails"
+        );
     }
     Ok(())
 }

@@ -1,4 +1,4 @@
-use Rattle.std.proofs.Common.{arith, ◌∙◌, sym, ap, Ok, drop}
+use Rattle.std.proofs.Common.{arith, ap, Ok, drop}
 use Rattle.net_io.specs.Depot.{octets_of}
 use Rattle.pcapng_frames.proofs.Packets.{octets_taken}
 use Rattle.pcapng_frames.proofs.taking.take_octets.Goals as goal
