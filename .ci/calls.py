@@ -224,19 +224,23 @@ MAKING = [
     not_making("a capture to be made of a packet too many", "", words=[b"make", b"7", b"1048577", b"o.pcap"], status=1, report=None),
     not_making("a capture to be made from a number too great", "", words=[b"make", b"18446744073709551616", b"3", b"o.pcap"], status=1, report=None),
 ]
-# These take `rt try` too long, and the second report is too long for it.
+MOST_PACKETS = 1048576
+# Interface 0 is Ethernet, interface 1 raw IP, both of them with times in microseconds.
+TWO_INTERFACES = made_captures.section() + made_captures.interface(1) + made_captures.interface(101)
+# These take `rt try` too long, and reports of captures are too long for it.
 LONG = [
     making("a capture made of 100,000 packets", count=100000),
     names("that capture, shown", [], words=[b"show", b"m.pcap"], status=0, report=b"".join(made_captures.shown(7, 100000)),
           more=lambda at: (at / "m.pcap").write_bytes(made_captures.capture(7, 100000))),
     names("its packets in pcapng, shown", [], words=[b"show", b"m.pcapng"], status=0, report=b"".join(made_captures.shown(7, 100000)),
           more=lambda at: (at / "m.pcapng").write_bytes(made_captures.in_pcapng(7, 100000))),
+    names("a packet too many in pcapng, shown", [], words=[b"show", b"m.pcapng"], status=7,
+          report=b"".join(b"packet %d NotIp\n" % n for n in range(1, MOST_PACKETS + 1)) + b"limit packets %d\n" % MOST_PACKETS,
+          more=lambda at: (at / "m.pcapng").write_bytes(TWO_INTERFACES + made_captures.enhanced(5, b"") * (MOST_PACKETS + 1))),
 ]
 
 # --- captures of the pcapng format --------------------------------------------------------------------------------------------------------------
 
-# Interface 0 is Ethernet, interface 1 raw IP, both of them with times in microseconds.
-TWO_INTERFACES = made_captures.section() + made_captures.interface(1) + made_captures.interface(101)
 EMPTY_NG = made_captures.written([])
 MADE_NG = {"o.pcap": EMPTY_NG}
 # The commands of one node that forwards all packets with a label as they are, but for their hops.
