@@ -7,7 +7,6 @@ use Rattle.std.proofs.Math.Seq.{take-append-add}
 use Rattle.std.proofs.lemmas.Bool.{lt-ltb, le-ltb}
 use Rattle.std.proofs.lemmas.List.{append-nil, take_at, take_all, length-map, length-replicate, get_or-replicate}
 use Rattle.std.proofs.lemmas.List.FromFn.{get_or-map-range_with_len, length-map-range_with_len}
-use Rattle.pcap_frames.specs.declared.fault.CaptureFault.{CaptureFault}
 use Rattle.pcap_frames.specs.declared.fault.CaptureKind.TheVariants.{Short}
 use Rattle.pcap_frames.specs.Header.{capture_header}
 use Rattle.pcap_frames.specs.Record.{Frame}
