@@ -15,6 +15,7 @@ use Rattle.capture_reader.specs.declared.format.CaptureFormat.{CaptureFormat}
 use Rattle.capture_reader.specs.declared.reader.AnyFrames.{AnyFrames}
 use Rattle.capture_reader.specs.Frame.{CapturedFrame}
 use Rattle.capture_reader.specs.Reader.{file_name_of, format_of, IsReadable}
+use Rattle.capture_reader.proofs.Law.{frames_of_a_file_are_written_in_their_order}
 use Rattle.capture_reader.specs.Written.{file_frame, file_frames, IsTime}
 use Rattle.label_flow.specs.Pair.{PairState, pair}
 use Rattle.label_flow.specs.Schedule.{versions_in}
@@ -105,13 +106,6 @@ kept_one false format head rest octets none = ap (λ fs. file_frame format head 
 kept_frame : (format : CaptureFormat) (head : FrameHead) (heads : List FrameHead) (walked : Walked) (packet : List ℕ)
     → file_frames format (kept_by (head ∷ heads) (pair walked packet ∷ [])) ≡ frame_of format head walked.end packet
 kept_frame format head heads walked packet = kept_one (is_denied walked.end) format head (kept_by heads []) packet (kept_none heads)
-
--- frames are written in their order
-frames_join : (format : CaptureFormat) (frames more : List Frame) → file_frames format (frames ++ more) ≡ file_frames format frames ++ file_frames format more
-frames_join format [] more = refl
-frames_join format (frame ∷ frames) more =
-    ap (λ o. file_frame format frame.head frame.octets ++ o) (frames_join format frames more)
-    ∙ sym (append_assoc (file_frame format frame.head frame.octets) (file_frames format frames) (file_frames format more))
 
 passed_append : (pairs : List PairState) (p : PairState) → passed_in (pairs ++ p ∷ []) ≡ passed_in pairs + cond (is_denied p.walked.end) 0 1
 passed_append [] p = omega arith
@@ -345,7 +339,7 @@ module _ (number : ℕ) (names : List (List ℕ)) (flow : FlowLine) (was now : M
           let before = heads_left was.source (file_of was.folder was.source) in
           let first = format_of was.source.reader in
           ap (λ fs. was.octets ++ file_frames first fs) (kept_more before pairs p)
-          ∙ ap (λ t. was.octets ++ t) (frames_join first (kept_by before pairs) (kept_by (drop (length pairs) before) (p ∷ [])))
+          ∙ ap (λ t. was.octets ++ t) (frames_of_a_file_are_written_in_their_order first (kept_by before pairs) (kept_by (drop (length pairs) before) (p ∷ [])))
           ∙ ap (λ hs. was.octets ++ (file_frames first (kept_by before pairs) ++ file_frames first (kept_by hs (p ∷ [])))) (heads_now told)
           ∙ ap (λ t. was.octets ++ (file_frames first (kept_by before pairs) ++ t)) (kept_frame first head (heads_left new.source (file_of was.folder was.source)) walked packet)
           ∙ ap (λ (f : CaptureFormat). was.octets ++ (file_frames first (kept_by before pairs) ++ frame_of f head walked.end packet)) (sym (formed ∙ taken.source.format))
