@@ -32,12 +32,14 @@ def options(doc):
     parser.add_argument("--calls", action="store_true", help="count system calls too, by strace")
     parser.add_argument("--keep", metavar="FOLDER", help="make the files in this folder and leave them there")
     parser.add_argument("--program", default=PROGRAM, type=pathlib.Path, help="another build of the program")
+    parser.add_argument("--plain", metavar="SOURCE", type=pathlib.Path, help="another C program with the same words and the same report")
     return parser
 
 
 def asked(doc):
     """What the command line asks for, with a program that is there."""
     said = options(doc).parse_args()
+    said.plain = said.plain and said.plain.resolve()
     if said.calls and not shutil.which("strace"):
         raise SystemExit("--calls needs strace")
     said.program = built(said.program)
@@ -73,10 +75,10 @@ def working_in(keep):
             os.chdir(before)
 
 
-def built_c(name, folder):
-    """The plain C program of bench/, built."""
+def built_c(name, folder, source=None):
+    """The plain C program of bench/, or another one, built."""
     program = folder / f"{name}-c"
-    subprocess.run(["cc", "-O3", "-o", program, TOP / f"bench/{name}.c"], check=True)
+    subprocess.run(["cc", "-O3", "-o", program, source or TOP / f"bench/{name}.c"], check=True)
     return program
 
 

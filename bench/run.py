@@ -1,6 +1,6 @@
 """Times `netlabel run` beside a plain C program that does the same on one thread (bench/run.c), and measures its memory.
 
-    python3 bench/run.py [--packets N] [--runs N] [--only WORD] [--calls] [--keep FOLDER] [--program PROGRAM]
+    python3 bench/run.py [--packets N] [--runs N] [--only WORD] [--calls] [--keep FOLDER] [--program PROGRAM] [--plain SOURCE]
 
 The program is the one that `./prove` proves and builds, or another build of it. A row is a script with one flow, whose capture has 1,000,000 packets,
 or fewer where the lines of a report are long:
@@ -231,7 +231,7 @@ def bench(row, asked, plain):
 def main():
     asked = beside.asked(__doc__)
     with beside.working_in(asked.keep) as folder:
-        plain = beside.built_c("run", folder)
+        plain = beside.built_c("run", folder, asked.plain)
         print(f"nanoseconds a packet, the least of {asked.runs} runs; memory in MB; {scratch.load()}\n")
         print_head(asked.calls)
         for row in ROWS:

@@ -1,6 +1,6 @@
 """Times `netlabel show` beside a plain C program that prints the same report (bench/show.c), and measures its memory.
 
-    python3 bench/show.py [--packets N] [--runs N] [--only WORD] [--calls] [--keep FOLDER] [--program PROGRAM]
+    python3 bench/show.py [--packets N] [--runs N] [--only WORD] [--calls] [--keep FOLDER] [--program PROGRAM] [--plain SOURCE]
 
 The program is the one that `./prove` proves and builds, or another build of it. A row is a capture of 1,000,000 packets, or of fewer where the lines of a
 report are long: a mix (CIPSO options of each tag type, CALIPSO options, packets without a label, broken headers and options, frames that aren't
@@ -59,7 +59,7 @@ def bench(row, asked, plain):
 def main():
     asked = beside.asked(__doc__)
     with beside.working_in(asked.keep) as folder:
-        plain = beside.built_c("show", folder)
+        plain = beside.built_c("show", folder, asked.plain)
         print(f"nanoseconds a packet, the least of {asked.runs} runs; memory in MB; {scratch.load()}\n")
         head = ["Capture", "Packets", "Elapsed: C", "`show`", "to C", "CPU: C", "`show`", "to C", "Memory: C", "`show`"]
         beside.print_head(head + ["System calls: C", "`show`"] * asked.calls)
