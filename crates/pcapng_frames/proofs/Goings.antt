@@ -39,3 +39,7 @@ blocks_come_one_behind_another section at rest =
     (λ block here. let some = block_some section at rest block here in
     let count = length-drop block.size rest in
     enough (length rest) (length (drop block.size rest)) block.section (at + block.size) (drop block.size rest) (omega arith) (omega arith))
+
+-- where no block stands, nothing is left
+pub ends_here : (section : Section) (at : ℕ) (rest : List ℕ) → block_at section at rest ≡ Ok None → frames_at section at rest ≡ record { frames = []; fault = None }
+ends_here section at rest here = blocks_come_one_behind_another section at rest ∙ ap (with_block frames_at at rest) here

@@ -4,6 +4,7 @@ ghost use Rattle.net_io.specs.Depot.{octets_of, OnlyReads};
 ghost use Rattle.file_window.specs.Window.{IsFrom};
 ghost use Rattle.pcapng_frames.specs.Head.{least_total, whole_at};
 ghost use Rattle.pcapng_frames.specs.Block.{said_by, block_at};
+ghost use Rattle.pcapng_frames.specs.Capture.{frames_at};
 ghost use Rattle.pcapng_frames.specs.Reader.{IsNgAnswer, NgChain, next_at, found_here};
 ghost use Rattle.pcapng_frames.specs.inside.Parts.{left_of, StandsAt, HasNanos, turn_said, turn_block};
 ghost use Rattle.pcapng_frames.specs.inside.Table.{IsLater};
@@ -142,6 +143,9 @@ pub fn read_frame<D: Depot>(
         (IsTrue (D.state depot.old).tells
         → NgChain (octets_of ((D.state depot.old).held name.now))
         section.old.section place.old section.new.section place.new) }
+    ensures end { IfOk result (λ read. read ≡ None → IsTrue (D.state depot.old).tells
+        → frames_at section.new.section place.new (left_of (D.state depot.old) name.now place.new)
+        ≡ record { frames = []; fault = None }) }
     ensures none { IfOk result (λ read. read ≡ None → into.new.items ≡ []) }
     ensures onward { place.old ≤ place.new }
     ensures later { IsLater section.old section.new }

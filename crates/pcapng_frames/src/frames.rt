@@ -4,7 +4,7 @@ ghost use Rattle.net_io.specs.Depot.{octets_of, OnlyReads};
 ghost use Rattle.file_window.specs.Window.{IsFrom};
 ghost use Rattle.pcapng_frames.specs.Section.{no_section};
 ghost use Rattle.pcapng_frames.specs.Block.{block_at};
-ghost use Rattle.pcapng_frames.specs.Capture.{IsNgFile};
+ghost use Rattle.pcapng_frames.specs.Capture.{IsNgFile, frames_at};
 ghost use Rattle.pcapng_frames.specs.Reader.{IsNgReady, IsNgAnswer, NgChain, next_at, found_here, begun_block};
 ghost use Rattle.pcapng_frames.specs.inside.Parts.{left_of, StandsAt};
 
@@ -55,6 +55,9 @@ fn next_frame<D: Depot>(
     ensures chain { IsTrue (D.state depot.old).tells
         → NgChain (octets_of ((D.state depot.old).held name.now))
         section.old.section place.old section.new.section place.new }
+    ensures end { IfOk result (λ read. read ≡ None → IsTrue (D.state depot.old).tells
+        → frames_at section.new.section place.new (left_of (D.state depot.old) name.now place.new)
+        ≡ record { frames = []; fault = None }) }
     ensures none { IfOk result (λ read. read ≡ None → into.new.items ≡ []) }
     ensures stands { OnErr result (place.new ≡ place.old) }
     ensures section { OnErr result (section.new.section ≡ section.old.section) }
@@ -123,10 +126,10 @@ impl NgFrames {
     }
 
     /// Reads blocks from where the reader stands up to the next packet, puts its octets into `into`, in place of what was
-    /// there, and goes behind it; None exactly where the file ends after whole blocks. `Capture` tells a block's first fault
-    /// and its octet; `ReadFault` comes only where the count of failed reads of the file's name rose in this call, and no
-    /// other answer moves a count. After each of them the reader stands where it stood, with the section that it had, and
-    /// `into` is empty; `into` keeps its memory.
+    /// there, and goes behind it; None exactly where the file ends after whole blocks, and then nothing is left. `Capture`
+    /// tells a block's first fault and its octet; `ReadFault` comes only where the count of failed reads of the file's name
+    /// rose in this call, and no other answer moves a count. After each of these errors the reader stands where it stood, with
+    /// the section that it had, and `into` is empty; `into` keeps its memory.
     pub fn next<D: Depot>(
         &mut self,
         depot: &mut D,
@@ -138,6 +141,10 @@ impl NgFrames {
             (option_map (found_here self.new.section self.new.place into.new.items)) result
             (next_at self.old.section self.old.place
             (drop self.old.place (octets_of ((D.state depot.old).held self.old.name)))) }
+        ensures end { IfOk result (λ read. read ≡ None → IsTrue (D.state depot.old).tells
+            → frames_at self.new.section self.new.place
+            (drop self.new.place (octets_of ((D.state depot.old).held self.old.name)))
+            ≡ record { frames = []; fault = None }) }
         ensures fits { IfOk result (λ read. IfSome read (λ head. head.nanos < 1000000000)) }
         ensures captured { vec_len into.new ≤ 262144 }
         ensures none { IfOk result (λ read. read ≡ None → into.new.items ≡ []) }

@@ -151,17 +151,18 @@ fn change(file: &mut [u8], place: usize, octet: u8) {
     }
 }
 
-/// What the calls of a reader give up to the first that gives no frame: how many frames, how many octets in all, and the head
-/// of the last.
+/// What the calls of a reader give up to the first that gives no frame: how many frames, how many octets in all, the head of
+/// the last, why it stops, and whether one more call answers the same.
 #[derive(Clone, Copy, Debug, PartialEq, Eq)]
 struct Given {
     frames: u32,
     octets: usize,
     last: Option<NgHead>,
     stop: Option<NgStop>,
+    again: bool,
 }
 
-/// Reads on; where a call is refused, whether the same call is refused again in the same way.
+/// Reads on, and once more where no frame comes.
 fn read_on(frames: &mut NgFrames, depot: &mut MemoryDepot, into: &mut Vec<u8>) -> Given
     requires { IsNgReady (memory_state depot.old) frames.old }
 {
@@ -173,11 +174,13 @@ fn read_on(frames: &mut NgFrames, depot: &mut MemoryDepot, into: &mut Vec<u8>) -
                 given.octets = given.octets.saturating_add(into.len());
                 given.last = Some(head);
             }
-            Ok(None) => return given,
+            Ok(None) => {
+                given.again = frames.next(depot, into) == Ok(None);
+                return given;
+            }
             Err(stop) => {
-                if frames.next(depot, into) == Err(stop) {
-                    given.stop = Some(stop);
-                }
+                given.stop = Some(stop);
+                given.again = frames.next(depot, into) == Err(stop);
                 return given;
             }
         }
@@ -190,6 +193,7 @@ const NOTHING: Given = Given {
     octets: 0,
     last: None,
     stop: None,
+    again: true,
 };
 
 /// What a reader gives of a file that begins as pcapng does, read by pieces.
@@ -219,7 +223,7 @@ fn whole(frames: u32, octets: usize, last: NgHead) -> Given {
         frames,
         octets,
         last: Some(last),
-        stop: None,
+        ..NOTHING
     }
 }
 

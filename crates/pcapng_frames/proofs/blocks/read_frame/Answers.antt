@@ -8,6 +8,7 @@ use Rattle.pcapng_frames.specs.Reader.{found_here}
 use Rattle.pcapng_frames.specs.inside.Parts.{turn_block}
 use Rattle.pcapng_frames.proofs.Answers.{by_question}
 use Rattle.pcapng_frames.proofs.Chains.{next_fault, next_end, next_passed, next_found, chain_more}
+use Rattle.pcapng_frames.proofs.Goings.{ends_here}
 use Rattle.pcapng_frames.proofs.Tables.{later_on}
 use Rattle.pcapng_frames.proofs.blocks.read_frame.Goals as goal
 
@@ -31,6 +32,16 @@ returns-in-End-clause-answer g c = λ told.
     let at = c.loop-head.place in
     let here = rw (so_far.frame.kept told name, c.in-End.is) at (c.in_ok-read_block.ensures.answer (so_far.frame.told ∙ told)) in
     sym (so_far.answer told) ∙ next_end c.loop-head.section.section at (drop at file) here
+
+pub returns-in-End-clause-end : goal.returns-in-End-clause-end
+returns-in-End-clause-end g c = λ none told.
+    let so_far = c.loop-head.invariant in
+    let name = c.args.name.now in
+    let file = octets_of ((g.D.Depot.state c.args.depot.now).held name) in
+    let at = c.loop-head.place in
+    let block = c.in_ok-read_block.ensures in
+    let here = rw (so_far.frame.kept told name, c.in-End.is) at (block.answer (so_far.frame.told ∙ told)) in
+    rw (block.end c.in-End.is, block.stays c.in-End.is) (ends_here c.loop-head.section.section at (drop at file) here)
 
 pub returns-in-Frame-clause-answer : goal.returns-in-Frame-clause-answer
 returns-in-Frame-clause-answer g c = λ told.
