@@ -70,6 +70,7 @@ fn next_frame<D: Depot>(
     ensures frame { OnlyReads NgStop.ReadFault result name.now (D.state depot.old)
         (D.state depot.new) }
 {
+    section.forget_earlier();
     let mark = section.mark();
     let start = *place;
     into.clear();

@@ -9,7 +9,8 @@ use file_window::OctetOrder;
 use std::alloc::{AllocError, Global};
 use std::marker::Model;
 
-/// The present section: its order of octets, and its interfaces, which stand behind those of earlier sections.
+/// The present section: its order of octets, and its interfaces, which stand behind those of earlier sections
+/// that a reader can still go back to.
 #[derive(Drop)]
 pub struct SectionTable {
     order: OctetOrder,
@@ -87,6 +88,18 @@ impl SectionTable {
     {
         self.interfaces.push(interface)?;
         Ok(())
+    }
+
+    /// Lets go of the interfaces of earlier sections.
+    pub fn forget_earlier(&mut self)
+        ensures { self.new.section ≡ self.old.section }
+    {
+        if self.first > 0 {
+            let count = self.interfaces.len() - self.first;
+            self.interfaces.copy_within(self.first.., 0);
+            self.interfaces.truncate(count);
+            self.first = 0;
+        }
     }
 
     /// What the table is.
