@@ -15,7 +15,7 @@ use Rattle.pcapng_frames.specs.declared.packet.NgHead.{NgHead}
 use Rattle.pcapng_frames.specs.declared.fault.NgFault.{NgFault}
 use Rattle.pcapng_frames.specs.declared.fault.NgStop.{NgStop}
 use Rattle.pcapng_frames.specs.declared.fault.NgStop.TheVariants as ng_stops
-use Rattle.pcapng_frames.specs.Capture.{NgCapture}
+use Rattle.pcapng_frames.specs.Capture.{NgCapture, frames_at}
 use Rattle.pcapng_frames.specs.Reader.{NgReader, NgFound, IsNgAnswer, next_at, found_here, found_first}
 use Rattle.pcapng_frames.proofs.Law.{answers_come_one_behind_another}
 use Rattle.capture_reader.specs.declared.fault.FileFault.TheVariants as fault
@@ -52,8 +52,13 @@ module _ (reader : Reader) (file : List ℕ) where
   record_stop octets left' pcap_stops.ReadFault here = tt
   record_stop octets left' pcap_stops.OutOfMemory here = tt
 
-  pub no_record : record_at reader.header.order reader.place (drop reader.place file) ≡ Ok None → left_of (Pcap reader) file ≡ record { frames = []; fault = None }
-  no_record here = records_are (Ok None) here
+  pub no_record : (reader' : Reader) (octets : List ℕ) → reader'.header ≡ reader.header → reader'.place ≡ reader.place → record_at reader.header.order reader.place (drop reader.place file) ≡ Ok None
+      → IsGiven (Ok None) octets (left_of (Pcap reader) file) (left_of (Pcap reader') file)
+  no_record reader' octets header place here = (
+    records_are (Ok None) here,
+    ap (λ (h : CaptureHeader). of_records h.link (records_at h.order reader'.place (drop reader'.place file))) header
+    ∙ ap (λ (p : ℕ). of_records reader.header.link (records_at reader.header.order p (drop p file))) place,
+  )
 
   pub one_record : (reader' : Reader) (link : ℕ) (octets : List ℕ) (head : FrameHead) → link ≡ reader.header.link → reader'.header ≡ reader.header → reader'.place ≡ reader.place + (16 + length octets)
       → record_at reader.header.order reader.place (drop reader.place file) ≡ Ok (Some (record { head = head; octets = octets }))
@@ -82,8 +87,9 @@ module _ (reader : NgReader) (file : List ℕ) where
   packet_stop reader' octets left' ng_stops.ReadFault here = tt
   packet_stop reader' octets left' ng_stops.OutOfMemory here = tt
 
-  pub no_packet : next_at reader.section reader.place (drop reader.place file) ≡ Ok None → left_of (Pcapng reader) file ≡ record { frames = []; fault = None }
-  no_packet here = packets_are (Ok None) here
+  pub no_packet : (reader' : NgReader) (octets : List ℕ) → next_at reader.section reader.place (drop reader.place file) ≡ Ok None
+      → frames_at reader'.section reader'.place (drop reader'.place file) ≡ record { frames = []; fault = None } → IsGiven (Ok None) octets (left_of (Pcapng reader) file) (left_of (Pcapng reader') file)
+  no_packet reader' octets here end = let none = packets_are (Ok None) here in (none, ap of_packets end ∙ sym none)
 
   pub one_packet : (reader' : NgReader) (given : LinkedHead) (octets : List ℕ) (head : NgHead)
       → given ≡ record { head = record { seconds = head.seconds; fraction = head.nanos }; link = head.link }

@@ -64,10 +64,10 @@ abbrev pub IsTaken : FrameHead → PacketIn → FramesLeft → FramesLeft → Ty
 IsTaken head packet left left' =
     (frame : CapturedFrame) × (frame.head ≡ head) × (packet_in frame ≡ packet) × (left ≡ record { frames = frame ∷ left'.frames; fault = left'.fault })
 
--- an answer by what is left, and what is left then: a frame; that there is none; or the fault there; the other stops say nothing of the file
+-- an answer by what is left, and what is left then: a frame; that there is none, and the same is left; or the fault there; the other stops say nothing of the file
 abbrev pub IsNextFrame : Result (Option FrameHead) ReadStop → PacketIn → FramesLeft → FramesLeft → Type 0
 IsNextFrame (Ok (Some head)) packet left left' = IsTaken head packet left left'
-IsNextFrame (Ok None) packet left left' = left ≡ record { frames = []; fault = None }
+IsNextFrame (Ok None) packet left left' = (left ≡ record { frames = []; fault = None }) × (left' ≡ left)
 IsNextFrame (Err (stop.Capture broken)) packet left left' = left ≡ record { frames = []; fault = Some (fault.Pcap broken) }
 IsNextFrame (Err (stop.Ng broken)) packet left left' = left ≡ record { frames = []; fault = Some (fault.Pcapng broken) }
 IsNextFrame (Err stop.ReadFault) packet left left' = Unit {0}

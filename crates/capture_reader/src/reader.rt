@@ -127,9 +127,10 @@ impl CaptureReader {
     }
 
     /// Reads the next frame and goes behind it: its packet of IP into `into`, or all its octets where it has none, in place of what
-    /// was there and in the same memory. None exactly where the file ends behind whole records or blocks. `Capture` and `Ng` tell the
-    /// first fault and its octet; `ReadFault` comes only where the count of failed reads of the file's name rose in this call, and
-    /// no other answer moves a count. After each of them the reader stands where it stood, and `into` is empty.
+    /// was there and in the same memory. None exactly where the file ends behind whole records or blocks, and the same is left then.
+    /// `Capture` and `Ng` tell the first fault and its octet; `ReadFault` comes only where the count of failed reads of the file's
+    /// name rose in this call, and no other answer moves a count. After each of these errors the reader stands where it stood, and
+    /// `into` is empty.
     pub fn next<D: Depot>(
         &mut self,
         depot: &mut D,

@@ -177,8 +177,10 @@ fn a_libpcap_file_has_one_link_type(rt: HostRuntime) -> Result<(), Fail> {
     ];
     let mut into = no_packet(alloc);
     assert!(rt; frames_are(&mut reader, &mut depot, &mut into, &wanted));
-    assert_eq!(rt; reader.next(&mut depot, &mut into), Ok(None));
-    assert_eq!(rt; into.bytes.as_slice(), [].as_slice());
+    for _ in 0..2u32 {
+        assert_eq!(rt; reader.next(&mut depot, &mut into), Ok(None));
+        assert_eq!(rt; into.bytes.as_slice(), [].as_slice());
+    }
     Ok(())
 }
 
@@ -206,7 +208,9 @@ fn a_packet_of_pcapng_has_a_link_type_of_its_own(rt: HostRuntime) -> Result<(), 
     ];
     let mut into = no_packet(alloc);
     assert!(rt; frames_are(&mut reader, &mut depot, &mut into, &wanted));
-    assert_eq!(rt; reader.next(&mut depot, &mut into), Ok(None));
+    for _ in 0..2u32 {
+        assert_eq!(rt; reader.next(&mut depot, &mut into), Ok(None));
+    }
     Ok(())
 }
 

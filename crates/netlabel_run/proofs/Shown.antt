@@ -204,7 +204,7 @@ module _ (file : List ℕ) (before now after : Outside) (reader : AnyFrames) (wa
   ends_at_end packet next status reads answer printed =
       let end = shown_end_line n in
       let whole : EndsBy None =
-      λ told. let t = showing.told told in ends_whole t.0 (format_of reader) (left_of reader t.0) n showing.text t.2 showing.few (said packet next (Ok None) answer told) in
+      λ told. let t = showing.told told in ends_whole t.0 (format_of reader) (left_of reader t.0) n showing.text t.2 showing.few (said packet next (Ok None) answer told).0 in
       let has : IsTrue before.folder.tells → HasParts (show_says file) before.folder.held (showing.text ++ end) [] = λ told.
       let amid = (showing.told told).2 in
       let count : length amid.lines ≡ n = lines_count 1 amid.frames amid.lines amid.are ∙ amid.count in

@@ -11,10 +11,10 @@ use Rattle.capture_reader.specs.Reader.{FramesLeft}
 abbrev pub frame_given : LinkedHead → List ℕ → CapturedFrame
 frame_given given octets = record { head = given.head; link = given.link; octets = octets }
 
--- an answer by what is left, and what is left then: a frame; that there is none; or the fault there; the other stops say nothing of the file
+-- an answer by what is left, and what is left then: a frame; that there is none, and the same is left; or the fault there; the other stops say nothing of the file
 abbrev pub IsGiven : Result (Option LinkedHead) ReadStop → List ℕ → FramesLeft → FramesLeft → Type 0
 IsGiven (Ok (Some given)) octets left left' = left ≡ record { frames = frame_given given octets ∷ left'.frames; fault = left'.fault }
-IsGiven (Ok None) octets left left' = left ≡ record { frames = []; fault = None }
+IsGiven (Ok None) octets left left' = (left ≡ record { frames = []; fault = None }) × (left' ≡ left)
 IsGiven (Err (stop.Capture broken)) octets left left' = left ≡ record { frames = []; fault = Some (fault.Pcap broken) }
 IsGiven (Err (stop.Ng broken)) octets left left' = left ≡ record { frames = []; fault = Some (fault.Pcapng broken) }
 IsGiven (Err stop.ReadFault) octets left left' = Unit {0}

@@ -1,3 +1,4 @@
+use Rattle.std.proofs.Common.{refl}
 use Rattle.std.proofs.lemmas.Result.{err_from_is_err_and}
 use Rattle.net_io.specs.Depot.{octets_of}
 use Rattle.capture_reader.specs.declared.reader.AnyFrames.TheVariants.{Pcapng}
@@ -19,4 +20,5 @@ returns-in-Some-clause-answer g c told =
 
 pub returns-in-None-clause-answer : goal.returns-in-None-clause-answer
 returns-in-None-clause-answer g c told =
-    no_packet c.args.frames.now (octets_of ((g.D.Depot.state c.args.depot.now).held c.args.frames.now.name)) ((rw c.in-None.is at c.in_ok-given.ensures).answer told)
+    let clauses = rw c.in-None.is at c.in_ok-given.ensures in
+    no_packet c.args.frames.now (octets_of ((g.D.Depot.state c.args.depot.now).held c.args.frames.now.name)) c.next.new.self c.next.new.into.items (clauses.answer told) (clauses.end refl told)

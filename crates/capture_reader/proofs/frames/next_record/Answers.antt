@@ -20,4 +20,6 @@ returns-in-Some-clause-answer g c told =
 
 pub returns-in-None-clause-answer : goal.returns-in-None-clause-answer
 returns-in-None-clause-answer g c told =
-    no_record c.args.frames.now (octets_of ((g.D.Depot.state c.args.depot.now).held c.args.frames.now.name)) ((rw c.in-None.is at c.in_ok-head.ensures).answer told)
+    let clauses = rw c.in-None.is at c.in_ok-head.ensures in
+    no_record c.args.frames.now (octets_of ((g.D.Depot.state c.args.depot.now).held c.args.frames.now.name)) c.next.new.self c.next.new.into.items clauses.header (search (rules, clauses.moved))
+    (clauses.answer told)

@@ -31,7 +31,7 @@ pub returns-in-Ok-None-clause-got : goal.returns-in-Ok-None-clause-got
 returns-in-Ok-None-clause-got g c =
     let room = c.has_room.ensures in
     let clauses = rw c.in-Ok-None.field-0-is at c.in-Ok-None.ensures in
-    got_end _ _ _ _ _ _ (record { name = clauses.name; format = clauses.format; most = refl }) refl room.heads room.batch c.requires.begins refl clauses.answer
+    got_end _ _ _ _ _ _ (record { name = clauses.name; format = clauses.format; most = refl }) refl room.heads room.batch c.requires.begins refl (λ told. (clauses.answer told).0)
 
 pub returns-in-Err-clause-got : goal.returns-in-Err-clause-got
 returns-in-Err-clause-got g c =
@@ -48,7 +48,7 @@ returns-then-source-clause-stands g c told =
 pub returns-in-Ok-None-clause-stands : goal.returns-in-Ok-None-clause-stands
 returns-in-Ok-None-clause-stands g c told =
     let clauses = rw c.in-Ok-None.field-0-is at c.in-Ok-None.ensures in
-    whole_stands c.args.source.now _ _ (c.requires.amid told) refl c.requires.within refl (clauses.answer told)
+    whole_stands c.args.source.now _ _ (c.requires.amid told) refl c.requires.within refl (clauses.answer told).0
 
 pub returns-in-Err-clause-stands : goal.returns-in-Err-clause-stands
 returns-in-Err-clause-stands g c told =
