@@ -44,19 +44,28 @@ const IN_INTERFACES: [Change; 14] = [
     ((48, 0), (156, 113), 0, Some((68, NgKind::Resolution))),
 ];
 
-/// In an enhanced packet, and in one of another type.
-const IN_PACKETS: [Change; 16] = [
+/// In an enhanced packet, and in one of another type. Where 120 is 8 the second section header is passed over, and the interface
+/// behind it is the first section's second one.
+const IN_PACKETS: [Change; 24] = [
     ((64, 0x3d), (116, 0x3d), 0, Some((64, NgKind::BlockLength))),
     ((64, 0x1c), (116, 0), 0, Some((64, NgKind::BlockLength))),
     ((66, 1), (116, 0), 0, Some((240, NgKind::Short))),
     ((116, 0), (68, 1), 0, Some((116, NgKind::Trailer))),
+    ((60, 8), (64, 0), 0, Some((64, NgKind::BlockLength))),
+    ((60, 8), (64, 8), 0, Some((64, NgKind::BlockLength))),
+    ((60, 2), (64, 8), 0, Some((64, NgKind::BlockLength))),
+    ((60, 3), (64, 8), 0, Some((64, NgKind::BlockLength))),
     ((60, 2), (119, 1), 0, Some((116, NgKind::Trailer))),
     ((60, 2), (68, 1), 0, Some((60, NgKind::Block))),
     ((60, 3), (82, 5), 0, Some((60, NgKind::Block))),
     ((68, 1), (82, 5), 0, Some((68, NgKind::Interface))),
     ((36, 113), (48, 3), 0, Some((68, NgKind::LinkType))),
     ((48, 3), (82, 5), 0, Some((68, NgKind::Resolution))),
+    ((68, 1), (120, 8), 0, Some((68, NgKind::Interface))),
+    ((188, 1), (120, 8), 2, None),
     ((82, 5), (86, 6), 0, Some((80, NgKind::Captured))),
+    ((80, 1), (82, 4), 0, Some((80, NgKind::Captured))),
+    ((80, 0), (82, 4), 0, Some((64, NgKind::BlockLength))),
     ((80, 33), (84, 34), 0, Some((80, NgKind::SnapCut))),
     ((80, 33), (75, 255), 0, Some((64, NgKind::BlockLength))),
     ((75, 255), (180, 3), 0, Some((72, NgKind::Time))),

@@ -40,7 +40,8 @@ fn a_file_is_written_and_read_back(rt: HostRuntime) -> Result<(), Fail> {
     Ok(())
 }
 
-/// What the file that was written gives when it is cut, when one octet is set, and with a block between head and frame.
+/// What the file that was written gives when it is cut, when one octet is set (where its options end at once, its resolution is
+/// microseconds), and with a block between head and frame.
 #[test]
 fn a_written_file_that_was_changed(rt: HostRuntime) -> Result<(), Fail> {
     let alloc = rt.alloc();
@@ -54,6 +55,14 @@ fn a_written_file_that_was_changed(rt: HostRuntime) -> Result<(), Fail> {
     let mut file = capture(alloc)?;
     change(&mut file, 68, 1);
     assert_eq!(rt; read_file(alloc, &file), broken(68, NgKind::Interface));
+    let mut file = capture(alloc)?;
+    change(&mut file, 44, 0);
+    let microseconds = NgHead {
+        seconds: 1000,
+        nanos: 0,
+        link: 101,
+    };
+    assert_eq!(rt; read_file(alloc, &file), whole(1, 28, microseconds));
     let mut file = Vec::new(alloc);
     file.extend_from_slice(&HEAD)?;
     file.extend_from_slice(&[1, 0, 0, 0x80, 12, 0, 0, 0, 12, 0, 0, 0])?;
@@ -124,8 +133,22 @@ fn a_file_as_dumpcap_writes_it(rt: HostRuntime) -> Result<(), Fail> {
 }
 
 /// Types of blocks that are passed over: name resolution, statistics, a journal entry, secrets, custom blocks of both kinds, and
-/// those that nobody has named.
-const PASSED: [u32; 9] = [0, 4, 5, 7, 9, 10, 0x0bad, 0x4000_0bad, 0x8000_0001];
+/// those that nobody has named, among them 1, 2, 3 and 6 in the other order.
+const PASSED: [u32; 13] = [
+    0,
+    4,
+    5,
+    7,
+    9,
+    10,
+    0x0bad,
+    0x4000_0bad,
+    0x8000_0001,
+    0x0100_0000,
+    0x0200_0000,
+    0x0300_0000,
+    0x0600_0000,
+];
 
 #[test]
 fn other_blocks_are_passed_over(rt: HostRuntime) -> Result<(), Fail> {
