@@ -57,7 +57,7 @@ module _ (reader : Reader) (file : List ℕ) where
   no_record reader' octets header place here = (
     records_are (Ok None) here,
     ap (λ (h : CaptureHeader). of_records h.link (records_at h.order reader'.place (drop reader'.place file))) header
-    ∙ ap (λ (p : ℕ). of_records reader.header.link (records_at reader.header.order p (drop p file))) place,
+        ∙ ap (λ (p : ℕ). of_records reader.header.link (records_at reader.header.order p (drop p file))) place,
   )
 
   pub one_record : (reader' : Reader) (link : ℕ) (octets : List ℕ) (head : FrameHead) → link ≡ reader.header.link → reader'.header ≡ reader.header → reader'.place ≡ reader.place + (16 + length octets)
