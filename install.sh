@@ -1,5 +1,5 @@
 #!/bin/sh
-# Installs the proved program with its man page, completions and pages below PREFIX, or takes them away again. It builds nothing.
+# Installs the proved programs and the library for C with their man pages, completions and pages below PREFIX, or takes them away again. It builds nothing.
 
 # Whoever installs, everybody may read what is installed.
 umask 022
@@ -26,12 +26,27 @@ examples() {
     done
 }
 
-# Each file as a line: its mode, where it lies in the repository, and its name below PREFIX.
+# A file of the repository as such a line, where it is there.
+one() {
+    [ ! -e "$here/$2" ] || echo "$1 $2 $3"
+}
+
+# Each file as a line: its mode, where it lies in the repository, and its name below PREFIX. A program may have a man page and completions of its own.
 files() {
-    echo "755 ${program#"$here/"} bin/netlabel"
-    echo "644 docs/netlabel.1 share/man/man1/netlabel.1"
-    echo "644 completions/netlabel.bash share/bash-completion/completions/netlabel"
-    echo "644 completions/netlabel.zsh share/zsh/site-functions/_netlabel"
+    for name in $(programs); do
+        use_program "$name"
+        echo "755 ${program#"$here/"} bin/$name"
+        one 644 "docs/$name.1" "share/man/man1/$name.1"
+        one 644 "completions/$name.bash" "share/bash-completion/completions/$name"
+        one 644 "completions/$name.zsh" "share/zsh/site-functions/_$name"
+    done
+    for name in $(libraries); do
+        use_library "$name"
+        echo "644 ${program#"$here/"} lib/lib$name.a"
+        one 644 include/netlabel.h include/netlabel.h
+        one 644 include/netlabel.pc lib/pkgconfig/netlabel.pc
+        one 644 docs/netlabel.3 share/man/man3/netlabel.3
+    done
     (cd "$here" && printf "%s\n" LICENSE* VERSION README.md CHANGELOG.md CONTRIBUTING.md docs/*.md && examples) | LC_ALL=C sort | while read -r page; do
         echo "644 $page share/doc/netlabel/$page"
     done
@@ -61,17 +76,30 @@ can_write() {
 put() {
     mkdir -p -- "$(dirname -- "$3")" || return 1
     case $2 in
-    *.1) sed "s/@VERSION@/$version/" "$2" >"$3.new" ;;
+    *.[13] | *.pc) sed "s|@VERSION@|$version|; s|@PREFIX@|$quoted|" "$2" >"$3.new" ;;
     *) cp -- "$2" "$3.new" ;;
     esac && chmod "$1" "$3.new" && mv -f -- "$3.new" "$3"
 }
 
+# The first program or library that isn't current.
+unbuilt() {
+    products | while read -r kind name; do
+        "use_$kind" "$name"
+        is_current || {
+            echo "$kind $name"
+            break
+        }
+    done
+}
+
 install_all() {
-    is_current || refuse "the proved program isn't built yet, or a source is newer than it." \
-        "Run $here/prove first: it proves and builds it, which takes 36 minutes on four processors from nothing."
+    unready=$(unbuilt)
+    [ -z "$unready" ] || refuse "the proved $unready isn't built yet, or a source is newer than it." \
+        "Run $here/prove first: it proves and builds all programs and the library, which takes 36 minutes on four processors from nothing."
     closed=$(can_write)
     [ -z "$closed" ] || refuse "$closed can't be written: run this as somebody who may, or give another PREFIX."
     version=$(cat "$here/VERSION")
+    quoted=$(printf '%s' "${prefix%/}" | sed 's/[\\&|]/\\&/g')
     files | while read -r mode source target; do
         put "$mode" "$here/$source" "$root/$target" || exit 1
         case $target in

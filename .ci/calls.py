@@ -1,7 +1,7 @@
-"""Calls of the program with what each has to print, its status, and what it has to leave: the examples, captures that a Linux kernel labelled, captures
+"""Calls of the programs with what each has to print, its status, and what it has to leave: the examples, captures that a Linux kernel labelled, captures
 that are made, captures of the pcapng format, and what is promised of names of files.
 
-Each call is made in a folder of its own. `.ci/checks.py` makes the examples' calls by the built program, and `.ci/tests.py` all of them before any proof.
+Each call is made in a folder of its own. `.ci/checks.py` makes the examples' calls by the built programs, and `.ci/tests.py` all of them before any proof.
 """
 import os
 import pathlib
@@ -26,6 +26,7 @@ class Call(NamedTuple):
     status: int = 0
     report: Optional[bytes] = b""
     left: Dict[str, bytes] = {}
+    program: str = "netlabel"
 
 
 def held(folder):
@@ -63,10 +64,10 @@ def some(folder, pattern):
 
 
 def example(words):
-    """An example: `words` has one word a line; the status is 0 unless a file says otherwise; `wanted/` has the captures that it makes. Of a further call in the
-    same folder the names of all these end alike: `words-run`, `report-run`."""
+    """An example: `words` has one word a line; the program is `netlabel` and the status is 0 unless a file says otherwise; `wanted/` has the captures that it
+    makes. Of a further call in the same folder the names of all these end alike: `words-run`, `report-run`."""
     folder, end = words.parent, words.name[len("words"):]
-    status = folder / f"status{end}"
+    status, program = folder / f"status{end}", folder / f"program{end}"
     return Call(
         name=folder.relative_to(TOP).as_posix() + end,
         prepare=lambda made: shutil.copytree(folder, made, dirs_exist_ok=True),
@@ -74,6 +75,7 @@ def example(words):
         status=int(status.read_text()) if status.exists() else 0,
         report=(folder / f"report{end}").read_bytes(),
         left=held(folder / f"wanted{end}"),
+        program=program.read_text().strip() if program.exists() else "netlabel",
     )
 
 

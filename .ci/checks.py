@@ -110,7 +110,7 @@ for path in sorted(set(re.findall(r"`(\w+/(?:src|proofs|specs)/[\w/]+\.(?:rt|ant
         failures.append(f"a page names crates/{path}, which isn't there")
 
 
-# The examples, captures that are made, and what is promised of names of files, each in a folder of its own, by the proved program.
+# The examples, captures that are made, and what is promised of names of files, each in a folder of its own, by the proved programs.
 def proved(call):
     """What is wrong with what a call gives."""
     with tempfile.TemporaryDirectory() as made:
@@ -119,17 +119,17 @@ def proved(call):
         before = calls.held(folder)
         try:
             with (folder / calls.PRINTED).open("wb") as printed:
-                run = subprocess.run([top / "netlabel", *call.words], cwd=folder, stdin=subprocess.DEVNULL, stdout=printed, stderr=subprocess.PIPE, timeout=60)
+                run = subprocess.run([top / call.program, *call.words], cwd=folder, stdin=subprocess.DEVNULL, stdout=printed, stderr=subprocess.PIPE, timeout=60)
         except subprocess.TimeoutExpired:
             return [f"{call.name}: it hadn't ended after a minute"]
-        unproved = [f"{call.name}: netlabel said {run.stderr!r}"] if run.stderr else []
+        unproved = [f"{call.name}: {call.program} said {run.stderr!r}"] if run.stderr else []
         after = calls.held(folder)
         return unproved + calls.faults(call, run.returncode, after.pop(calls.PRINTED), before, after)
 
 
 if "--pages" not in sys.argv:
-    if subprocess.run([top / "prove"]).returncode:
-        failures.append("the program isn't proved and built, so none of its calls was made")
+    if subprocess.run([top / "prove", *sorted({call.program for call in calls.examples()})]).returncode:
+        failures.append("the programs aren't proved and built, so none of their calls was made")
     else:
         failures += [fault for call in [*calls.examples(), *calls.kernel_captures(), *calls.NAMES, *calls.OF_REPORT, *calls.MAKING, *calls.PCAPNG, *calls.LONG] for fault in proved(call)]
 

@@ -195,7 +195,7 @@ def seen_part(kind, text):
     return re.split(r"[{(]", text, maxsplit=1)[0] + " ".join(re.findall(r"\bpub\s+(?!\()([^,}]*)", text))
 
 
-ITEM = re.compile(r"(?:(pub)\b(\s*\([^)]*\))?\s*)?(?:(?:const|async|unsafe)\s+(?=fn\b|impl\b|trait\b))?(\w+)")
+ITEM = re.compile(r"(?:(pub)\b(\s*\([^)]*\))?\s*)?(?:(?:const|async|unsafe|extern)\s+(?=fn\b|impl\b|trait\b))?(\w+)")
 TEST = re.compile(r"\[\s*(cfg\s*\(\s*test\s*\)|test\b)")
 FUNCTION_PART = re.compile(r"\b(?:requires|ensures|decreases|ghost)\b\*?\s*[^\s{:]*\s*:?\s*\{|[(\[{;]")
 GHOST = re.compile(r"\s*(\w+)[^:={;]*[:=]\s*\{")

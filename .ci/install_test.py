@@ -1,28 +1,36 @@
-"""Tests of install.sh, its man page and completions, with a stand-in for the proved program in a copy of what they need. Prints `N passed, M failed`."""
+"""Tests of install.sh, its man pages and completions, with stand-ins for proved programs and the library in a copy of what they need. Prints
+`N passed, M failed`."""
 import os
 import pathlib
+import shlex
 import shutil
 import subprocess
 import sys
 import tempfile
 
 TOP = pathlib.Path(__file__).resolve().parent.parent
-PARTS = ["install.sh", "lib", "completions", "docs", "examples", "VERSION", "LICENSE", "LICENSE-MIT", "LICENSE-APACHE", "README.md", "CHANGELOG.md", "CONTRIBUTING.md"]
+PARTS = ["install.sh", "lib", "include", "completions", "docs", "examples", "VERSION", "LICENSE", "LICENSE-MIT", "LICENSE-APACHE", "README.md", "CHANGELOG.md", "CONTRIBUTING.md"]
 INSTALLED = ["bin/netlabel", "share/man/man1/netlabel.1", "share/bash-completion/completions/netlabel", "share/zsh/site-functions/_netlabel",
-             "share/doc/netlabel/docs/guide.md", "share/doc/netlabel/LICENSE-MIT", "share/doc/netlabel/examples/site/site"]
+             "bin/netlabel_cover", "share/man/man1/netlabel_cover.1", "share/bash-completion/completions/netlabel_cover",
+             "share/zsh/site-functions/_netlabel_cover", "lib/libnetlabel_codec.a", "lib/pkgconfig/netlabel.pc", "include/netlabel.h",
+             "share/man/man3/netlabel.3", "share/doc/netlabel/docs/guide.md", "share/doc/netlabel/LICENSE-MIT", "share/doc/netlabel/examples/site/site"]
+# The crates of the programs, with the names that these are called by.
+PROGRAMS = {"netlabel_cmd": "netlabel", "netlabel_cover": "netlabel_cover", "ripso_border": "ripso_border"}
+LIBRARY = "netlabel_codec"
 # What stands on the line, and the words that complete it, in a folder with the files below.
 FILES = ["site", "site.pcap", "with blank", "-dash", "sub/one.pcap"]
 COMPLETED = {
     "netlabel ": "agree check judge make run show", "netlabel s": "show", "netlabel show s": "site site.pcap sub", "netlabel run site": "site site.pcap",
     "netlabel run site ": "-w", "netlabel run site -w 1": "1 10 11 12 13 14 15 16", "netlabel judge ": "", "netlabel judge 16 s2:c0.c5 si": "site site.pcap",
     "netlabel make 7 ": "", "netlabel make 7 3 si": "site site.pcap", "netlabel agree si": "site site.pcap", "netlabel agree site ": "", "netlabel show sub/": "sub/one.pcap", "netlabel show w": "", "netlabel show site ": "", "netlabel frob s": "",
+    "netlabel_cover si": "site site.pcap", "netlabel_cover sub/": "sub/one.pcap", "netlabel_cover -": "", "netlabel_cover site ": "",
 }
 BASH = r"""
-. "$1"; complete -p netlabel >/dev/null || exit 9
+. "$1"; complete -p "$3" >/dev/null || exit 9
 COMP_LINE=$2 COMP_POINT=${#2}
 COMP_WORDS=(); for word in $2; do COMP_WORDS+=("${word##*:}"); done
 [[ $2 == *" " ]] && COMP_WORDS+=("")
-COMP_CWORD=$((${#COMP_WORDS[@]} - 1)) _netlabel; printf '%s\n' "${COMPREPLY[@]}"
+COMP_CWORD=$((${#COMP_WORDS[@]} - 1)) "_$3"; printf '%s\n' "${COMPREPLY[@]}"
 """
 results = []
 
@@ -41,16 +49,69 @@ def held(folder):
     return sorted(str(path.relative_to(folder)) for path in folder.rglob("*") if path.is_file())
 
 
+def build(tree, crate):
+    """A stand-in for the built program of a crate, which says whose it is."""
+    program = tree / "crates" / crate / "out" / crate
+    program.parent.mkdir()
+    program.write_text(f"#!/bin/sh\necho {crate}\n")
+    program.chmod(0o755)
+
+
+# What stands in for the library: one call, and a program that makes it.
+ONE_CALL = """#include "netlabel.h"
+uint32_t netlabel_read_cipso(const uint8_t *octets, size_t length, struct netlabel_run *runs, size_t room, struct netlabel_label *label)
+{
+    (void)octets, (void)runs, (void)label;
+    return (uint32_t)(length + room);
+}
+"""
+CALLER = """#include <netlabel.h>
+int main(void)
+{
+    struct netlabel_run runs[1];
+    struct netlabel_label label;
+    return netlabel_read_cipso((const uint8_t *)"", 1, runs, 1, &label) != 2;
+}
+"""
+
+
+def build_library(tree):
+    """A stand-in for the library; without a C compiler it is empty."""
+    out = tree / "crates" / LIBRARY / "out"
+    out.mkdir()
+    library = out / f"lib{LIBRARY}.a"
+    if not shutil.which("cc") or not shutil.which("ar"):
+        return library.write_text("")
+    (out / "call.c").write_text(ONE_CALL)
+    made = run("cc", "-c", f"-I{tree}/include", out / "call.c", "-o", out / "call.o")
+    tell("the stand-in for the library compiles", made.returncode == 0 and run("ar", "rc", library, out / "call.o").returncode == 0, made.stderr)
+
+
+def test_library(tree, made):
+    """A program in C finds header and library by pkg-config, below a prefix whose name is no plain word for sed."""
+    if not all(shutil.which(tool) for tool in ("cc", "ar", "pkg-config")):
+        return print("not tested: a C compiler, ar or pkg-config isn't on the path, so no program was linked by pkg-config")
+    prefix = made / "a&b|c"
+    run(tree / "install.sh", prefix)
+    place = {**os.environ, "PKG_CONFIG_PATH": f"{prefix}/lib/pkgconfig"}
+    version = run("pkg-config", "--modversion", "netlabel", env=place)
+    tell("pkg-config knows the version", version.stdout == (TOP / "VERSION").read_text(), version)
+    flags = shlex.split(run("pkg-config", "--cflags", "--libs", "netlabel", env=place).stdout)
+    (made / "caller.c").write_text(CALLER)
+    linked = run("cc", made / "caller.c", *flags, "-o", made / "caller")
+    tell("a program in C links by pkg-config", linked.returncode == 0 and run(made / "caller").returncode == 0, f"{flags} {linked.stderr}")
+
+
 def test_install(tree, made):
     prefix = made / "opt"
+    for crate in PROGRAMS:
+        refused = run(tree / "install.sh", prefix)
+        tell(f"refuses where {crate} isn't proved", refused.returncode == 1 and "prove" in refused.stderr and not prefix.exists(), refused.stderr)
+        build(tree, crate)
     refused = run(tree / "install.sh", prefix)
-    tell("refuses where nothing is proved", refused.returncode == 1 and "prove" in refused.stderr and not prefix.exists(), refused.stderr)
-    program = tree / "crates/netlabel_cmd/out/netlabel_cmd"
-    program.parent.mkdir(parents=True)
-    program.write_text("#!/bin/sh\necho stand-in\n")
-    program.chmod(0o755)
-    source = tree / "crates/netlabel_cmd/src/main.rt"
-    source.parent.mkdir()
+    tell("refuses where the library isn't proved", refused.returncode == 1 and LIBRARY in refused.stderr and not prefix.exists(), refused.stderr)
+    build_library(tree)
+    source = tree / "crates/netlabel_cmd/src/newer.rt"
     source.write_text("")
     os.utime(source, (2**32, 2**32))
     refused = run(tree / "install.sh", prefix)
@@ -69,28 +130,35 @@ def test_install(tree, made):
     tell("leaves out what an example made in place", "share/doc/netlabel/examples/crossing/far.pcap" not in there)
     tell("puts each file below DESTDIR", all(name in there for name in INSTALLED), done.stderr)
     tell("leaves no half file", not [name for name in there if name.endswith(".new")])
-    tell("the program runs", run(prefix / "usr/bin/netlabel").stdout == "stand-in\n")
+    for crate, name in PROGRAMS.items():
+        tell(f"{name} runs", run(prefix / "usr/bin" / name).stdout == f"{crate}\n")
+    tell("no other program is there", len(list((prefix / "usr/bin").iterdir())) == len(PROGRAMS))
     version = (TOP / "VERSION").read_text().strip()
-    tell("the page has the version", f'"netlabel {version}"' in (prefix / "usr/share/man/man1/netlabel.1").read_text())
+    for page in ("man1/netlabel.1", "man1/netlabel_cover.1", "man3/netlabel.3"):
+        tell(f"{page} has the version", f'"netlabel {version}"' in (prefix / "usr/share/man" / page).read_text())
+    tell("pkg-config's file has the prefix without DESTDIR", (prefix / "usr/lib/pkgconfig/netlabel.pc").read_text().startswith("prefix=/usr\n"))
     run(tree / "install.sh", "--uninstall", "/usr", env={**os.environ, "DESTDIR": str(prefix)})
     tell("takes all away again", held(prefix) == [], held(prefix))
 
 
-def test_page():
+def test_pages():
     if not shutil.which("groff"):
-        return print("not tested: groff isn't on the path, so the man page's markup was skipped")
-    seen = run("groff", "-man", "-ww", "-z", TOP / "docs/netlabel.1")
-    tell("the man page has no warning", seen.returncode == 0 and not seen.stderr, seen.stderr)
+        return print("not tested: groff isn't on the path, so the man pages' markup was skipped")
+    for page in sorted((TOP / "docs").glob("*.[13]")):
+        seen = run("groff", "-man", "-ww", "-z", page)
+        tell(f"{page.name} has no warning", seen.returncode == 0 and not seen.stderr, seen.stderr)
 
 
 def test_completions(folder):
     for line, wanted in COMPLETED.items():
-        seen = run("bash", "-c", BASH, "bash", TOP / "completions/netlabel.bash", line, cwd=folder)
+        program = line.split()[0]
+        seen = run("bash", "-c", BASH, "bash", TOP / f"completions/{program}.bash", line, program, cwd=folder)
         tell(f"bash completes {line!r}", sorted(seen.stdout.split()) == wanted.split(), f"{seen.stdout!r} {seen.stderr}")
     if not shutil.which("zsh"):
         return print("not tested: zsh isn't on the path, so the text of its completion was skipped")
-    seen = run("zsh", "-n", TOP / "completions/netlabel.zsh")
-    tell("zsh reads its completion", seen.returncode == 0 and not seen.stderr, seen.stderr)
+    for completion in sorted((TOP / "completions").glob("*.zsh")):
+        seen = run("zsh", "-n", completion)
+        tell(f"zsh reads {completion.name}", seen.returncode == 0 and not seen.stderr, seen.stderr)
 
 
 def main():
@@ -102,10 +170,13 @@ def main():
         for part in PARTS:
             source = TOP / part
             shutil.copytree(source, tree / part) if source.is_dir() else shutil.copy(source, tree / part)
-        (tree / "crates").mkdir()
-        (tree / "crates.txt").write_text("netlabel_cmd:\n")
+        for crate in [*PROGRAMS, LIBRARY, "ground"]:
+            (tree / "crates" / crate / "src").mkdir(parents=True)
+            (tree / "crates" / crate / "src" / ("main.rt" if crate in PROGRAMS else "lib.rt")).write_text("")
+        (tree / "crates.txt").write_text("".join(f"{crate}: ground\n" for crate in [*PROGRAMS, f"{LIBRARY} staticlib"]) + "ground:\n")
         test_install(tree, made)
-        test_page()
+        test_library(tree, made)
+        test_pages()
         folder = made / "files"
         for name in FILES:
             (folder / name).parent.mkdir(parents=True, exist_ok=True)

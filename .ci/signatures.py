@@ -9,7 +9,7 @@ FIXED = {
     ("packet_walk", "walk"): "a viewer, a flow, a packet with its worker and number, room for what is sent, the gate and memory",
     ("label_flow", "round"): "both sides of a board with the last version, a flow, its feed, the gate, memory and threads",
 }
-FUNCTION = re.compile(r"^[ \t]*(?:pub(?:\([^)]*\))? )?(?:const )?fn (\w+)", re.M)
+FUNCTION = re.compile(r'^[ \t]*(?:pub(?:\([^)]*\))? )?(?:const |extern "C" )?fn (\w+)', re.M)
 CLAUSE = re.compile(r"^[ \t]*(?:requires|ensures|(?:ghost )?invariant)\b[^{}\n]*\{", re.M)
 OPENING, CLOSING = "([{<", ")]}>"
 

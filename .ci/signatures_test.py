@@ -9,6 +9,7 @@ LONG = "x" * 100
 CASES = {
     "seven arguments": ("fn f<F: Fn(u8, u8) -> u8>(a: u8, b: (u8, u8), c: &[u8], d: Map<u8, u8>, e: F, f: u8, g: u8) -> u8 {}\n", []),
     "an eighth": ("fn f(a: u8) {}\n\npub(crate) fn g(\n    &mut self,\n    b: u8, c: u8, d: u8, e: u8, f: u8, g: u8,\n    h: u8,\n);\n", [3]),
+    "an eighth of a call for C": ('pub extern "C" fn f(a: u8, b: u8, c: u8, d: u8, e: u8, f: u8, g: u8, h: u8) {}\n', [1]),
     "a comma behind the last": ("fn f(\n    a: u8, b: u8, c: u8, d: u8,\n    e: u8, f: u8, g: u8,\n) {}\n", []),
     "a wide clause": (f"fn f()\n    requires a {{ b }}\n    ensures c {{ {LONG} }}\n{{}}\n", [3]),
     "its second line": (f"fn f()\n    ensures {{ a {{0}}\n        × {LONG} }}\n{{}}\n", [3]),

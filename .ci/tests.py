@@ -11,6 +11,7 @@ import re
 import subprocess
 import sys
 import tempfile
+import threading
 import time
 from typing import Callable, List, NamedTuple
 
@@ -57,14 +58,19 @@ def without_hints(folder):
     return {**os.environ, "PATH": f"{folder}:{os.environ['PATH']}"}
 
 
+# The threads of this process have one working folder.
+WORKING_FOLDER = threading.Lock()
+
+
 @contextlib.contextmanager
 def inside(folder):
-    """In this folder, as a call of the program is. The threads of this process share it, so everything else here has an absolute name."""
-    os.chdir(folder)
-    try:
-        yield
-    finally:
-        os.chdir(TOP)
+    """In this folder, as a call of a program is: one thread at a time. Everything else here has an absolute name."""
+    with WORKING_FOLDER:
+        os.chdir(folder)
+        try:
+            yield
+        finally:
+            os.chdir(TOP)
 
 
 def of_calls(found):
@@ -93,12 +99,18 @@ def crate_tests(name, environment):
 # --- calls of the program ---------------------------------------------------------------------------------------------------------------------
 
 
-def all_calls():
-    """Each call in a folder of its own; the program is compiled once for all of them."""
-    unproved.say = lambda text: None
+def calls_of(program):
+    """The calls that are made before any proof."""
     made = [*calls.examples(), *calls.kernel_captures(), *calls.NAMES, *calls.MAKING, *calls.PCAPNG, *calls.UNANSWERED]
+    return [call for call in made if call.program == program]
+
+
+def all_calls(program):
+    """Each call of a program in a folder of its own; the program is compiled once for all of them."""
+    unproved.say = lambda text: None
+    made = calls_of(program)
     with unproved.private_folder() as folder:
-        trial = unproved.Trial(pathlib.Path(folder) / "cases", SECONDS)
+        trial = unproved.Trial(program, pathlib.Path(folder) / "cases", SECONDS)
         trial.folder.mkdir()
         begun = [begin(trial, pathlib.Path(folder) / str(number), call) for number, call in enumerate(made)]
         trial.run()
@@ -148,8 +160,13 @@ def without_what_it_needs():
     found = []
     with tempfile.TemporaryDirectory() as made:
         folder = pathlib.Path(made)
-        (folder / "readlink").symlink_to(subprocess.check_output(["which", "readlink"], text=True).strip())
+        for tool in ("readlink", "sed", "grep", "awk", "find"):
+            (folder / tool).symlink_to(subprocess.check_output(["which", tool], text=True).strip())
         (folder / "netlabel").write_bytes((TOP / "netlabel").read_bytes())
+        main = folder / "crates/netlabel_cmd/src/main.rt"
+        main.parent.mkdir(parents=True)
+        main.write_text("")
+        (folder / "crates.txt").write_text("netlabel_cmd:\n")
         for missing in ("isn't the netlabel repository", "rt isn't on the path"):
             ran = called(["/bin/sh", folder / "netlabel", "show", "x"], env={"PATH": made})
             is_told = ran.returncode == calls.NO_ANSWER and not ran.stdout and missing in ran.stderr.decode()
@@ -173,11 +190,16 @@ def checks(with_proved, environment):
     """What takes long comes first."""
     if with_proved:
         yield Check("calls of the proved program", lambda: script(["checks.py"]))
-    yield Check("examples, captures of a kernel, captures that are made, names of files", all_calls)
+    yield Check("examples, captures of a kernel, captures that are made, names of files", lambda: all_calls("netlabel"))
+    for program in unproved.FORMS:
+        if program != "netlabel" and calls_of(program):
+            yield Check(f"calls of {program}", lambda program=program: all_calls(program))
     yield Check("netlabel by a link", through_a_link)
-    for name in reversed(crates_with_tests()):
+    # `rt ci` runs these too, proved.
+    for name in [] if with_proved else reversed(crates_with_tests()):
         yield Check(name, lambda name=name: crate_tests(name, environment))
     yield Check("netlabel without what it needs", without_what_it_needs)
+    yield Check("the library for C", lambda: script(["c_test.py", *["--build"] * with_proved]))
     for name, words in SCRIPTS.items():
         yield Check(name, lambda words=words: script(words))
 
@@ -194,7 +216,7 @@ def timed(check):
 def main():
     form = argparse.ArgumentParser(description=WHAT)
     form.add_argument("--jobs", type=int, default=len(os.sched_getaffinity(0)), help="so many at a time; as many as processors, if left out")
-    form.add_argument("--proved", action="store_true", help="the calls of the proved program too, which is proved and built where it isn't")
+    form.add_argument("--proved", action="store_true", help="behind `rt ci`, which ran the crates' tests: the calls of the proved program in their place, which is proved and built where it isn't")
     form.add_argument("--only", default="", metavar="WORD", help="those with this word in their names")
     words = form.parse_args()
     print(WHAT, flush=True)

@@ -113,7 +113,7 @@ pub trait Sink {
 ghost use Rattle.ground.specs.inside.Hidden.{is_private};
 
 /// `ensures { is_private }` is a comment here.
-pub fn read(text: &str) -> Result<u8, Label>
+pub extern "C" fn read(text: &str) -> Result<u8, Label>
     ensures ok { IsText text.now result }
 {
     step("ensures { is_private }")

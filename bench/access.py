@@ -94,9 +94,11 @@ class Tables(NamedTuple):
 class Script:
     """A script, and its nodes' tables after each number of commands."""
 
+    tables_at_first = Tables()
+
     def __init__(self, text):
-        self.readings, self.flows, self.commands = {}, [], 0
-        self.history = collections.defaultdict(lambda: [(0, Tables())])
+        self.readings, self.flows, self.commands, self.commands_above = {}, [], 0, []
+        self.history = collections.defaultdict(lambda: [(0, self.tables_at_first)])
         for line in text.splitlines():
             words = line.split()
             if words[0] == "node":
@@ -105,6 +107,7 @@ class Script:
                 self.readings[at] = {what: pairs_of(words, what) for what in ("levels", "categories")}
             elif words[0] == "flow":
                 self.flows.append([hop.partition(":") for hop in words[3:]])
+                self.commands_above.append(self.commands)
             else:
                 self.commands += 1
                 self.history[at].append((self.commands, self.history[at][-1][1].after(words)))
@@ -234,6 +237,14 @@ def lines_of(report):
             yield Line(int(flow) - 1, int(packet) - 1, became, detail, [int(each) for each in versions.split(",")])
 
 
+def called(program, folder, *words):
+    """What a program prints, which has to answer."""
+    ran = subprocess.run([program, *words], cwd=folder, capture_output=True, text=True, stdin=subprocess.DEVNULL)
+    if ran.returncode:
+        raise Wrong(f"{' '.join(words)} ended with status {ran.returncode}: {ran.stdout[-300:]}{ran.stderr[-300:]}")
+    return ran.stdout
+
+
 class Trial:
     """One network in a folder of its own, with what the program printed and made."""
 
@@ -246,10 +257,7 @@ class Trial:
         self.lines = list(lines_of(self.report))
 
     def called(self, *words):
-        ran = subprocess.run([self.program, *words], cwd=self.folder, capture_output=True, text=True, stdin=subprocess.DEVNULL)
-        if ran.returncode:
-            raise Wrong(f"{' '.join(words)} ended with status {ran.returncode}: {ran.stdout[-300:]}{ran.stderr[-300:]}")
-        return ran.stdout
+        return called(self.program, self.folder, *words)
 
     def check_replies(self):
         replies = [line.split() for line in self.report.splitlines() if line.startswith("command ")]
@@ -359,11 +367,11 @@ def tried(asked, made, number, is_swapped):
     return trial.counts
 
 
-def counted(asked, made, count, is_swapped):
-    """What was counted in so many networks."""
+def counted(tried, asked, made, count, is_control):
+    """What was counted in so many networks, each of which is tried."""
     counts = collections.Counter()
     with concurrent.futures.ThreadPoolExecutor(asked.jobs) as pool:
-        trials = [pool.submit(tried, asked, made, number, is_swapped) for number in range(1, count + 1)]
+        trials = [pool.submit(tried, asked, made, number, is_control) for number in range(1, count + 1)]
         try:
             for trial in trials:
                 counts.update(trial.result())
@@ -400,7 +408,7 @@ def main():
         raise SystemExit(f"{asked.program} isn't built: ./prove builds it")
     with tempfile.TemporaryDirectory() as made:
         try:
-            counts, control = (counted(asked, pathlib.Path(made), count, is_swapped) for count, is_swapped in ((asked.networks, False), (asked.control, True)))
+            counts, control = (counted(tried, asked, pathlib.Path(made), count, is_swapped) for count, is_swapped in ((asked.networks, False), (asked.control, True)))
         except Wrong as why:
             raise SystemExit(str(why)) from why
     print(totals(counts, control))

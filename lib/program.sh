@@ -1,16 +1,63 @@
 # shellcheck shell=sh
-# Where the program of this repository is, and whether it is current. For `netlabel`, `prove` and `install.sh`, which set `here`, the repository's
-# folder, before they read this file.
+# Which programs and libraries for C this repository has, where they are, and whether one is current. For `netlabel`, `prove` and `install.sh`, which set
+# `here`, the repository's folder, before they read this file.
 
-crate=${here:?}/crates/netlabel_cmd
-program=$crate/out/netlabel_cmd
+# The programs, by the names that they are called by: the crates of crates.txt that have a `main`. The ending `_cmd` of a crate is no part of the name.
+programs() {
+    sed -n 's/^\([a-z][a-z0-9_]*\)[^:]*:.*/\1/p' "${here:?}/crates.txt" | while read -r crate_name; do
+        [ ! -f "$here/crates/$crate_name/src/main.rt" ] || echo "${crate_name%_cmd}"
+    done
+}
+
+# The libraries for C, by their crates' names: the crates of crates.txt that are static libraries.
+libraries() {
+    sed -n 's/^\([a-z][a-z0-9_]*\) staticlib:.*/\1/p' "${here:?}/crates.txt"
+}
+
+is_program() {
+    programs | grep -qx -e "$1"
+}
+
+# The program that a script is called for: that of its name or, where it has another, of the next one that it is a link to.
+named_by() {
+    at=$1
+    until is_program "${at##*/}"; do
+        next=$(readlink -- "$at") || return 1
+        case $next in
+        /*) at=$next ;;
+        *) at=$(dirname -- "$at")/$next ;;
+        esac
+    done
+    echo "${at##*/}"
+}
+
+# Turns to a program: its crate, the crate's folder, and where it is built.
+use_program() {
+    room=$1
+    [ ! -d "$here/crates/$1_cmd" ] || room=$1_cmd
+    crate=$here/crates/$room
+    program=$crate/out/$room
+}
+
+# Turns to a library in the same way, which stands in the place of a program below.
+use_library() {
+    room=$1
+    crate=$here/crates/$room
+    program=$crate/out/lib$room.a
+}
+
+# All that is built, a line for each: `program` or `library`, and its name.
+products() {
+    programs | sed 's/^/program /'
+    libraries | sed 's/^/library /'
+}
 
 # The program's crate and all crates below it.
 rooms() {
-    awk -F: '
+    awk -F: -v first="$room" '
         /^[a-z]/ { sub(/ .*/, "", $1); uses[$1] = $2 }
         END {
-            row[count = 1] = "netlabel_cmd"
+            row[count = 1] = first
             for (at = 1; at <= count; at++) {
                 if (!(row[at] in uses) || row[at] in seen) continue
                 seen[row[at]] = 1
@@ -23,7 +70,7 @@ rooms() {
 
 # The proved program is built, and no source of it is newer: its code, definitions and proofs, and the list of crates. Tests and pages don't count.
 is_current() {
-    [ -x "$program" ] || return 1
+    [ -f "$program" ] || return 1
     newer=$(newer_sources) || return 1
     [ -z "$newer" ]
 }
@@ -32,9 +79,9 @@ is_current() {
 newer_sources() (
     cd "$here" || exit
     set -- crates.txt
-    for room in $(rooms); do
+    for below in $(rooms); do
         for part in src specs proofs; do
-            [ ! -d "crates/$room/$part" ] || set -- "$@" "crates/$room/$part"
+            [ ! -d "crates/$below/$part" ] || set -- "$@" "crates/$below/$part"
         done
     done
     find "$@" -type f ! -name tests.rt ! -path '*/tests/*' -newer "$program" -print

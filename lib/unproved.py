@@ -1,12 +1,15 @@
-"""The program's answer while it isn't proved: `rt try` compiles it with checks and runs it once, on the words of this call.
+"""A program's answer while it isn't proved: `rt try` compiles it with checks and runs it once, on the words of this call.
+
+    python3 lib/unproved.py PROGRAM WORD..
 
 The program never sees a name of the caller's. It reads the caller's files through links, and makes its captures in a private folder; these come
 to the caller's names after it has ended. So where it has no answer, every file holds what it held. Only where a capture couldn't be brought to its name
 whole, as on a full disk, those before it are in place, and its own file holds what it held or some first octets. A signal that ends this script comes
 before the first capture is brought or after the last. The report is written behind them, so they are all in place where it can't be.
 
-A script is lent as it stands for `check` and `agree`, which tell its first fault or limit at the octet where it is. For `run` it is lent twice in one try:
-so for `check`, and with other names of files for `run`, whose answer counts where the script is right.
+A script is lent as it stands where its first fault or limit is told at the octet where it is. For `run` it is lent twice in one try: so for `check`, and with
+other names of files for `run`, whose answer counts where the script is right. For the auditor, which prints no name, each name of a file in the script and in
+the report is another one of the same length. `FORMS` says which words of which program name files.
 """
 import contextlib
 import errno
@@ -21,7 +24,7 @@ import string
 import subprocess
 import sys
 import tempfile
-from typing import NamedTuple
+from typing import Callable, NamedTuple, Optional, Tuple
 
 UNWRITTEN = 4
 NO_ANSWER = 125
@@ -36,8 +39,14 @@ TOP = pathlib.Path(__file__).resolve().parent.parent
 FILE_NAME = re.compile(rb'[!"$-,.-~][!-~]{0,126}')
 FLOW_LINE = re.compile(rb"^[ \t]*flow[ \t]+([!-~]+)[ \t]+([!-~]+)", re.M)
 FLOW_PRINTED = re.compile(rb"^flow (\d+) .*$", re.M)
-# The commands whose last word is the one file that they read, with the number of their words.
-READ_ONE = {b"judge": 4, b"show": 2}
+FLOW_BEGUN = re.compile(rb"^flow (\d+) ([^\n]*)$", re.M)
+MOST_REPORT_OCTETS = 1 << 28
+
+
+def crate_of(program):
+    """The folder of a program's crate."""
+    crates = TOP / "crates"
+    return next(folder for folder in (crates / f"{program}_cmd", crates / program) if folder.is_dir())
 
 
 class NoAnswer(Exception):
@@ -52,7 +61,11 @@ class Answer(NamedTuple):
 
 
 def say(text):
-    print(f"netlabel: {text}", file=sys.stderr, flush=True)
+    print(f"{PROGRAM}: {text}", file=sys.stderr, flush=True)
+
+
+# The program that is asked for, by the name that it is called by.
+PROGRAM = "netlabel"
 
 
 # --- trying -----------------------------------------------------------------------------------------------------------------------------------
@@ -62,7 +75,8 @@ class Trial:
     """Words that are tried together, so that the program is compiled once. `lent` has the files that lie in the folder that it is run in, by
     their names there."""
 
-    def __init__(self, folder, seconds=SECONDS):
+    def __init__(self, program, folder, seconds=SECONDS):
+        self.program = program
         self.folder = folder
         self.seconds = seconds
         self.lent = {}
@@ -84,7 +98,7 @@ class Trial:
             plain = [re.sub("[\r\n]", " ", word.decode(errors="replace")).replace("{}", "{ }") for word in words]
             (self.folder / f"{case}.args").write_bytes("".join(word + "\n" for word in plain).encode())
         data = [word for name, file in self.lent.items() for word in ("--data", name + b"=" + os.fsencode(file))]
-        printed, self.told = run_rt("--steps", "1", "--seconds", str(self.seconds), *data, "--cases", self.folder)
+        printed, self.told = run_rt(crate_of(self.program), "--steps", "1", "--seconds", str(self.seconds), *data, "--cases", self.folder)
         parts = re.split(rb"^== (\d{4})\n", printed, flags=re.M)
         self.printed = {case.decode(): text for case, text in zip(parts[1::2], parts[2::2])}
 
@@ -98,10 +112,10 @@ class Trial:
         raise NoAnswer("\n  ".join([f"the program couldn't be tried to its end within {limits}, so no file was changed; rt says:", *lines[-8:]]))
 
 
-def run_rt(*words):
-    """What `rt try` writes to standard output and to standard error."""
+def run_rt(crate, *words):
+    """What `rt try` on a crate writes to standard output and to standard error."""
     streams = {"stdin": subprocess.DEVNULL, "stdout": subprocess.PIPE, "stderr": subprocess.PIPE}
-    with subprocess.Popen(["rt", "try", *words], cwd=TOP / "crates/netlabel_cmd", **streams) as tried:
+    with subprocess.Popen(["rt", "try", *words], cwd=crate, **streams) as tried:
         try:
             printed, told = tried.communicate()
         except BaseException:
@@ -198,14 +212,9 @@ class Script:
         self.flows = [Flow(line[1], line[2], slice(*line.span(1)), slice(*line.span(2))) for line in lines]
 
     def lend_as_it_is(self, folder, lent):
-        """Lends it for `check`, and answers its name there. An output that is the script's own name is a fault, and each fault keeps its octet: so that
-        name is as long as the script's own, and stands where that stood as an output."""
-        letters = (string.ascii_lowercase + string.digits).encode()
-        taken = {name for flow in self.flows for name in (flow.input, flow.output)}
-        names = (bytes(octets) for octets in itertools.product(letters, repeat=len(self.name)))
-        own = next((name for name in names if name not in taken and name not in lent), None)
-        if own is None:
-            raise NoAnswer(f"no name of {len(self.name)} letters is left for the script")
+        """Lends it where none of the files is read that its flows name, and answers its name there. An output that is the script's own name is a fault, and
+        each fault keeps its octet: so that name is as long as the script's own, and stands where that stood as an output."""
+        own = self.other_name(self.name, lent)
         text = bytearray(self.text)
         for flow in self.flows:
             if flow.output == self.name:
@@ -213,6 +222,37 @@ class Script:
         if self.is_there:
             (folder / "checked").write_bytes(text)
             lent[own] = folder / "checked"
+        return own
+
+    def other_name(self, name, lent):
+        """A name of letters, as long as this one, that nothing is lent under and that the script doesn't have."""
+        letters = (string.ascii_lowercase + string.digits).encode()
+        taken = {self.name, *lent, *(each for flow in self.flows for each in (flow.input, flow.output))}
+        found = next((other for octets in itertools.product(letters, repeat=len(name)) if (other := bytes(octets)) not in taken), None)
+        if found is None:
+            raise NoAnswer(f"no name of {len(name)} letters is left for {os.fsdecode(name)}")
+        return found
+
+    def lend_for_audit(self, folder, lent):
+        """Lends it with the inputs of its flows, and answers the other name of each: one of the same length, so that each fault keeps its octet, and one for
+        each name, so that names are the same where they were. Of another name nothing is lent."""
+        own = {}
+        for name in [self.name, *(each for flow in self.flows for each in (flow.input, flow.output) if each != b"-")]:
+            if name not in own:
+                own[name] = self.other_name(name, lent)
+                lent[own[name]] = folder / "nothing"
+        text = bytearray(self.text)
+        for flow in self.flows:
+            for name, place in ((flow.input, flow.input_place), (flow.output, flow.output_place)):
+                text[place] = own.get(name, name)
+        if self.is_there:
+            (folder / "audited").write_bytes(text)
+        files = {name: lend(folder, f"input-{number}", name) for number, name in enumerate(sorted({flow.input for flow in self.flows}), 1)}
+        for name, other in own.items():
+            file = pathlib.Path(os.fsdecode(files[name])) if name in files else folder / "nothing"
+            lent[other] = folder / "audited" if name == self.name else file
+        for other in [other for other in own.values() if not lent[other].exists()]:
+            del lent[other]
         return own
 
     def lend_with_other_names(self, folder, refusals):
@@ -301,39 +341,33 @@ def say_unread(name):
 # --- the commands -----------------------------------------------------------------------------------------------------------------------------
 
 
-def asking_file(trial, folder, words):
-    *front, name = words
-    asked = trial.ask([*front, lend(folder, "file", name)])
-    return lambda: said_unread(asked(), name)
-
-
-def asking_script(trial, folder, command, name, behind):
-    """Of `check` and `agree`, which read a script and none of the files that its flows name."""
-    asked = trial.ask([command, Script(name).lend_as_it_is(folder, trial.lent), *behind])
-    return lambda: said_unread(asked(), name)
-
-
-def said_unread(answer, name):
-    if answer.status == 3:
-        say_unread(name)
-    return answer
-
-
-def asking_make(trial, folder, words):
-    """Of `make`, whose last word is the one file that it makes. Where that is refused, it lies in a folder that isn't there."""
-    *front, name = words
-    refusal = Guard([]).refusal(name)
-    made = folder / ("refused" if refusal else ".") / "output"
-    asked = trial.ask([*front, os.fsencode(made)])
+def asking_files(trial, folder, words, form):
+    """Of a form whose words name the files that it reads and makes: each of them has another name for the program, one for each name."""
+    read = [words[place] for place in form.read_places()]
+    names = {words[place]: lend(folder, f"file-{place}", words[place]) for place in form.reads}
+    if form.script is not None:
+        names[words[form.script]] = Script(words[form.script]).lend_as_it_is(folder, trial.lent)
+    made, refusal = None, None
+    if form.makes is not None and words[form.makes] not in names:
+        refusal = Guard(read).refusal(words[form.makes])
+        made = folder / ("refused" if refusal else ".") / "output"
+        names[words[form.makes]] = os.fsencode(made)
+    asked = trial.ask([names[word] if place in form.places() else word for place, word in enumerate(words)])
 
     def finish():
         answer = asked()
+        unread = [name for name in read if why_unread(name)] if answer.status == 3 else []
+        for name in unread:
+            say_unread(name)
+        if made is None:
+            return answer
+        name = words[form.makes]
         if answer.status == 3 and refusal:
             say_unmade(name, refusal)
-        elif answer.status in (3, UNWRITTEN):
+        elif answer.status == UNWRITTEN or (answer.status == 3 and not unread):
             raise NoAnswer(f"what the program made couldn't be written to {folder}")
-        elif answer.status == 0:
-            if Guard([]).refusal(name):
+        elif made.exists():
+            if Guard(read).refusal(name):
                 raise NoAnswer("another program exchanged files meanwhile, so that the output would be refused; no file was changed")
             with signals_held_back():
                 bring(made, name)
@@ -342,10 +376,35 @@ def asking_make(trial, folder, words):
     return finish
 
 
-def asking_run(trial, folder, name, behind):
-    script = Script(name)
+def asking_audit(trial, folder, words, form):
+    """Of the auditor, which reads a script, a report and the inputs of the script's flows. A line of the report that begins a flow has the input's other name."""
+    script, report = Script(words[form.script]), words[form.reads[0]]
+    names = script.lend_for_audit(folder, trial.lent)
+
+    def other_line(line):
+        number = int(line[1])
+        flow = script.flows[number - 1] if 0 < number <= len(script.flows) else None
+        return b"flow %s %s" % (line[1], names[flow.input]) if flow and flow.input == line[2] else line[0]
+
+    read = folder / "report"
+    if not why_unread(report):
+        with open(report, "rb") as file:
+            read.write_bytes(FLOW_BEGUN.sub(other_line, file.read(MOST_REPORT_OCTETS + 1)))
+    asked = trial.ask([names[script.name], os.fsencode(read), *words[2:]])
+
+    def finish():
+        answer = asked()
+        for name in [script.name, report, *(flow.input for flow in script.flows)] if answer.status == 3 else []:
+            say_unread(name)
+        return answer
+
+    return finish
+
+
+def asking_run(trial, folder, words, form):
+    script = Script(words[form.script])
     refusals = script.refusals()
-    asked = trial.ask([b"run", script.lend_with_other_names(folder, refusals), *behind])
+    asked = trial.ask([b"run", script.lend_with_other_names(folder, refusals), *words[2:]])
     checked = trial.ask([b"check", script.lend_as_it_is(folder, trial.lent)])
 
     def finish():
@@ -360,19 +419,42 @@ def asking_run(trial, folder, name, behind):
     return finish
 
 
+class Form(NamedTuple):
+    """The places of the words that name files: a script, others that are read, and one that is made; and how such words are asked for."""
+
+    script: Optional[int] = None
+    reads: Tuple[int, ...] = ()
+    makes: Optional[int] = None
+    ask: Callable = asking_files
+
+    def read_places(self):
+        return [*([] if self.script is None else [self.script]), *self.reads]
+
+    def places(self):
+        return [*self.read_places(), *([] if self.makes is None else [self.makes])]
+
+
+# Of each program, by the number of words: its forms, by the first word, or whatever that is.
+ANY = None
+FORMS = {
+    "netlabel": {
+        2: {b"show": Form(reads=(1,)), b"check": Form(script=1), b"run": Form(script=1, ask=asking_run)},
+        3: {b"agree": Form(script=1)},
+        4: {b"judge": Form(reads=(3,)), b"agree": Form(script=1), b"make": Form(makes=3), b"run": Form(script=1, ask=asking_run)},
+    },
+    "netlabel_cover": {2: {ANY: Form(script=0)}, 3: {ANY: Form(script=0)}},
+    "netlabel_audit": {3: {ANY: Form(script=0, reads=(1,), ask=asking_audit)}},
+    "ripso_border": {5: {b"in": Form(script=1, reads=(3,), makes=4), b"out": Form(script=1, reads=(3,), makes=4)}},
+}
+
+
 def asking(trial, folder, words):
     """What gives the answer to the words of a call, once the trial was run. `folder` is empty, and the call's own. Words that name no file are handed on
     as they are: the program says that they are in no form."""
-    command = words[0] if words else b""
-    if len(words) == READ_ONE.get(command) and FILE_NAME.fullmatch(words[-1]):
-        return asking_file(trial, folder, words)
-    if command == b"make" and len(words) == 4 and FILE_NAME.fullmatch(words[-1]):
-        return asking_make(trial, folder, words)
-    if len(words) > 1 and FILE_NAME.fullmatch(words[1]):
-        if (command == b"check" and len(words) == 2) or (command == b"agree" and len(words) in (3, 4)):
-            return asking_script(trial, folder, command, words[1], words[2:])
-        if command == b"run":
-            return asking_run(trial, folder, words[1], words[2:])
+    forms = FORMS[trial.program].get(len(words), {})
+    form = forms.get(words[0] if words else ANY, forms.get(ANY))
+    if form and all(FILE_NAME.fullmatch(words[place]) for place in form.places()):
+        return form.ask(trial, folder, words, form)
     return trial.ask(words)
 
 
@@ -397,14 +479,16 @@ def write(answer):
     return answer.status
 
 
-def main(words):
+def main(program, words):
+    global PROGRAM
+    PROGRAM = program
     say("this answer is unproved: the program is compiled with checks first, which takes about a minute")
     say(f"{TOP}/prove proves and builds it, once; from nothing that took 36 minutes on four processors")
     for number in (signal.SIGTERM, signal.SIGHUP):
         signal.signal(number, lambda number, _frame: sys.exit(128 + number))
     try:
         with private_folder() as made, private_folder() as cases:
-            trial = Trial(pathlib.Path(cases))
+            trial = Trial(program, pathlib.Path(cases))
             finish = asking(trial, pathlib.Path(made), words)
             trial.run()
             answer = finish()
@@ -417,4 +501,4 @@ def main(words):
 
 
 if __name__ == "__main__":
-    sys.exit(main([os.fsencode(word) for word in sys.argv[1:]]))
+    sys.exit(main(sys.argv[1], [os.fsencode(word) for word in sys.argv[2:]]))

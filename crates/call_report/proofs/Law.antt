@@ -15,30 +15,13 @@ use Rattle.call_report.specs.declared.status.Status.TheVariants.{OutOfMemory}
 use Rattle.call_report.specs.Status.{write_status}
 use Rattle.call_report.specs.Printing.{Goes, Breaks, HandsOn, IsUnderWay, Printed, EndsInLine}
 use Rattle.call_report.specs.Lines.Reply.{reply_text, reply_line_at, replies_text}
+pub use Rattle.call_report.proofs.Beginnings.{a_whole_text_is_a_front, a_part_of_a_text_is_a_front, less_of_a_text_is_less_of_more}
+-- how a call ends, over all that any program says, which is of `Type 1`, so that no clause can state it
+pub use Rattle.call_report.proofs.Endings.{HasLeft, HasMade, Keeps, Knows, Begins, HasParts, IsDue, IsOfForm, asks, never_8, none_when_done, IsNumberOf, own_number, HasCause, IsPart, PrintsSome}
+pub use Rattle.call_report.proofs.Endings.{front_behind, part_of_line, printed_body, begun_part, ends_refused, ends_unprinted, ends_with_nothing, ends_short, ends_unwritten, ends_unread, ends_stopped_short, ends_stopped_unread, ends_printed_as, ends_printed}
+pub use Rattle.call_report.proofs.Endings.{only_read, makes_nothing, knows_reading, knows_file, ends_with_usage}
 
 -- ---- beginnings
-
-pub a_whole_text_is_a_front : (text rest old new : List ℕ) → new ≡ old ++ text → WritesPrefix (text ++ rest) old new
-a_whole_text_is_a_front text rest old new all = record {
-  count = length text;
-  within = omega (arith, length-append text rest);
-  written = all ∙ ap (λ t. old ++ t) (sym (take-append-le (length text) text rest (omega arith) ∙ take_all (length text) text (omega arith)));
-}
-
-pub a_part_of_a_text_is_a_front : (text rest old new : List ℕ) → WritesLess text old new → WritesPrefix (text ++ rest) old new
-a_part_of_a_text_is_a_front text rest old new less = record {
-  count = less.count;
-  within = omega (arith, less.within, length-append text rest);
-  written = less.written ∙ ap (λ t. old ++ t) (sym (take-append-le less.count text rest (omega (arith, less.within))));
-}
-
--- less of a part is less of all
-pub less_of_a_text_is_less_of_more : (text rest old new : List ℕ) → WritesLess text old new → WritesLess (text ++ rest) old new
-less_of_a_text_is_less_of_more text rest old new less = record {
-  count = less.count;
-  within = omega (arith, less.within, length-append text rest);
-  written = less.written ∙ ap (λ t. old ++ t) (sym (take-append-le less.count text rest (omega (arith, less.within))));
-}
 
 module _ (sent rest old mid new : List ℕ) (was : mid ≡ old ++ sent) where
   then_first : (n : ℕ) → new ≡ mid ++ take n rest → new ≡ old ++ take (length sent + n) (sent ++ rest)

@@ -1,4 +1,6 @@
 mod Flushed
+pub mod Beginnings
+pub mod Endings
 pub mod Law
 pub mod Listing
 pub mod Flows

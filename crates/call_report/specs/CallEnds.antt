@@ -1,5 +1,5 @@
 -- How a call ends: what was asked for, what it finds outside and leaves there, its status, and the versions that it printed.
-use Rattle.std.specs.Prelude.{ℕ, ◌≡◌, ◌≢◌, ◌⊎◌, ◌-◌, ◌<◌, ◌++◌, IsTrue, List, [], length, take, drop, Contains, Option, None}
+use Rattle.std.specs.Prelude.{ℕ, ◌≡◌, ◌≢◌, ◌⊎◌, ◌-◌, ◌<◌, ◌++◌, IsTrue, List, [], length, take, Contains, Option, None}
 use Rattle.std.specs.List.{All}
 use Rattle.net_io.specs.Depot.{DepotState, SameHeld}
 use Rattle.net_io.specs.Faults.{SameCounts}
@@ -33,15 +33,14 @@ pub record EndsWith {C : Type 0} (says : Says) (request : Option C) (before afte
   pub memory : status ≡ 6 → NoWriteFailed before after × (NoneFailed before after ⊎ ReadRose stages before after ⊎ CreateRose stages before after)
   -- and nothing at all where nothing is printed in front of a read
   pub memory_alone : status ≡ 6 → says.late seen → NoneFailed before after
-  -- 0: only where nothing has failed
-  pub unmoved : status ≡ 0 → NoneFailed before after
+  -- 0, and 8: only where nothing has failed
+  pub unmoved : (status ≡ 0) ⊎ (status ≡ 8) → NoneFailed before after
 
--- The stages that a call has begun which printed these versions, by what the folder tells, or by what it may hold where it tells nothing; behind the first there is one for each flow.
+-- The stages that a call has begun which printed these versions, by what the folder tells, or by what it may hold where it tells nothing.
 pub record HasBegun (says : Says) (folder : DepotState) (seen : Versions) (stages : List Stage) : Type 0 where
   pub content : Folder
   pub told : IsTrue folder.tells → SameHeld folder.held content
   pub are : says.stages content seen stages
-  pub flows : length (drop 1 stages) ≡ length seen
 
 -- a write has failed in the body of a report, before the event that decides
 pub record StopsInBody (says : Says) (before after : Outside) (seen : Versions) : Type 0 where
@@ -101,3 +100,7 @@ pub record CallEnds {C : Type 0} (says : Option C → Says) (request : Option C)
   pub still : All (λ stage. stage.output ≡ None) stages → SameCounts before.folder.creates after.folder.creates × SameCounts before.folder.appends after.folder.appends
   pub folder_told : after.folder.tells ≡ before.folder.tells
   pub stream_told : after.stream.tells ≡ before.stream.tells
+
+-- some call ends with this status
+abbrev pub MayEnd : {C : Type 0} → (Option C → Says) → ℕ → Type 0
+MayEnd {C} says status = (request : Option C) × (before : Outside) × (after : Outside) × (seen : Versions) × CallEnds says request before after status seen

@@ -1,6 +1,6 @@
 -- The outside at a moment, and what has failed there between two.
-use Rattle.std.specs.Prelude.{ℕ, ◌≡◌, ◌⊎◌, List, Some}
-use Rattle.net_io.specs.Depot.{DepotState}
+use Rattle.std.specs.Prelude.{ℕ, ◌≡◌, ◌⊎◌, IsTrue, List, Some}
+use Rattle.net_io.specs.Depot.{DepotState, SameHeld}
 use Rattle.net_io.specs.Sink.{SinkState}
 use Rattle.net_io.specs.Faults.{Rose, SameCounts}
 use Rattle.call_report.specs.Stages.{Stage, named_input, input_in_hand, output_in_hand}
@@ -47,3 +47,10 @@ pub record NoneFailed (before after : Outside) : Type 0 where
 pub record NoWriteFailed (before after : Outside) : Type 0 where
   pub writes : after.stream.faults ≡ before.stream.faults
   pub appends : SameCounts before.folder.appends after.folder.appends
+
+-- Of a folder nothing but numbers of failed reads has moved.
+pub record IsOnlyRead (old new : DepotState) : Type 0 where
+  pub told : new.tells ≡ old.tells
+  pub kept : IsTrue old.tells → SameHeld old.held new.held
+  pub creates : SameCounts old.creates new.creates
+  pub appends : SameCounts old.appends new.appends

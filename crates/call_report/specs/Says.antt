@@ -1,6 +1,6 @@
 -- All that a program says of one thing that was asked for.
 use Rattle.std.specs.Prelude.{ℕ, ◌≡◌, List, [], ◌∷◌, Option}
-use Rattle.call_report.specs.Report.{Folder, Versions, Report}
+use Rattle.call_report.specs.Report.{Folder, Versions, Report, late_report}
 use Rattle.call_report.specs.Stages.{Stage, reading_stage}
 use Rattle.call_report.specs.Output.{Output}
 
@@ -33,11 +33,26 @@ reading_says file prints ends quiet = record {
   report = λ held seen report. prints (held file) report;
   status = λ held status. ends (held file) status;
   possible = λ status. (held : Folder) × ends (held file) status;
-  stages = λ held seen stages. stages ≡ reading_stage file ∷ [];
+  stages = λ held seen stages. (seen ≡ []) × (stages ≡ reading_stage file ∷ []);
   outputs = λ held seen outputs. outputs ≡ [];
   lawful = λ held seen. seen ≡ [];
   whole = λ held seen. seen ≡ [];
   access = λ held seen. Unit {0};
   withheld = λ held seen. Unit {0};
   late = λ seen. quiet;
+}
+
+-- Words that are no form: the usage line, no file, status 1.
+abbrev pub usage_says : List ℕ → Says
+usage_says line = record {
+  report = λ held seen report. report ≡ late_report [] line;
+  status = λ held status. status ≡ 1;
+  possible = λ status. status ≡ 1;
+  stages = λ held seen stages. (seen ≡ []) × (stages ≡ []);
+  outputs = λ held seen outputs. outputs ≡ [];
+  lawful = λ held seen. seen ≡ [];
+  whole = λ held seen. seen ≡ [];
+  access = λ held seen. Unit {0};
+  withheld = λ held seen. Unit {0};
+  late = λ seen. Unit {0};
 }

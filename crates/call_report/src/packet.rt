@@ -1,6 +1,6 @@
 //! Lines of the packets of a capture that is shown.
 
-ghost use Rattle.std.specs.Prelude.{◌≡◌, ◌++◌, List, ℕ, Some, codes, OnOk, OnErr};
+ghost use Rattle.std.specs.Prelude.{◌≡◌, [], ◌∷◌, ◌++◌, List, ℕ, Some, OnOk, OnErr};
 ghost use Rattle.std.specs.Fmt.{decimal};
 ghost use Rattle.mls_range.specs.LabelText.{label_text};
 ghost use Rattle.cipso_tags.specs.Tag.{tag_type};
@@ -12,13 +12,11 @@ ghost use Rattle.call_report.specs.inside.Extends.{Extends};
 
 use crate::parts::append_octet;
 use crate::whole::all_or_nothing;
-use cipso_tags::type_octet;
 use mls_label::{Label, OutOfMemory, Tag};
 use mls_range::write_label;
 use octet_grammar::write_decimal;
 use packet_label::{CarryFault, Mark, carried_into};
 use packet_walk::PacketIn;
-use std::alloc::AllocError;
 
 /// Appends the line of a packet by its number: what it carries, or that it is a frame without a packet of IP. The label is lent.
 /// After an error `line` is as it was.
@@ -115,8 +113,9 @@ fn append_cipso(
         (line.new.items ≡ line.old.items ++ option_text (Some (wire.Cipso at doi tag label.now))) }
     ensures err { OnErr result (Extends line.old.items line.new.items) }
 {
-    append_doi(b"cipsov4", doi, line)?;
-    append_tag(tag, line)?;
+    line.extend_from_slice(b"cipsov4 doi ")?;
+    write_decimal(u64::from(doi), line)?;
+    line.extend_from_slice(&[b' ', b't', b'a', b'g', b' ', type_digit(tag), b' '])?;
     append_said(label, at, line)
 }
 
@@ -126,39 +125,30 @@ fn append_calipso(at: usize, doi: u32, label: &Label, line: &mut Vec<u8>) -> Res
         (line.new.items ≡ line.old.items ++ option_text (Some (wire.Calipso at doi label.now))) }
     ensures err { OnErr result (Extends line.old.items line.new.items) }
 {
-    append_doi(b"calipso", doi, line)?;
+    line.extend_from_slice(b"calipso doi ")?;
+    write_decimal(u64::from(doi), line)?;
+    line.extend_from_slice(b" ")?;
     append_said(label, at, line)
 }
 
-/// Appends a protocol by its name, and its DOI.
-fn append_doi(name: &[u8], doi: u32, line: &mut Vec<u8>) -> Result<(), AllocError>
-    ensures ok { OnOk result
-        (line.new.items ≡ line.old.items ++ (name.now ++ codes " doi " ++ decimal doi)) }
-    ensures err { OnErr result (Extends line.old.items line.new.items) }
+/// The type of a tag, which has one digit.
+#[tactic(auto, using(std::proofs::lemmas::Fmt::decimal_digit))]
+fn type_digit(tag: Tag) -> u8
+    ensures { decimal (tag_type tag) ≡ result ∷ [] }
 {
-    line.extend_from_slice(name)?;
-    line.extend_from_slice(b" doi ")?;
-    write_decimal(u64::from(doi), line)
-}
-
-/// Appends the type of a tag.
-fn append_tag(tag: Tag, line: &mut Vec<u8>) -> Result<(), AllocError>
-    ensures ok { OnOk result
-        (line.new.items ≡ line.old.items ++ (codes " tag " ++ decimal (tag_type tag))) }
-    ensures err { OnErr result (Extends line.old.items line.new.items) }
-{
-    line.extend_from_slice(b" tag ")?;
-    write_decimal(u64::from(type_octet(tag)), line)
+    match tag {
+        Tag::One => b'1',
+        Tag::Two => b'2',
+        Tag::Five => b'5',
+    }
 }
 
 /// Appends a label, and the octet of its option.
 fn append_said(label: &Label, at: usize, line: &mut Vec<u8>) -> Result<(), OutOfMemory>
     ensures ok { OnOk result
-        (line.new.items ≡ line.old.items
-        ++ (codes " " ++ label_text label.now ++ octet_detail at)) }
+        (line.new.items ≡ line.old.items ++ (label_text label.now ++ octet_detail at)) }
     ensures err { OnErr result (Extends line.old.items line.new.items) }
 {
-    line.extend_from_slice(b" ")?;
     write_label(label, line)?;
     append_octet(at as u64, line)?;
     Ok(())

@@ -4,12 +4,12 @@ use Rattle.net_io.specs.Depot.{octets_of}
 use Rattle.pcapng_frames.specs.declared.fault.NgFault.{NgFault}
 use Rattle.pcapng_frames.specs.Section.{no_section}
 use Rattle.pcapng_frames.specs.Block.{NgBlock, block_at}
-use Rattle.pcapng_frames.specs.Capture.{NgCapture, ng_of}
+use Rattle.pcapng_frames.specs.Capture.{NgCapture, is_pcapng, ng_of}
 use Rattle.pcapng_frames.specs.Reader.{NgReader, begun_block}
 use Rattle.pcapng_frames.proofs.Law.{the_first_block_gives_no_frame}
 use Rattle.pcap_frames.specs.Capture.{capture_of}
 use Rattle.capture_reader.specs.declared.reader.AnyFrames.TheVariants.{Pcapng}
-use Rattle.capture_reader.specs.CaptureFile.{by_pcapng, by_pcap, is_pcapng, capture_file}
+use Rattle.capture_reader.specs.CaptureFile.{by_pcapng, by_pcap, capture_file}
 use Rattle.capture_reader.specs.Reader.{IsFileBegun}
 
 pub file_of_pcapng : (file : List ℕ) → is_pcapng file ≡ true → capture_file file ≡ by_pcapng (block_at no_section 0 file) (ng_of file)

@@ -1,10 +1,14 @@
 -- The laws, each under the name of its function.
-use Rattle.std.proofs.Common.{◌≡◌, ◌≤◌, ◌^◌, List, [], ◌∷◌, ◌++◌, length, map, None, refl, sym, ap, ◌∙◌, append_assoc}
-use Rattle.std.specs.Prelude.{All}
+use Rattle.std.proofs.Common.{◌≡◌, ◌≤◌, ◌^◌, List, [], ◌∷◌, ◌++◌, length, map, None, refl, sym, ap, subst, ◌∙◌, append_assoc}
+use Rattle.std.specs.Prelude.{IsTrue, All}
+use Rattle.net_io.specs.Depot.{DepotState}
 use Rattle.pcap_frames.specs.Record.{Frame}
 use Rattle.pcap_frames.specs.Written.{IsWritableFrame}
 use Rattle.capture_reader.specs.declared.format.CaptureFormat.{CaptureFormat}
 use Rattle.capture_reader.specs.declared.format.CaptureFormat.TheVariants.{Pcap, Pcapng}
+use Rattle.capture_reader.specs.declared.reader.AnyFrames.{AnyFrames}
+use Rattle.capture_reader.specs.declared.reader.AnyFrames.TheVariants as Source
+use Rattle.capture_reader.specs.Reader.{file_name_of, IsReadable}
 use Rattle.capture_reader.specs.CaptureFile.{IsCaptureFile, frame_of_record}
 use Rattle.capture_reader.specs.Written.{IsTime, file_frame, file_frames, file_octets}
 use Rattle.capture_reader.proofs.Written.{pcap_back, pcapng_back}
@@ -20,3 +24,14 @@ frames_of_a_file_are_written_in_their_order format [] more = refl
 frames_of_a_file_are_written_in_their_order format (frame ∷ frames) more =
     let one = file_frame format frame.head frame.octets in
     ap (λ octets. one ++ octets) (frames_of_a_file_are_written_in_their_order format frames more) ∙ sym (append_assoc one (file_frames format frames) (file_frames format more))
+
+pub a_reader_goes_on_in_a_kept_file : (before after : DepotState) (reader : AnyFrames) → after.tells ≡ before.tells
+    → (IsTrue before.tells → after.held (file_name_of reader) ≡ before.held (file_name_of reader)) → IsReadable before reader → IsReadable after reader
+a_reader_goes_on_in_a_kept_file before after (Source.Pcap records) told held ready =
+    λ tells.
+    let first = subst IsTrue told tells in
+    rw (held first) (ready first)
+a_reader_goes_on_in_a_kept_file before after (Source.Pcapng packets) told held ready =
+    λ tells.
+    let first = subst IsTrue told tells in
+    rw (held first) (ready first)

@@ -1,9 +1,8 @@
 -- What is written is read back.
-use Rattle.std.proofs.Common.{◌≡◌, ◌≤◌, ◌^◌, ℕ, Bool, true, false, List, [], ◌∷◌, ◌++◌, length, take, map, if◌then◌else◌, Option, None, Result, Ok, Err, refl, ap, sym, subst, ◌∙◌}
+use Rattle.std.proofs.Common.{◌≡◌, ◌≤◌, ◌^◌, ℕ, Bool, true, false, List, [], ◌∷◌, ◌++◌, length, map, if◌then◌else◌, Option, None, Result, Ok, Err, refl, ap, sym, subst, ◌∙◌}
 use Rattle.std.specs.Prelude.{All}
 use Rattle.std.specs.Option.{option_map}
 use Rattle.std.proofs.lemmas.List.Elements.{All-map}
-use Rattle.std.proofs.lemmas.Slice.Eq.{bytes_eq-Decides}
 use Rattle.pcap_frames.specs.Record.{Frame}
 use Rattle.pcap_frames.specs.Capture.{capture_of}
 use Rattle.pcap_frames.specs.Written.{IsWritableFrame, capture_head_octets, frame_octets, frames_octets}
@@ -11,13 +10,13 @@ use Rattle.pcap_frames.proofs.Law.{a_written_capture_reads_back}
 use Rattle.pcapng_frames.specs.declared.fault.NgFault.{NgFault}
 use Rattle.pcapng_frames.specs.Section.{no_section}
 use Rattle.pcapng_frames.specs.Block.{NgFrame, NgBlock, block_at}
-use Rattle.pcapng_frames.specs.Capture.{NgCapture, with_block, frames_at, ng_of}
+use Rattle.pcapng_frames.specs.Capture.{NgCapture, with_block, frames_at, is_pcapng, ng_of}
 use Rattle.pcapng_frames.specs.Written.{IsWritableNg, ng_head_octets, ng_frame_octets, ng_frames_octets, ng_octets}
 use Rattle.pcapng_frames.proofs.Law.{blocks_come_one_behind_another, a_written_pcapng_file_reads_back}
 use Rattle.capture_reader.specs.declared.format.CaptureFormat.TheVariants.{Pcap, Pcapng}
 use Rattle.capture_reader.specs.declared.fault.FileFault.TheVariants as the_fault
 use Rattle.capture_reader.specs.Frame.{CapturedFrame}
-use Rattle.capture_reader.specs.CaptureFile.{CaptureFile, frame_of_record, frame_of_packet, by_pcap, by_pcapng, is_pcapng, capture_file, IsCaptureFile}
+use Rattle.capture_reader.specs.CaptureFile.{CaptureFile, frame_of_record, frame_of_packet, by_pcap, by_pcapng, capture_file, IsCaptureFile}
 use Rattle.capture_reader.specs.Written.{file_frames, file_octets, IsTime}
 use Rattle.capture_reader.proofs.Beginning.{file_of_pcapng}
 
@@ -75,7 +74,7 @@ pcapng_back frames writable times few =
     let octets = file_octets Pcapng frames in
     let same : octets ≡ ng_octets packets = ap (λ (more : List ℕ). ng_head_octets ++ more) (packets_same frames) in
     let back = a_written_pcapng_file_reads_back packets (writable_packets frames writable times) (subst (λ (o : List ℕ). length o ≤ 2 ^ 40) same few) in
-    let is : is_pcapng (ng_octets packets) ≡ true = (bytes_eq-Decides (take 4 (ng_octets packets)) (0x0a ∷ 0x0d ∷ 0x0d ∷ 0x0a ∷ [])).1 back.0 in
+    let is : is_pcapng (ng_octets packets) ≡ true = back.0 in
     let capture : NgCapture = record { frames = packets; fault = None } in (
       ap capture_file same ∙ file_of_pcapng (ng_octets packets) is
           ∙ ap (by_pcapng (block_at no_section 0 (ng_octets packets))) back.1.0

@@ -1,5 +1,5 @@
 -- What a capture file holds, in either format.
-use Rattle.std.specs.Prelude.{ℕ, ◌≡◌, Bool, if◌then◌else◌, List, [], ◌∷◌, take, map, bytes_eq, Option, None, Result, Ok, Err}
+use Rattle.std.specs.Prelude.{ℕ, ◌≡◌, if◌then◌else◌, List, map, Option, None, Result, Ok, Err}
 use Rattle.std.specs.Option.{option_map}
 use Rattle.pcap_frames.specs.declared.fault.CaptureFault.{CaptureFault}
 use Rattle.pcap_frames.specs.Record.{Frame}
@@ -7,7 +7,7 @@ use Rattle.pcap_frames.specs.Capture.{Capture, capture_of}
 use Rattle.pcapng_frames.specs.declared.fault.NgFault.{NgFault}
 use Rattle.pcapng_frames.specs.Section.{no_section}
 use Rattle.pcapng_frames.specs.Block.{NgFrame, NgBlock, block_at}
-use Rattle.pcapng_frames.specs.Capture.{NgCapture, ng_of}
+use Rattle.pcapng_frames.specs.Capture.{NgCapture, is_pcapng, ng_of}
 use Rattle.capture_reader.specs.declared.format.CaptureFormat.{CaptureFormat}
 use Rattle.capture_reader.specs.declared.format.CaptureFormat.TheVariants as format
 use Rattle.capture_reader.specs.declared.fault.FileFault.{FileFault}
@@ -44,10 +44,6 @@ abbrev pub by_pcapng : Result (Option NgBlock) NgFault → NgCapture → Result 
 by_pcapng (Err broken) capture = Err (fault.Pcapng broken)
 by_pcapng (Ok block) capture =
     Ok (record { format = format.Pcapng; frames = map frame_of_packet capture.frames; fault = option_map fault.Pcapng capture.fault })
-
--- a file is pcapng where its first four octets are 0a 0d 0d 0a
-abbrev pub is_pcapng : List ℕ → Bool
-is_pcapng file = bytes_eq (take 4 file) (0x0a ∷ 0x0d ∷ 0x0d ∷ 0x0a ∷ [])
 
 -- What a file holds: by its first four octets the one or the other format; or the fault of its beginning, which is a libpcap file's header or a
 -- pcapng file's first section header.

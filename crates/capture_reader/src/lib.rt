@@ -1,5 +1,8 @@
-//! Captures in the libpcap format and in pcapng, by one reader: the first four octets of a file tell its format. A reader gives
-//! the packet of IP in each frame, and the format in which an output of the same packets is written.
+//! Captures in the libpcap file format (version 2.4) and in pcapng (draft-ietf-opsawg-pcapng), by one reader: the first four
+//! octets of a file tell its format. A reader gives the packet of IP in each frame, and the format in which an output of the
+//! same packets is written.
+//! One more format is a crate of its own, which reads and writes it, and a variant here of `AnyFrames`, `FileFault` and
+//! `CaptureFormat`, with their cases in `specs/` and the test of its first octets in `begin.rt`.
 #![tactic(auto)]
 
 mod begin;

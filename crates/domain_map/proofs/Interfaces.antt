@@ -17,7 +17,7 @@ use Rattle.domain_map.specs.declared.fault.StaticFault.{StaticFault}
 use Rattle.domain_map.specs.declared.fault.StaticFault.TheVariants as Fault
 use Rattle.domain_map.specs.Domains.{Domain, same_domain}
 use Rattle.domain_map.specs.Longest.{longest}
-use Rattle.domain_map.specs.Statics.{Statics, static_place, static_added, static_deleted, entries_of, candidates}
+use Rattle.domain_map.specs.Statics.{Statics, static_place, static_added, static_deleted}
 use Rattle.domain_map.specs.inside.Order.{ranked_in, without}
 use Rattle.domain_map.specs.inside.Ranking.{Has, IsRanked, passes_at}
 use Rattle.domain_map.specs.inside.Ordered.{static_key, static_bits, AreOrdered, AreStatics}
@@ -34,7 +34,7 @@ same_domain_is (Some a) (Some b) e = ap Some ((bytes_eq-Decides a b).0 e)
 same_domain_is None (Some b) e = cc
 same_domain_is (Some a) None e = cc
 
-has_filtered : {X : Type 0} (p : X → Bool) (xs : List X) (x : X) → Has xs x → p x ≡ true → Has (filter p xs) x
+pub has_filtered : {X : Type 0} (p : X → Bool) (xs : List X) (x : X) → Has xs x → p x ≡ true → Has (filter p xs) x
 has_filtered p [] x h e = absurd h
 has_filtered p (y ∷ ys) x h e =
     elim (p y) as (λ b. p y ≡ b → Has (cond b (y ∷ filter p ys) (filter p ys)) x) [
@@ -42,7 +42,7 @@ has_filtered p (y ∷ ys) x h e =
       | false ↦ λ is. elim h [ inl same ↦ absurd (both_ways (p y) is (subst (λ z. p z ≡ true) (sym same) e)) | inr k ↦ has_filtered p ys x k e ]
     ] refl
 
-filtered_has : {X : Type 0} (p : X → Bool) (xs : List X) (x : X) → Has (filter p xs) x → Has xs x × (p x ≡ true)
+pub filtered_has : {X : Type 0} (p : X → Bool) (xs : List X) (x : X) → Has (filter p xs) x → Has xs x × (p x ≡ true)
 filtered_has p [] x h = absurd h
 filtered_has p (y ∷ ys) x h =
     elim (p y) as (λ b. p y ≡ b → Has (cond b (y ∷ filter p ys) (filter p ys)) x → Has (y ∷ ys) x × (p x ≡ true)) [
@@ -53,50 +53,36 @@ filtered_has p (y ∷ ys) x h =
       | false ↦ λ is k. let rest = filtered_has p ys x k in (inr rest.0, rest.1)
     ] refl h
 
+-- the entries of an interface, without their places
+abbrev pub of_interface : Statics → Domain → Statics
+of_interface statics interface = filter (λ (e : StaticEntry). same_domain interface e.interface) statics
+
 -- the first of an interface's entries in the order that holds the address is the longest of them
 module _ (i : Domain) (a : Address) (xs : Statics) (order : List Ranked) (is : IsRanked static_key static_bits xs order) where
   abbrev fits : StaticEntry → Bool
   fits e = same_domain i e.interface && holds e.prefix a
 
   pub interface_none : None ≡ option_map (λ (r : Ranked). r.place) (find (λ (s : Ranked). passes_at (λ e. same_domain i e.interface && holds e.prefix a) xs s.place) order)
-      → longest (λ e. e.prefix) a (entries_of xs i) ≡ None
-  interface_none e = no_longest (λ e. e.prefix) a (entries_of xs i) λ y h.
+      → longest (λ e. e.prefix) a (of_interface xs i) ≡ None
+  interface_none e = no_longest (λ e. e.prefix) a (of_interface xs i) λ y h.
       let member = filtered_has (λ e. same_domain i e.interface) xs y h in
       false_from_ne_true (holds y.prefix a) λ holding. both_ways (fits y) (none_best static_bits fits xs order is.order (none_back _ _ (sym e)) y member.0) (and_from _ _ member.1 holding)
 
   pub interface_some : (at : ℕ) → Some at ≡ option_map (λ (r : Ranked). r.place) (find (λ (s : Ranked). passes_at (λ e. same_domain i e.interface && holds e.prefix a) xs s.place) order)
-      → (longest (λ e. e.prefix) a (entries_of xs i) ≡ slice_get xs at) × (at < length xs)
+      → (longest (λ e. e.prefix) a (of_interface xs i) ≡ slice_get xs at) × (at < length xs)
   interface_some at e =
       let (r, found, place) = mapped_back (λ (r : Ranked). r.place) _ at (sym e) in
       let b = best static_bits fits xs order is.order r found in
       let there : slice_get xs at ≡ Some b.entry = ap (slice_get xs) (sym place) ∙ b.is in
       let parts = and_parts (same_domain i b.entry.interface) (holds b.entry.prefix a) b.passes in
       let member = has_at xs at b.entry there in (
-        longest_is (λ e. e.prefix) a (entries_of xs i) b.entry (has_filtered (λ e. same_domain i e.interface) xs b.entry member parts.0) parts.1
+        longest_is (λ e. e.prefix) a (of_interface xs i) b.entry (has_filtered (λ e. same_domain i e.interface) xs b.entry member parts.0) parts.1
             (λ y h holding. let m = filtered_has (λ e. same_domain i e.interface) xs y h in b.most y m.0 (and_from _ _ m.1 holding))
             (λ y h same. let m = filtered_has (λ e. same_domain i e.interface) xs y h in
             let one : y.interface ≡ b.entry.interface = sym (same_domain_is i y.interface m.1) ∙ same_domain_is i b.entry.interface parts.0 in
             is.apart y b.entry m.0 member (λ j. (one j, same j))) ∙ sym there,
         slice_get_within xs at b.entry there,
       )
-
--- which interface decides
-
-any_counted : {X : Type 0} (p : X → Bool) (xs : List X) → nat_eq (length (filter p xs)) 0 ≡ cond (list_any p xs) false true
-any_counted p [] = refl
-any_counted p (x ∷ xs) =
-    elim (p x) as (λ b. nat_eq (length (cond b (x ∷ filter p xs) (filter p xs))) 0 ≡ cond (b || list_any p xs) false true) [
-      | true ↦ ne_eqb (suc (length (filter p xs))) 0 (λ e. omega (arith, e))
-      | false ↦ any_counted p xs
-    ]
-
-pub own_decides : (xs : Statics) (interface : List ℕ) → list_any (λ e. same_domain (Some interface) e.interface) xs ≡ true → candidates xs interface ≡ entries_of xs (Some interface)
-own_decides xs interface e =
-    cond-false (nat_eq (length (entries_of xs (Some interface))) 0) _ _ (any_counted (λ e. same_domain (Some interface) e.interface) xs ∙ ap (λ b. cond b false true) e)
-
-pub default_decides : (xs : Statics) (interface : List ℕ) → list_any (λ e. same_domain (Some interface) e.interface) xs ≡ false → candidates xs interface ≡ entries_of xs None
-default_decides xs interface e =
-    cond-true (nat_eq (length (entries_of xs (Some interface))) 0) _ _ (any_counted (λ e. same_domain (Some interface) e.interface) xs ∙ ap (λ b. cond b false true) e)
 
 -- adding and deleting
 
@@ -148,7 +134,7 @@ static_is_added xs i n low high e few =
     cond-false (is_some (static_place xs i n)) _ _ (ap is_some e) ∙ cond-true (nat_lt (length xs) 256) _ _ (lt-ltb (length xs) 256 few)
 
 -- the place that was found, for those that count
-pub decided : (i : Domain) (a : Address) (xs chosen : Statics) (order : List Ranked) → IsRanked static_key static_bits xs order → chosen ≡ entries_of xs i
+pub decided : (i : Domain) (a : Address) (xs chosen : Statics) (order : List Ranked) → IsRanked static_key static_bits xs order → chosen ≡ of_interface xs i
     → (r : Option ℕ) → r ≡ option_map (λ (s : Ranked). s.place) (find (λ (s : Ranked). passes_at (λ e. same_domain i e.interface && holds e.prefix a) xs s.place) order)
     → MatchOption r (longest (λ e. e.prefix) a chosen ≡ None) (λ place. (longest (λ e. e.prefix) a chosen ≡ slice_get xs place) × (place < length xs))
 decided i a xs chosen order is e None found = ap (longest (λ z. z.prefix) a) e ∙ interface_none i a xs order is found

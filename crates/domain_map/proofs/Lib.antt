@@ -3,3 +3,5 @@ pub mod Longests
 pub mod Lookups
 pub mod Rules
 pub mod Interfaces
+pub mod Counted
+pub mod Law

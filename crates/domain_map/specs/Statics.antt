@@ -1,7 +1,7 @@
 -- Labels of unlabelled traffic (netlabelctl(8), `unlbl add`): entries in order of insertion, each an interface, or the default
 -- one, and a prefix, with a low and a high label.
-use Rattle.std.specs.Prelude.{◌≡◌, ℕ, Bool, ◌&&◌, List, [], ◌∷◌, ◌++◌, length, Option, Some, None, Result, Ok, Err, option_map, is_some, nat_lt, nat_eq, filter, remove, if◌then◌else◌}
-use Rattle.std.specs.List.{position}
+use Rattle.std.specs.Prelude.{◌≡◌, ℕ, Bool, ◌&&◌, List, [], ◌∷◌, ◌++◌, length, Option, Some, None, Result, Ok, Err, option_map, is_some, nat_lt, filter, map, zip, remove, if◌then◌else◌}
+use Rattle.std.specs.List.{list_any, position, range_with_len}
 use Rattle.mls_label.specs.declared.label.Label.{Label}
 use Rattle.address_text.specs.declared.address.Address.{Address}
 use Rattle.address_text.specs.Prefix.{AddressBlock, same_block}
@@ -29,14 +29,21 @@ static_added statics interface block low high =
 unfoldable pub static_deleted : Statics → Domain → AddressBlock → Option Statics
 static_deleted statics interface block = option_map (remove statics) (static_place statics interface block)
 
--- the entries of an interface
-abbrev pub entries_of : Statics → Domain → Statics
-entries_of statics interface = filter (λ entry. same_domain interface entry.interface) statics
+-- the entries of an interface, each with its place among all, counted from 0
+abbrev pub entries_of : Statics → Domain → List (ℕ × StaticEntry)
+entries_of statics interface = filter (λ e. same_domain interface e.1.interface) (zip (range_with_len 0 (length statics)) statics)
 
--- those that count for an interface: its own if it has any, else the default ones
+-- the interface whose entries count for one: its own if it has any, else the default one
+abbrev pub counting : Statics → List ℕ → Domain
+counting statics interface = if list_any (λ entry. same_domain (Some interface) entry.interface) statics then Some interface else None
+
+-- the entries that count for an interface
+abbrev pub entries_for : Statics → List ℕ → List (ℕ × StaticEntry)
+entries_for statics interface = entries_of statics (counting statics interface)
+
+-- the same without their places
 abbrev pub candidates : Statics → List ℕ → Statics
-candidates statics interface =
-    let own = entries_of statics (Some interface) in if nat_eq (length own) 0 then entries_of statics None else own
+candidates statics interface = map (λ e. e.1) (entries_for statics interface)
 
 -- the low and the high label of the longest prefix among them that holds the address
 unfoldable pub find_static_of : Statics → List ℕ → Address → Option (Label × Label)

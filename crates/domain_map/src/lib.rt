@@ -5,6 +5,7 @@
 
 mod address_list;
 mod fault;
+pub mod laws;
 mod map;
 mod named;
 mod order;

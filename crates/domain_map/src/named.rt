@@ -37,7 +37,8 @@ fn first_named<'a, V>(entries: &'a IndexMap<Option<Name>, V>, name: Option<&Name
     None
 }
 
-fn is_named(key: &Option<Name>, name: Option<&Name>) -> bool
+// Whether a key is this name.
+pub(crate) fn is_named(key: &Option<Name>, name: Option<&Name>) -> bool
     ensures { result ≡ same_domain (option_copied name.entry) key.now }
 {
     match (name, key) {

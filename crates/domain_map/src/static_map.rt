@@ -6,7 +6,7 @@ ghost use Rattle.mls_label.specs.Label.{Dominates};
 ghost use Rattle.address_text.specs.Prefix.{holds, same_block};
 ghost use Rattle.domain_map.specs.declared.order.Ranked.{Ranked};
 ghost use Rattle.domain_map.specs.Domains.{same_domain};
-ghost use Rattle.domain_map.specs.Statics.{Statics, IsStaticRefusal, static_place, static_added, static_deleted, find_static_of, entries_of, candidates};
+ghost use Rattle.domain_map.specs.Statics.{Statics, IsStaticRefusal, static_place, static_added, static_deleted, find_static_of, counting, candidates};
 ghost use Rattle.domain_map.specs.Longest.{longest};
 ghost use Rattle.domain_map.specs.inside.Order.{Tells};
 ghost use Rattle.domain_map.specs.inside.Ranking.{IsRanked, passes_at};
@@ -14,6 +14,7 @@ ghost use Rattle.domain_map.specs.inside.Ordered.{static_key, static_bits};
 
 use crate::fault::{StaticFault, Unknown};
 use crate::map::key_of;
+use crate::named::is_named;
 use crate::order::{Ranked, forget, rank_in};
 use address_text::{Address, Name, Prefix};
 use mls_label::{KeptLabel, Label, OutOfMemory};
@@ -150,6 +151,13 @@ impl StaticMap {
         Some((entry.low.label(), entry.high.label()))
     }
 
+    /// The interface whose entries count for one: its own where it has an entry, else `None`, the default one.
+    pub fn counting<'a>(&self, interface: &'a Name) -> Option<&'a Name>
+        ensures { option_copied result ≡ counting self.now interface.now }
+    {
+        counting(&self.entries, interface)
+    }
+
     /// How many entries there are.
     pub fn count(&self) -> usize
         ensures { result ≡ length self.now }
@@ -202,12 +210,23 @@ fn place_of(entries: &[StaticEntry], interface: &Option<Name>, prefix: &Prefix) 
         && prefix.same(&entry.prefix))
 }
 
-fn has_entries(entries: &[StaticEntry], interface: &Option<Name>) -> bool
-    ensures { result ≡ list_any (λ e. same_domain interface.now e.interface) entries.now }
+fn counting<'a>(entries: &[StaticEntry], interface: &'a Name) -> Option<&'a Name>
+    ensures { option_copied result ≡ counting entries.now interface.now }
+{
+    if has_entries(entries, interface) {
+        Some(interface)
+    } else {
+        None
+    }
+}
+
+fn has_entries(entries: &[StaticEntry], interface: &Name) -> bool
+    ensures { result ≡ list_any
+        (λ e. same_domain (Some interface.now) e.interface) entries.now }
 {
     entries
         .iter()
-        .any(|entry| same_interface(interface, &entry.interface))
+        .any(|entry| is_named(&entry.interface, Some(interface)))
 }
 
 /// The place of the entry that decides.
@@ -224,19 +243,14 @@ fn find_in(
         (candidates entries.now interface.now) ≡ slice_get entries.now place
         × (place < length entries.now)) }
 {
-    let own = Some(interface.copy());
-    if has_entries(entries, &own) {
-        first_holding(order, entries, &own, address)
-    } else {
-        first_holding(order, entries, &None, address)
-    }
+    first_holding(order, entries, counting(entries, interface), address)
 }
 
 /// The place of the first entry in the order that is of the interface and whose prefix holds the address.
 fn first_holding(
     order: &[Ranked],
     entries: &[StaticEntry],
-    interface: &Option<Name>,
+    interface: Option<&Name>,
     address: &Address,
 ) -> Option<usize>
     requires tells { Tells (map (λ e. e.prefix.bits) entries.now) order.now }
@@ -244,7 +258,7 @@ fn first_holding(
     ensures { result ≡ option_map (λ r. r.place)
         (find
         (λ (r : Ranked). passes_at
-        (λ e. same_domain interface.now e.interface
+        (λ e. same_domain (option_copied interface.entry) e.interface
         && holds e.prefix address.now) entries.now r.place) order.now) }
 {
     let mut rest = order;
@@ -257,11 +271,12 @@ fn first_holding(
     None
 }
 
-fn fits(entry: &StaticEntry, interface: &Option<Name>, address: &Address) -> bool
+fn fits(entry: &StaticEntry, interface: Option<&Name>, address: &Address) -> bool
     ensures { result ≡
-        (same_domain interface.now entry.now.interface && holds entry.now.prefix address.now) }
+        (same_domain (option_copied interface.entry) entry.now.interface
+        && holds entry.now.prefix address.now) }
 {
-    same_interface(interface, &entry.interface) && entry.prefix.holds(address)
+    is_named(&entry.interface, interface) && entry.prefix.holds(address)
 }
 
 fn copies_of(alloc: Global, entries: &[StaticEntry]) -> Result<Vec<StaticEntry>, OutOfMemory>

@@ -66,8 +66,12 @@ pub fn take_behind<D: Depot>(
         (D.state depot.new) }
 {
     let ahead = &window.ahead()[front..];
-    let have = ahead.len().min(count);
-    into.extend_from_slice(&ahead[..have])?;
+    if count <= ahead.len() {
+        into.extend_from_slice(&ahead[..count])?;
+        return Ok(count);
+    }
+    let have = ahead.len();
+    into.extend_from_slice(ahead)?;
     let from = place + (front + have) as u64;
     let n = read_behind(depot, name, from, count, into)?;
     Ok(have + n)

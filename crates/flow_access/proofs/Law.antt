@@ -37,8 +37,7 @@ use Rattle.flow_access.proofs.Hops.{says_label}
 use Rattle.flow_access.proofs.Links.{labelled}
 use Rattle.flow_access.proofs.Scripts.{script_flows_valid}
 use Rattle.flow_access.proofs.Walks.{sound}
--- terms over any relation between meanings, or any property of labels, which no clause can state
-pub use Rattle.flow_access.proofs.Origins.{high_found}
+-- terms over any relation between meanings, which no clause can state
 pub use Rattle.flow_access.proofs.Along.{GoesWell, DeliversWell, ArrivesWell, arrives_well}
 
 pub hops_say_their_label : (network : List TableState) (hop : Hop) (octets : List ℕ) (read : Result (ParsedPacket Wire) CarryFault) (carrier : Carrier) (packet : ParsedPacket Wire) (x : Label)

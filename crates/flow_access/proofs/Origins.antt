@@ -1,16 +1,14 @@
 -- The label under which a flow's first hop judges a packet is a label.
-use Rattle.std.proofs.Common.{◌≡◌, ℕ, Bool, true, false, List, [], ◌∷◌, length, cond, Option, Some, None, Result, Ok, Err, refl, subst}
-use Rattle.std.specs.Prelude.{All, not, nat_eq, find, option_map, if◌then◌else◌}
-use Rattle.std.proofs.lemmas.List.Elements.{All-head, All-tail, All-filter, All-weaker}
+use Rattle.std.proofs.Common.{◌≡◌, ℕ, Bool, true, false, List, Option, Some, None, Result, Ok, Err, refl, sym, subst}
+use Rattle.std.specs.Prelude.{All, not, if◌then◌else◌}
+use Rattle.std.proofs.lemmas.Option.{slice_get_within, get_or_from_slice_get}
 use Rattle.mls_label.specs.declared.label.Label.{Label}
 use Rattle.mls_label.specs.declared.label.Proto.TheVariants as Of
 use Rattle.mls_label.specs.Label.{IsLabel}
 use Rattle.doi_table.proofs.Law.{local_labels_are_labels}
 use Rattle.address_text.specs.declared.address.Address.{Address}
-use Rattle.domain_map.specs.declared.static_map.StaticEntry.{StaticEntry}
-use Rattle.domain_map.specs.Domains.{same_domain}
-use Rattle.domain_map.specs.Longest.{longest}
-use Rattle.domain_map.specs.Statics.{Statics, entries_of, candidates, find_static_of}
+use Rattle.domain_map.specs.Statics.{Statics, counting, find_static_of}
+use Rattle.domain_map.proofs.Law.{entries_stand_at_their_places, found_labels_are_those_of_an_entry}
 use Rattle.ip_headers.specs.Packet.{ParsedPacket}
 use Rattle.packet_label.specs.declared.denial.Carrier.TheVariants as carried
 use Rattle.packet_label.specs.declared.denial.Denial.{Denial}
@@ -34,37 +32,12 @@ use Rattle.flow_access.proofs.Crossing.{ReadsOf, reads_of, defined_in}
 
 -- ---- what a static entry sets is a label
 
-module _ {X : Type 0} (P : X → Type 0) (test : X → Bool) where
-  one_found : (b : Bool) (x y : X) (rest : Option X) → P x → (rest ≡ Some y → P y) → cond b (Some x) rest ≡ Some y → P y
-  one_found true x y rest here more e = let same : x ≡ y = cc in subst P same here
-  one_found false x y rest here more e = more e
-
-  found_holds : (xs : List X) (y : X) → All P xs → find test xs ≡ Some y → P y
-  found_holds [] y all e = absurd (cc)
-  found_holds (x ∷ xs) y all e = one_found (test x) x y (find test xs) (All-head P x xs all) (λ h. found_holds xs y (All-tail P x xs all) h) e
-
-entries_hold : (statics : Statics) (interface : List ℕ) → All IsBoundedStatic statics → All IsBoundedStatic (candidates statics interface)
-entries_hold statics interface all = by_test (nat_eq (length (entries_of statics (Some interface))) 0)
-  where
-    by_test : (b : Bool) → All IsBoundedStatic (if b then entries_of statics None else entries_of statics (Some interface))
-    by_test true = All-filter (λ (entry : StaticEntry). same_domain None entry.interface) IsBoundedStatic statics all
-    by_test false = All-filter (λ (entry : StaticEntry). same_domain (Some interface) entry.interface) IsBoundedStatic statics all
-
--- what is found is of one of the entries that count for the interface, so its high label keeps to what all of these keep to
-pub high_found : (P : Label → Type 0) (statics : Statics) (interface : List ℕ) (address : Address) (labels : Label × Label) → All (λ (entry : StaticEntry). P entry.high) (candidates statics interface)
-    → find_static_of statics interface address ≡ Some labels → P labels.1
-unfolding find_static_of
-high_found P statics interface address labels all e = by_entry (longest (λ (entry : StaticEntry). entry.prefix) address (candidates statics interface)) refl e
-  where
-    by_entry : (o : Option StaticEntry) → longest (λ (entry : StaticEntry). entry.prefix) address (candidates statics interface) ≡ o → option_map (λ (entry : StaticEntry). (entry.low, entry.high)) o ≡ Some labels → P labels.1
-    by_entry None f h = absurd (cc)
-    by_entry (Some entry) f h =
-        let same : (entry.low, entry.high) ≡ labels = cc in
-        subst (λ (ls : Label × Label). P ls.1) same (found_holds (λ (entry : StaticEntry). P entry.high) _ (candidates statics interface) entry all f)
-
 static_found : (statics : Statics) (interface : List ℕ) (address : Address) (labels : Label × Label) → All IsBoundedStatic statics → find_static_of statics interface address ≡ Some labels → IsLabel labels.1
 static_found statics interface address labels all e =
-    high_found IsLabel statics interface address labels (All-weaker IsBoundedStatic (λ (entry : StaticEntry). IsLabel entry.high) (λ entry is. (range_ends_are_labels (record { low = entry.low; high = entry.high }) is).1) (candidates statics interface) (entries_hold statics interface all)) e
+    let (place, entry, counts, holding, same) = found_labels_are_those_of_an_entry statics interface address labels e in
+    let at = ((entries_stand_at_their_places statics (counting statics interface) place entry).0 counts).0 in
+    let bounded : IsBoundedStatic entry = subst IsBoundedStatic (get_or_from_slice_get statics place entry entry at) (all place entry (slice_get_within statics place entry at)) in
+    subst (λ (ls : Label × Label). IsLabel ls.1) (sym same) (range_ends_are_labels (record { low = entry.low; high = entry.high }) bounded).1
 
 module _ (t : TableState) (valid : AreValid t) (incoming : Incoming) where
   static_label : (interface : List ℕ) (source : Address) → static_labels t interface source ≡ Ok incoming → IsLabel incoming.high

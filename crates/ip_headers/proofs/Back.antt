@@ -76,7 +76,7 @@ pads_unseen V6 at (suc (suc n)) = record { labels = refl; jumbos = refl; others 
 -- ---- the kept options with the padding between them
 
 -- in version 4 there is none
-gap4 : (place free : ℕ) → gap_to 1 place free ≡ 0
+pub gap4 : (place free : ℕ) → gap_to 1 place free ≡ 0
 gap4 place free = omega arith
 
 packed_options : Version → ℕ → List Placed → List (List ℕ)

@@ -88,7 +88,7 @@ pub record IsLeft (version : Version) (at : ℕ) (rest : List ℕ) (todo : List 
   pub list : options_from version at rest ≡ record { options = todo; broken = None }
   pub place : at + length rest ≤ 2 ^ 17
 
-whole_left : (version : Version) (area : List ℕ) → IsWholeList version area → length area < 65536 → IsLeft version (first_place version) area (options_from version (first_place version) area).options
+pub whole_left : (version : Version) (area : List ℕ) → IsWholeList version area → length area < 65536 → IsLeft version (first_place version) area (options_from version (first_place version) area).options
 whole_left version area whole small = record { list = λ i. record { options = (options_from version (first_place version) area).options; broken = whole i }; place = first_low version } where
   first_low : (v : Version) → first_place v + length area ≤ 2 ^ 17
   first_low V4 = omega arith

@@ -10,3 +10,4 @@ pub mod Back4
 pub mod Back6
 pub mod Law
 pub mod Same
+pub mod Swaps

@@ -1,7 +1,7 @@
 -- A packet written, part by part.
 use Rattle.std.proofs.Common.{◌≡◌, ℕ, ◌+◌, ◌-◌, ◌/◌, ◌%◌, ◌≤◌, ◌≢◌, Bool, true, false, cond, eqb, ne_eqb, ◌||◌, List, [], ◌∷◌, ◌++◌, length, Option, Some, None, refl, sym, ap, ◌∙◌, append_assoc, arith, length-append}
 use Rattle.std.proofs.lemmas.List.{append-nil}
-use Rattle.std.specs.Prelude.{IfSome}
+use Rattle.std.specs.Prelude.{IfSome, slice_index}
 use Rattle.std.specs.Borrow.{Bor}
 use Rattle.std.specs.Option.{option_copied}
 use Rattle.ip_headers.specs.declared.version.Version.{Version}
@@ -12,14 +12,20 @@ use Rattle.ip_headers.specs.Options.{Placed, has_any}
 use Rattle.ip_headers.specs.Reading.{first_place}
 use Rattle.ip_headers.specs.Fields.{packet4, packet6}
 use Rattle.ip_headers.specs.Written.{gap_to, padding, packed, unit_of, filled, label_octets, kept_options, option_area, hop_by_hop_with, hop_by_hop, has_options, next_header, fixed4, fixed6, header4, checksum4, packet_octets, first_option, rebuilt_room, rebuilt_length, IsLabelOption}
+use Rattle.ip_headers.specs.Swapped.{IsWholeOption}
 use Rattle.ip_headers.specs.inside.Write.{octets_or_none, area_with, writes_any, hop_size, hop_of, put_checksum4}
 use Rattle.ip_headers.proofs.Walks.{is_some-map}
 use Rattle.ip_headers.proofs.Layouts.{length-padding}
 
-pub label_small : (version : Version) (option : Option (Bor (List ℕ))) → IfSome option (λ o. IsLabelOption version o.now) → length (octets_or_none (option_copied option)) ≤ 254
-label_small version None h = omega arith
-label_small V4 (Some o) h = omega (arith, h.short)
-label_small V6 (Some o) h = h.short
+-- an option that is written is short
+pub whole_small : (option : Option (Bor (List ℕ))) → IfSome option (λ o. IsWholeOption o.now) → length (octets_or_none (option_copied option)) ≤ 40
+whole_small None h = omega arith
+whole_small (Some o) h = h.short
+
+-- a label option is one
+pub label_whole : (option : Option (Bor (List ℕ))) → IfSome option (λ o. IsLabelOption V4 o.now) → IfSome option (λ o. IsWholeOption o.now)
+label_whole None h = tt
+label_whole (Some o) h = let exact : slice_index o.now 1 + 0 ≡ length o.now = h.exact in record { long = h.long; short = h.short; exact = omega (arith, exact) }
 
 label_octets-is : (version : Version) (option : Option (List ℕ)) → label_octets (first_option version option) ≡ octets_or_none option
 label_octets-is version None = refl

@@ -5,6 +5,7 @@ pub mod Header4
 pub mod Header6
 pub mod Reading
 pub mod Written
+pub mod Swapped
 pub mod Fields
 pub mod Laws
 pub mod inside

@@ -13,19 +13,23 @@ ghost use Rattle.std.specs.Prelude.{◌≡◌, ℕ, List, Option, ◌↔◌, ◌
 ghost use Rattle.std.specs.Option.{option_copied, option_map};
 ghost use Rattle.ip_headers.specs.declared.version.Version.TheVariants.{V4};
 ghost use Rattle.ip_headers.specs.Header4.{fixed_fault4};
+ghost use Rattle.ip_headers.specs.Options.{is_other_type};
 ghost use Rattle.ip_headers.specs.Reading.{packet_of, front_of};
 ghost use Rattle.ip_headers.specs.Fields.{packet4};
+ghost use Rattle.ip_headers.specs.Swapped.{IsWholeOption, first_of_kind, second_of_kind, swapped_kind};
 ghost use Rattle.ip_headers.specs.inside.View.{IsSplit};
 ghost use Rattle.ip_headers.specs.inside.Write.{IsWholeList, others_in};
 ghost use Rattle.ip_headers.specs.Written.{IsLabelOption, packet_octets, rewritten, rebuilt_room, rebuilt_length};
 
 use crate::fault::{HeadFault, HeadKind, fault};
 use crate::fields::Fields4;
+use crate::one_kind::{copy_without, find_kind};
 use crate::parts::{Parts, front, read};
 use crate::rebuild::Rebuild;
 use crate::sum::ones_sum;
 use crate::version::Version;
 use crate::writing4::write4_with;
+use arrayvec::ArrayVec;
 use octet_grammar::u16_at;
 use std::marker::Model;
 
@@ -125,6 +129,17 @@ impl<'a> Packet4<'a> {
         ensures { IsTrue result ↔ (0 < length self.now.others) }
     {
         self.parts.has_others
+    }
+
+    /// The first option of this type with its octet in the packet, and the octet of the second. The type is neither 0
+    /// nor 1, which are padding, nor that of a label option.
+    pub fn others(&self, kind: u8) -> (Option<(usize, &'a [u8])>, Option<usize>)
+        requires { IsTrue (is_other_type V4 kind) }
+        ensures first { option_map
+            (λ x. record { place = x.0; octets = x.1.now }) result.0 ≡ first_of_kind kind self.now }
+        ensures second { result.1 ≡ second_of_kind kind self.now }
+    {
+        find_kind(self.options(), kind)
     }
 
     /// The fields that are written as they are, with these hops.
@@ -232,4 +247,33 @@ pub fn rebuild4(
         view.payload(),
         out,
     )
+}
+
+/// Writes the packet with this option in place of its label option and of its options of this type: `out` becomes
+/// exactly that packet. The option comes first, and each option that is left stays, in its order; padding goes, and the
+/// hops stay.
+///
+/// NoRoom comes where the options pass 40 octets, else TooLong where the total length passes 65,535. After
+/// an error `out` is empty.
+pub fn rebuild_swap4(
+    view: &Packet4,
+    kind: u8,
+    option: &[u8],
+    out: &mut Vec<u8>,
+) -> Result<(), Rebuild>
+    requires { IsWholeOption option.now }
+    ensures ok { OnOk result
+        (out.new.items ≡ packet_octets (swapped_kind kind option.now view.now)) }
+    ensures no_room { (result ≡ Err Rebuild.NoRoom) ↔
+        (40 < rebuilt_room (swapped_kind kind option.now view.now)) }
+    ensures too_long { (result ≡ Err Rebuild.TooLong) ↔
+        ((rebuilt_room (swapped_kind kind option.now view.now) ≤ 40)
+        × (65535 < rebuilt_length (swapped_kind kind option.now view.now))) }
+    ensures err { OnErr result (out.new.items ≡ []) }
+{
+    out.clear();
+    let fields = view.fields(view.hops());
+    let mut others: ArrayVec<u8, 40> = ArrayVec::new();
+    copy_without(view.options(), kind, &mut others)?;
+    write4_with(&fields, Some(option), &others, view.payload(), out)
 }

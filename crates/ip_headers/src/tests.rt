@@ -1,6 +1,8 @@
 // Worked values: packets made by hand from RFC 791 and RFC 8200, and the first test that fails of broken ones.
 
+ghost use Rattle.std.specs.Prelude.{IsTrue};
 ghost use Rattle.ip_headers.specs.declared.version.Version.TheVariants.{V4, V6};
+ghost use Rattle.ip_headers.specs.Swapped.{IsWholeOption};
 ghost use Rattle.ip_headers.specs.Written.{IsLabelOption};
 
 use super::*;
@@ -284,6 +286,150 @@ const FAULTS6: [(&str, &str, usize, HeadKind); 23] = [
     ),
 ];
 
+/// Packets of version 4, the octet of the first option of type 130 and that option, and the octet of the second; 0 where there is none.
+const SOUGHT: [(&str, &str, usize, &str, usize); 8] = [
+    (
+        "no option",
+        "4500001c00000000401166cf0a0000010a00000203e8003500080000",
+        0,
+        "",
+        0,
+    ),
+    (
+        "another type",
+        "46000020000000004011d1c60a0000010a0000029404000003e8003500080000",
+        0,
+        "",
+        0,
+    ),
+    (
+        "first",
+        "4600002000000000401189460a0000010a00000282045a8003e8003500080000",
+        20,
+        "82045a80",
+        0,
+    ),
+    (
+        "behind no-operations and another type",
+        "480000280000000040110eb80a0000010a00000201019404000082033d01010103e8003500080000",
+        26,
+        "82033d",
+        0,
+    ),
+    (
+        "two",
+        "4800002800000000401134350a0000010a00000282045a809404000082033d0103e8003500080000",
+        20,
+        "82045a80",
+        28,
+    ),
+    (
+        "three",
+        "480000280000000040112d350a0000010a0000028203ab0182045a808203ab0003e8003500080000",
+        20,
+        "8203ab",
+        24,
+    ),
+    (
+        "behind a label option",
+        "4900002c000000004011ab100a0000010a0000028606000000108203ab9404000000000003e8003500080000",
+        26,
+        "8203ab",
+        0,
+    ),
+    (
+        "behind the end of the list",
+        "47000024000000004011cd030a0000010a000002940400000082033d03e8003500080000",
+        0,
+        "",
+        0,
+    ),
+];
+
+/// Packets of version 4, an option, and the packet with it in place of those of type 130.
+const SWAPPED: [(&str, &str, &str, &str); 11] = [
+    (
+        "alone, for a label option",
+        "4600002000000000401189460a0000010a00000282045a8003e8003500080000",
+        "860b000000100105000240",
+        "480000280000000040119ca00a0000010a000002860b0000001001050002400003e8003500080000",
+    ),
+    (
+        "in place of a label option",
+        "480000280000000040119ca00a0000010a000002860b0000001001050002400003e8003500080000",
+        "82045a80",
+        "4600002000000000401189460a0000010a00000282045a8003e8003500080000",
+    ),
+    (
+        "no option before",
+        "4500001c00000000401166cf0a0000010a00000203e8003500080000",
+        "82045a80",
+        "4600002000000000401189460a0000010a00000282045a8003e8003500080000",
+    ),
+    (
+        "between others, with no-operations and padding",
+        "4900002c00000000401144940a0000010a000002014404050082045a800194040000000003e8003500080000",
+        "860b000000100105000240",
+        "4a00003000000000401191bb0a0000010a000002860b00000010010500024044040500940400000003e8003500080000",
+    ),
+    (
+        "behind others, and one hop",
+        "4800002800000000011198b60a0000010a00000244040500940400008203ab0003e8003500080000",
+        "82045a80",
+        "48000028000000000111e9350a0000010a00000282045a80440405009404000003e8003500080000",
+    ),
+    (
+        "two of the type",
+        "4800002800000000401134350a0000010a00000282045a809404000082033d0103e8003500080000",
+        "860b000000100105000240",
+        "4900002c00000000401197080a0000010a000002860b000000100105000240940400000003e8003500080000",
+    ),
+    (
+        "the type behind a label option",
+        "4900002c000000004011ab100a0000010a0000028606000000108203ab9404000000000003e8003500080000",
+        "82045a80",
+        "47000024000000004011f43d0a0000010a00000282045a809404000003e8003500080000",
+    ),
+    (
+        "the type behind the end of the list",
+        "47000024000000004011cd030a0000010a000002940400000082033d03e8003500080000",
+        "0702",
+        "47000024000000004011c9c00a0000010a000002070294040000000003e8003500080000",
+    ),
+    (
+        "20 octets beside 20 others",
+        "4b0000340000000040113b1e0a0000010a000002441405000000000000000000000000000000000082045a8003e8003500080000",
+        "8614000000100110000200000000000000000000",
+        "4f0000440000000040118c5c0a0000010a0000028614000000100110000200000000000000000000441405000000000000000000000000000000000003e8003500080000",
+    ),
+    (
+        "2 octets beside 38 others",
+        "4f00004400000000401112800a0000010a0000024426050000000000000000000000000000000000000000000000000000000000000000000000010103e8003500080000",
+        "8602",
+        "4f0000440000000040118d7e0a0000010a0000028602442605000000000000000000000000000000000000000000000000000000000000000000000003e8003500080000",
+    ),
+    (
+        "40 octets alone",
+        "4600002000000000401189460a0000010a00000282045a8003e8003500080000",
+        "86280000001001240002000000000000000000000000000000000000000000000000000000000000",
+        "4f000044000000004011d5480a0000010a0000028628000000100124000200000000000000000000000000000000000000000000000000000000000003e8003500080000",
+    ),
+];
+
+/// Packets of version 4 and an option for which they have no room beside their others.
+const NO_ROOM: [(&str, &str, &str); 2] = [
+    (
+        "21 octets beside 20 others",
+        "4b0000340000000040113b1e0a0000010a000002441405000000000000000000000000000000000082045a8003e8003500080000",
+        "861500000010011100020000000000000000000000",
+    ),
+    (
+        "2 octets beside 40 others",
+        "4f000044000000004011137f0a0000010a0000024428050000000000000000000000000000000000000000000000000000000000000000000000000003e8003500080000",
+        "8602",
+    ),
+];
+
 /// DOI 16, tag 1, level 2, categories 1 and 3.
 fn cipso() -> [u8; 11]
     ensures { IsLabelOption V4 result }
@@ -362,6 +508,59 @@ fn a_plain_packet_of_version_4(rt: HostRuntime) -> Result<(), Fail> {
     let labelled = octets_of(rt.alloc(), BITMAP_16)?;
     assert_eq!(rt; out.as_slice(), labelled.as_slice());
     Ok(())
+}
+
+#[test]
+fn options_of_one_type(rt: HostRuntime) {
+    for (name, text, at, octets, behind) in SOUGHT {
+        let bytes = octets_of(rt.alloc(), text).expect(&rt, "memory");
+        let wanted = octets_of(rt.alloc(), octets).expect(&rt, "memory");
+        let packet = front4(&bytes).expect(&rt, "a packet");
+        let (first, second) = packet.others(130);
+        let (place, option) = first.unwrap_or((0, &[]));
+        assert_eq!(rt; place, at, "{name}");
+        assert_eq!(rt; option, wanted.as_slice(), "{name}");
+        assert_eq!(rt; second.unwrap_or(0), behind, "{name}");
+    }
+}
+
+/// Whether an option may be written.
+fn is_whole(option: &[u8]) -> bool
+    ensures { IsTrue result → IsWholeOption option.now }
+{
+    option.len() >= 2 && option.len() <= 40 && usize::from(option[1]) == option.len()
+}
+
+#[test]
+fn another_option_in_place_of_those_of_one_type(rt: HostRuntime) {
+    for (name, text, option, swapped) in SWAPPED {
+        let bytes = octets_of(rt.alloc(), text).expect(&rt, "memory");
+        let option = octets_of(rt.alloc(), option).expect(&rt, "memory");
+        let wanted = octets_of(rt.alloc(), swapped).expect(&rt, "memory");
+        let packet = read4(&bytes).expect(&rt, "a packet");
+        assert!(rt; is_whole(&option), "{name}");
+        let mut out = Vec::new(rt.alloc());
+        assert_eq!(rt;
+            rebuild_swap4(&packet, 130, &option, &mut out),
+            Ok(()),
+            "{name}"
+        );
+        assert_eq!(rt; out.as_slice(), wanted.as_slice(), "{name}");
+    }
+}
+
+#[test]
+fn no_room_for_another_option(rt: HostRuntime) {
+    for (name, text, option) in NO_ROOM {
+        let bytes = octets_of(rt.alloc(), text).expect(&rt, "memory");
+        let option = octets_of(rt.alloc(), option).expect(&rt, "memory");
+        let packet = read4(&bytes).expect(&rt, "a packet");
+        assert!(rt; is_whole(&option), "{name}");
+        let mut out = octets_of(rt.alloc(), "00").expect(&rt, "memory");
+        let done = rebuild_swap4(&packet, 130, &option, &mut out);
+        assert_eq!(rt; done, Err(Rebuild::NoRoom), "{name}");
+        assert_eq!(rt; out.len(), 0, "{name}");
+    }
 }
 
 #[test]

@@ -5,6 +5,7 @@ ghost use Rattle.std.specs.Option.{option_copied};
 ghost use Rattle.ip_headers.specs.declared.version.Version.TheVariants.{V4};
 ghost use Rattle.ip_headers.specs.Sum.{ones_sum};
 ghost use Rattle.ip_headers.specs.Fields.{packet4};
+ghost use Rattle.ip_headers.specs.Swapped.{IsWholeOption};
 ghost use Rattle.ip_headers.specs.Written.{IsLabelOption, fixed4, header4, option_area, packet_octets, rebuilt_length, rebuilt_room};
 ghost use Rattle.ip_headers.specs.inside.Write.{IsWholeList, others_in, put_checksum4};
 
@@ -117,7 +118,7 @@ fn push4(
 
 /// How long the options are, without the padding after them and with it.
 fn sizes(fields: &Fields4, option: Option<&[u8]>, area: &[u8], payload: &[u8]) -> (usize, usize)
-    requires label { IfSome option (λ o. IsLabelOption V4 o.now) }
+    requires option { IfSome option (λ o. IsWholeOption o.now) }
     requires whole { IsWholeList V4 area.now }
     requires small { length area.now < 65536 }
     ensures room { result.0 ≡ rebuilt_room
@@ -134,7 +135,7 @@ fn sizes(fields: &Fields4, option: Option<&[u8]>, area: &[u8], payload: &[u8]) -
     (kept, filled_size(Version::V4, kept))
 }
 
-/// Writes the packet with these fields, this label option or none, the other options of an old list, and this payload.
+/// Writes the packet with these fields, this option first or none, the other options of an old list, and this payload.
 pub(crate) fn write4_with(
     fields: &Fields4,
     option: Option<&[u8]>,
@@ -142,7 +143,7 @@ pub(crate) fn write4_with(
     payload: &[u8],
     out: &mut Vec<u8>,
 ) -> Result<(), Rebuild>
-    requires label { IfSome option (λ o. IsLabelOption V4 o.now) }
+    requires option { IfSome option (λ o. IsWholeOption o.now) }
     requires whole { IsWholeList V4 area.now }
     requires small { length area.now < 65536 }
     ensures ok { OnOk result

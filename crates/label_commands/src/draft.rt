@@ -228,8 +228,15 @@ impl Draft {
             return Err(LineStop::at(place, ScriptKind::ReadingTwice));
         }
         let reading = read_meanings(self.alloc, place, fields)?;
-        self.readings[node] = Some(reading);
+        self.add_reading(node, reading);
         Ok(())
+    }
+
+    fn add_reading(&mut self, node: usize, reading: Reading)
+        requires { node < length self.old.readings }
+        ensures { self.new ≡ with_reading self.old node reading }
+    {
+        self.readings[node] = Some(reading);
     }
 
     /// The script of all lines.

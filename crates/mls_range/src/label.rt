@@ -13,10 +13,13 @@ use crate::number::read_number;
 use crate::octet::{is_label_end, read_octet};
 use crate::terms::read_terms;
 use mls_label::{CatSet, Label, OutOfMemory};
-use octet_grammar::write_decimal;
+use octet_grammar::{push_decimal, write_decimal};
 
 /// The greatest level.
 const HIGHEST_LEVEL: u32 = 255;
+
+/// How many octets a category takes at the most: a separator, a letter and five digits.
+const LONGEST_TERM: usize = 7;
 
 /// Reads a whole text as a label (SELinux MLS): `s<N>`, or `s<N>:` and terms `c<N>` or `c<M>.c<N>` separated by commas,
 /// in any order. Levels end at 255 and categories at 65534; numbers have no leading zero.
@@ -127,7 +130,9 @@ fn append_category(separator: u8, category: u16, out: &mut Vec<u8>) -> Result<()
         (out.new.items ≡ out.old.items ++ separator ∷ letter_c ∷ decimal category) }
     ensures err { OnErr result (Extends out.old.items out.new.items) }
 {
-    out.extend_from_slice(&[separator, b'c'])?;
-    write_decimal(u64::from(category), out)?;
+    out.reserve(LONGEST_TERM)?;
+    out.push_reserved(separator);
+    out.push_reserved(b'c');
+    push_decimal(category, out);
     Ok(())
 }

@@ -16,7 +16,7 @@ use Rattle.flow_run.proofs.Law.{runs_withhold_what_no_option_says}
 use Rattle.script_run.specs.Runs.{AreRuns}
 use Rattle.netlabel_run.specs.declared.command.Command.{Command}
 use Rattle.netlabel_run.specs.declared.command.Command.TheVariants.{Judge, Check, Show, Agree, Make, Run}
-use Rattle.netlabel_run.specs.ScriptFile.{script_read, ByAnswer, ByScript}
+use Rattle.script_input.specs.ScriptFile.{script_read, ByAnswer, ByScript}
 use Rattle.netlabel_run.specs.Run.{AreItsRuns, HasRunAccess, RunWithholds}
 use Rattle.netlabel_run.specs.Commands.{netlabel_says}
 

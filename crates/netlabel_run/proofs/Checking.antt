@@ -11,7 +11,7 @@ use Rattle.netlabel_run.specs.declared.command.Command.TheVariants.{Check}
 use Rattle.call_report.specs.declared.status.Status.{Status}
 use Rattle.call_report.specs.declared.status.Status.TheVariants.{Done}
 use Rattle.call_report.specs.CallEnds.{CallEnds}
-use Rattle.netlabel_run.specs.ScriptFile.{script_read}
+use Rattle.script_input.specs.ScriptFile.{script_read}
 use Rattle.netlabel_run.specs.Check.{check_text, script_report, CheckReport, script_status, CheckStatus}
 use Rattle.netlabel_run.specs.Commands.{netlabel_says}
 use Rattle.call_report.specs.Report.{Report}
@@ -19,9 +19,9 @@ use Rattle.call_report.specs.Stages.{reading_stage}
 use Rattle.call_report.specs.Outside.{Outside}
 use Rattle.call_report.specs.Status.{status_number}
 use Rattle.call_report.specs.Printing.{Printed}
-use Rattle.netlabel_run.proofs.Endings.{ends_printed}
-use Rattle.netlabel_run.specs.inside.Ending.{IsOnlyRead, ReadsScript}
-use Rattle.netlabel_run.proofs.Requests.{knows_reading}
+use Rattle.call_report.proofs.Law.{asks, ends_printed, knows_file}
+use Rattle.call_report.specs.Outside.{IsOnlyRead}
+use Rattle.script_input.proofs.Law.{ReadsScript}
 
 pauses_late : (read : Result Script ScriptStop) → (script_report read).pauses ≡ [] ∷ []
 pauses_late (Ok script) = refl
@@ -43,10 +43,9 @@ module _ (file : List ℕ) where
   has_report held text read holds is = subst (λ (o : Option (List ℕ)). CheckReport file o (script_report read)) (sym holds) (ap script_report (sym is))
 
   -- what it knows of the file that it reads
-  pub check_reads : ReadsScript asked file
+  pub check_reads : ReadsScript (netlabel_says asked) file
   check_reads = record {
-    form = λ e. absurd cc;
-    knows = λ before after reads told. knows_reading (netlabel_says asked) file before after refl refl refl reads told;
+    knows = λ before after reads told. knows_file file (CheckReport file) (CheckStatus file) (Unit {0}) before after reads told;
     refused = λ held text why holds is. record { status = has_status (held file) text (Err why) holds is; report = has_report (held file) text (Err why) holds is; whole = refl };
     may = λ text why is. (λ name. Some text, ap script_status (sym is));
     pauses = λ held report has. subst (λ pauses. Contains pauses []) (sym (check_pauses (held file) report has)) (0, omega arith, refl);
@@ -57,11 +56,10 @@ module _ (file : List ℕ) where
       → SameCounts before.folder.reads after.folder.reads → (IsTrue before.folder.tells → before.folder.held file ≡ Some text) → read_text with_translations file text ≡ Ok script
       → Printed (check_text script) [] Done status before.stream after.stream → CallEnds netlabel_says asked before after (status_number status) []
   ends_checked before after text script status reads stream counts holds is printed =
-      ends_printed asked before after (reading_stage file ∷ []) (check_reads.knows before after reads stream) Done (check_text script) []
+      ends_printed netlabel_says asked before after (reading_stage file ∷ []) (check_reads.knows before after reads stream) Done (check_text script) []
+      (asks asked 0 (check_text script) (λ e. cc) (λ e. omega (arith, e)))
       (record {
         event = (λ e. omega (arith, e), λ e. omega (arith, e), λ e. omega (arith, e));
-        form = λ e. absurd (omega (arith, e));
-        usage = λ e. absurd (check_reads.form e);
         has = λ told. has_status (before.folder.held file) text (Ok script) (holds told) is;
         may = (λ name. Some text, ap script_status (sym is));
         parts = λ told. record { report = script_report (Ok script); has = has_report (before.folder.held file) text (Ok script) (holds told) is; body = refl; last = refl };

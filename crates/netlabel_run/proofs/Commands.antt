@@ -1,13 +1,23 @@
 -- The words of the command line, one by one.
-use Rattle.std.proofs.Common.{◌≡◌, ◌≢◌, ◌<◌, ◌≤◌, ◌^◌, ◌⊎◌, inl, inr, ℕ, List, [], ◌∷◌, length, get_or, sym, ap, subst, ◌∙◌, arith}
-use Rattle.std.specs.Prelude.{codes, string_bytes, String}
+use Rattle.std.proofs.Common.{◌≡◌, ◌≢◌, ◌<◌, ◌≤◌, ◌^◌, ℕ, Bool, true, false, cond, List, [], ◌∷◌, length, get_or, Option, Some, None, refl, sym, ap, subst, ◌∙◌, arith}
+use Rattle.std.specs.Prelude.{IsTrue, codes, string_bytes, String}
 use Rattle.std.specs.Fmt.{decimal}
 use Rattle.std.specs.declared.alloc.Global.{Global}
 use Rattle.std.proofs.lemmas.Fmt.{decimal_injective}
 use Rattle.std.proofs.lemmas.List.{length-map}
 use Rattle.mls_label.specs.declared.label.Label.{Label}
 use Rattle.netlabel_run.specs.declared.command.Command.TheVariants.{Judge, Check, Show, Agree, Make, Run}
-use Rattle.netlabel_run.specs.Words.{texts_of, IsLevel, NamesWorkers, plainly, with_workers, without_versions, with_versions, IsForm}
+use Rattle.flow_lines.specs.FileName.{is_file_name, file_name_of_text}
+use Rattle.command_words.specs.Words.{texts_of}
+use Rattle.netlabel_run.specs.Words.{IsLevel, plainly, with_workers, without_versions, with_versions, IsForm}
+
+named_by : (test : Bool) (word name : List ℕ) → Some name ≡ cond test (Some word) None → (name ≡ word) × IsTrue test
+named_by true word name is = (cc, refl)
+named_by false word name is = absurd cc
+
+-- the name of a file is its word
+pub is_named : (word name : List ℕ) → Some name ≡ file_name_of_text word → (name ≡ word) × IsTrue (is_file_name word)
+is_named word name is = named_by (is_file_name word) word name is
 
 -- words whose level is none ask for nothing
 pub no_level : (doi level file : List ℕ) → ((l : Label) → IsLevel level l → ⊥) → IsForm (codes "judge" ∷ doi ∷ level ∷ file ∷ []) → ⊥
@@ -30,12 +40,6 @@ no_words words two three four (Agree f n vs, with_versions t l v are name is lis
 no_words words two three four (Make s n f, asks) = four (sym (length-map words string_bytes) ∙ ap length asks.are)
 no_words words two three four (Run f n, plainly are name) = two (sym (length-map words string_bytes) ∙ ap length are)
 no_words words two three four (Run f n, with_workers t w are name named) = four (sym (length-map words string_bytes) ∙ ap length are)
-
--- a text of another number names no workers
-pub no_workers : (text : List ℕ) (n : ℕ) → text ≡ decimal n → n < 2 ^ 64 → (n ≡ 0) ⊎ ((n ≡ 0 → ⊥) × 16 < n) → (workers : ℕ) → NamesWorkers text workers → ⊥
-no_workers text n is small other workers named =
-    let same : n ≡ workers = decimal_injective n workers small (omega (arith, named.few)) (sym is ∙ named.is) in
-    elim other [ inl zero ↦ omega (arith, zero, same, named.some) | inr many ↦ omega (arith, many.1, same, named.few) ]
 
 -- a text of a greater number is that of no number of packets
 pub too_many : (text : List ℕ) (n : ℕ) → text ≡ decimal n → n < 2 ^ 64 → 1048576 < n → (count : ℕ) → count ≤ 1048576 → text ≡ decimal count → ⊥

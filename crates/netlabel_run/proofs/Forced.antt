@@ -9,7 +9,7 @@ use Rattle.flow_run.specs.Run.{FlowRun}
 use Rattle.flow_access.specs.Valid.{plan_of}
 use Rattle.script_run.specs.Runs.{AreWholeRuns, IsLawfulRun, HasNoneBeside}
 use Rattle.script_run.proofs.Law.{runs_are_determined, runs_without_steps_are_forced}
-use Rattle.netlabel_run.specs.ScriptFile.{script_read, ByAnswer, ByScript}
+use Rattle.script_input.specs.ScriptFile.{script_read, ByAnswer, ByScript}
 use Rattle.netlabel_run.specs.Run.{AreItsRuns, run_says}
 use Rattle.netlabel_run.specs.Laws.{HasNoCommandBeside}
 

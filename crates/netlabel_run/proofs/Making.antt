@@ -16,15 +16,14 @@ use Rattle.call_report.specs.Lines.Made.{made_line}
 use Rattle.call_report.specs.Report.{Report, late_report}
 use Rattle.call_report.specs.Stages.{Stage, making_stage}
 use Rattle.call_report.specs.Output.{Output, IsBegun, IsMade}
-use Rattle.call_report.specs.Outside.{Outside, CreateRose, AppendRose, NoneFailed, NoWriteFailed}
+use Rattle.call_report.specs.Outside.{Outside, AppendRose, NoneFailed}
 use Rattle.call_report.specs.Printing.{Printed}
 use Rattle.call_report.specs.Says.{Says}
-use Rattle.call_report.specs.CallEnds.{CallEnds, HasBegun, IsClean, IsRefusal, IsWritten}
+use Rattle.call_report.specs.CallEnds.{CallEnds, IsWritten}
 use Rattle.netlabel_run.specs.declared.command.Command.{Command}
 use Rattle.netlabel_run.specs.declared.command.Command.TheVariants.{Make}
 use Rattle.netlabel_run.specs.Commands.{netlabel_says}
-use Rattle.netlabel_run.specs.inside.Ending.{Knows}
-use Rattle.netlabel_run.proofs.Endings.{IsDue, ends_printed, ends_unprinted}
+use Rattle.call_report.proofs.Law.{HasLeft, Keeps, Knows, IsDue, HasCause, asks, ends_refused, ends_printed, ends_unprinted}
 
 module _ (seed count : ℕ) (file : List ℕ) (before after : Outside) where
   abbrev asked : Option Command
@@ -42,9 +41,6 @@ module _ (seed count : ℕ) (file : List ℕ) (before after : Outside) where
   abbrev Makes : Option MadeStop → Type 0
   Makes stop = MakesCapture seed count file stop before.folder after.folder
 
-  begun_stages : HasBegun says before.folder [] stages
-  begun_stages = record { content = before.folder.held; told = λ _ name. refl; are = refl; flows = refl }
-
   begun : (stop : Option MadeStop) → Makes stop → IsTrue before.folder.tells → All (λ output. IsBegun output before.folder.held after.folder.held) (output ∷ [])
   begun stop makes told =
       All-cons (λ o. IsBegun o before.folder.held after.folder.held) output []
@@ -54,35 +50,42 @@ module _ (seed count : ℕ) (file : List ℕ) (before after : Outside) where
   others : (stop : Option MadeStop) → Makes stop → IsTrue before.folder.tells → (name : List ℕ) → All (λ (o : Output). o.name ≢ name) (output ∷ []) → after.folder.held name ≡ before.folder.held name
   others stop makes told name none = makes.others told name (λ e. none 0 output (omega arith) (sym e))
 
+  has_left : (stop : Option MadeStop) → Makes stop → IsTrue before.folder.tells → HasLeft says before after
+  has_left stop makes told = record { outputs = output ∷ []; are = refl; begun = begun stop makes told; others = others stop makes told }
+
+  keeps : (stop : Option MadeStop) → Makes stop → after.stream.tells ≡ before.stream.tells → Keeps says before after stages
+  keeps stop makes stream_told = record {
+    begun = record { content = before.folder.held; told = λ _ name. refl; are = (refl, refl) };
+    lawful = λ told. refl;
+    access = λ told. tt;
+    withheld = λ told. tt;
+    still = λ none. absurd (let no : Some file ≡ None = none 0 (making_stage file) (omega arith) in cc);
+    folder_told = makes.told;
+    stream_told = stream_told;
+  }
+
   -- ---- the capture is whole
 
   knows_made : Makes None → after.stream.tells ≡ before.stream.tells → Knows says before after stages
+  unfolding has_left
   knows_made makes stream_told = record {
-    begun = begun_stages;
+    keeps = keeps None makes stream_told;
     made = λ told. record {
-      outputs = output ∷ [];
-      are = refl;
-      begun = begun None makes told;
+      left = has_left None makes told;
       made = All-cons (λ o. IsMade o before.folder.held after.folder.held) output []
           (λ octets is. makes.whole refl told ∙ is, λ none. absurd (let no : Some (capture_made seed count) ≡ None = none in cc))
           (All-nil (λ o. IsMade o before.folder.held after.folder.held));
-      others = others None makes told;
     };
-    lawful = refl;
     creates = makes.cause.0;
     appends = makes.cause.1;
-    folder_told = makes.told;
-    stream_told = stream_told;
   }
 
   abbrev line : List ℕ
   line = made_line count (delivered_made seed count) (denied_made seed count)
 
-  made_due : IsDue asked before Done line []
+  made_due : IsDue says before 0 line []
   made_due = record {
     event = (λ e. omega (arith, e), λ e. omega (arith, e), λ e. omega (arith, e));
-    form = λ e. absurd (omega (arith, e));
-    usage = λ e. absurd cc;
     has = λ told. refl;
     may = refl;
     parts = λ told. record { report = late_report line []; has = refl; body = refl; last = refl };
@@ -92,98 +95,55 @@ module _ (seed count : ℕ) (file : List ℕ) (before after : Outside) where
 
   -- and its line was printed, or could not be
   pub ends_told : (status : Status) → Makes None → Printed line [] Done status before.stream after.stream → CallEnds netlabel_says asked before after (status_number status) []
-  ends_told status makes printed = ends_printed asked before after stages (knows_made makes printed.told) Done line [] made_due status makes.reads printed
+  ends_told status makes printed =
+      ends_printed netlabel_says asked before after stages (knows_made makes printed.told) Done line [] (asks asked 0 line (λ e. cc) (λ e. omega (arith, e))) made_due status makes.reads printed
 
   pub ends_untold : Makes None → after.stream ≡ before.stream → CallEnds netlabel_says asked before after 6 []
-  ends_untold makes same = ends_unprinted asked before after stages (knows_made makes (ap (λ (s : SinkState). s.tells) same)) makes.reads same
+  ends_untold makes same = ends_unprinted netlabel_says asked before after stages (knows_made makes (ap (λ (s : SinkState). s.tells) same)) makes.reads same
 
   -- ---- something was refused
-
-  -- with its cause
-  record HasCause (status : ℕ) : Type 0 where
-    refused : IsRefusal status
-    read_fault : status ≡ 3 → NoWriteFailed before after × CreateRose stages before after
-    write_fault : status ≡ 4 → AppendRose stages before after
-    memory : status ≡ 6 → NoneFailed before after
-
-  no_other : (status : ℕ) → IsRefusal status → (number : ℕ) → (number ≢ 3) × (number ≢ 4) × (number ≢ 6) → status ≡ number → ⊥
-  no_other status refused number other is = elim refused [
-    | inl three ↦ other.0 (sym is ∙ three)
-    | inr rest ↦ elim rest [ inl four ↦ other.1 (sym is ∙ four) | inr six ↦ other.2 (sym is ∙ six) ]
-  ]
-
-  unclean : (status : ℕ) → HasCause status → IsClean stages before after status → ⊥
-  unclean status cause clean = elim clean [
-    | inl zero ↦ no_other status cause.refused 0 (λ e. omega (arith, e), λ e. omega (arith, e), λ e. omega (arith, e)) zero
-    | inr c ↦ elim cause.refused [
-      | inl three ↦ c.1 (inr (inr (inl (cause.read_fault three).1)))
-      | inr rest ↦ elim rest [ inl four ↦ c.1 (inr (inr (inr (cause.write_fault four)))) | inr six ↦ c.0 six ]
-    ]
-  ]
 
   unwritten : after.stream ≡ before.stream → IsWritten [] before after
   unwritten same = ap (λ (s : SinkState). s.written) same ∙ sym (append-nil before.stream.written)
 
-  ends_unmade : (status : ℕ) (stop : Option MadeStop) → Makes stop → after.stream ≡ before.stream → HasCause status → CallEnds netlabel_says asked before after status []
-  ends_unmade status stop makes same cause = record {
-    stages = stages;
-    begun = begun_stages;
-    ends = record {
-      due = λ told. inr cause.refused;
-      possible = inr cause.refused;
-      no_form = λ e. absurd (no_other status cause.refused 1 (λ e. omega (arith, e), λ e. omega (arith, e), λ e. omega (arith, e)) e);
-      usage = λ none. absurd cc;
-      read_fault = λ e. ((cause.read_fault e).0, inr (cause.read_fault e).1);
-      write_fault = λ e. inr (cause.write_fault e);
-      memory = λ e. let none = cause.memory e in (record { writes = none.writes; appends = none.appends }, inl none);
-      memory_alone = λ e late. cause.memory e;
-      unmoved = λ e. absurd (no_other status cause.refused 0 (λ e. omega (arith, e), λ e. omega (arith, e), λ e. omega (arith, e)) e);
-    };
-    prints = λ told. record {
-      whole = λ out clean. absurd (unclean status cause clean);
-      body = λ out other. absurd (other cause.refused);
-      part = λ out. inl (unwritten same);
-      pause = λ out e. ([], unwritten same, λ report has. subst (λ (r : Report). Contains r.pauses []) (sym has) (0, omega arith, refl));
-      stop = λ e. inr (cause.write_fault e);
-    };
-    leaves = λ told. record {
-      outputs = output ∷ [];
-      are = refl;
-      begun = begun stop makes told;
-      earlier = λ some. absurd (omega (arith, some));
-      whole = λ clean. absurd (unclean status cause clean);
-      others = others stop makes told;
-    };
-    lawful = λ told. refl;
-    whole = λ told clean. refl;
-    access = λ told. tt;
-    withheld = λ told. tt;
-    silent = λ out e late. ap (λ (s : SinkState). s.written) same;
-    still = λ none. absurd (let no : Some file ≡ None = none 0 (making_stage file) (omega arith) in cc);
-    folder_told = makes.told;
-    stream_told = ap (λ (s : SinkState). s.tells) same;
-  }
+  ends_unmade : (status : ℕ) (stop : Option MadeStop) → Makes stop → after.stream ≡ before.stream → HasCause says before after stages status → (status ≡ 4 → AppendRose stages before after)
+      → CallEnds netlabel_says asked before after status []
+  ends_unmade status stop makes same cause append =
+      ends_refused netlabel_says asked before after stages status (keeps stop makes (ap (λ (s : SinkState). s.tells) same)) (has_left stop makes) (λ none. absurd cc) cause
+      (λ told. record {
+        part = λ out. inl (unwritten same);
+        pause = λ out e. ([], unwritten same, λ report has. subst (λ (r : Report). Contains r.pauses []) (sym has) (0, omega arith, refl));
+        stop = λ e. inr (append e);
+      })
+      (λ out e late. ap (λ (s : SinkState). s.written) same)
 
   pub ends_uncreated : Makes (Some Create) → after.stream ≡ before.stream → CallEnds netlabel_says asked before after 3 []
   ends_uncreated makes same = ends_unmade 3 (Some Create) makes same (record {
     refused = inl refl;
-    read_fault = λ e. (record { writes = ap (λ (s : SinkState). s.faults) same; appends = makes.cause.1 }, record { name = file; in_hand = refl; rose = makes.cause.0 });
+    read_fault = λ e. (record { writes = ap (λ (s : SinkState). s.faults) same; appends = makes.cause.1 }, inr (record { name = file; in_hand = refl; rose = makes.cause.0 }));
     write_fault = λ e. absurd (omega (arith, e));
     memory = λ e. absurd (omega (arith, e));
-  })
+    memory_alone = λ e. absurd (omega (arith, e));
+  }) (λ e. absurd (omega (arith, e)))
 
   pub ends_unappended : Makes (Some Append) → after.stream ≡ before.stream → CallEnds netlabel_says asked before after 4 []
-  ends_unappended makes same = ends_unmade 4 (Some Append) makes same (record {
-    refused = inr (inl refl);
-    read_fault = λ e. absurd (omega (arith, e));
-    write_fault = λ e. record { name = file; in_hand = refl; rose = makes.cause.1 };
-    memory = λ e. absurd (omega (arith, e));
-  })
+  ends_unappended makes same =
+      let rose : AppendRose stages before after = record { name = file; in_hand = refl; rose = makes.cause.1 } in
+      ends_unmade 4 (Some Append) makes same (record {
+        refused = inr (inl refl);
+        read_fault = λ e. absurd (omega (arith, e));
+        write_fault = λ e. inr rose;
+        memory = λ e. absurd (omega (arith, e));
+        memory_alone = λ e. absurd (omega (arith, e));
+      }) (λ e. rose)
 
   pub ends_without_memory : Makes (Some OutOfMemory) → after.stream ≡ before.stream → CallEnds netlabel_says asked before after 6 []
-  ends_without_memory makes same = ends_unmade 6 (Some OutOfMemory) makes same (record {
-    refused = inr (inr refl);
-    read_fault = λ e. absurd (omega (arith, e));
-    write_fault = λ e. absurd (omega (arith, e));
-    memory = λ e. record { reads = makes.reads; creates = makes.cause.0; appends = makes.cause.1; writes = ap (λ (s : SinkState). s.faults) same };
-  })
+  ends_without_memory makes same =
+      let none : NoneFailed before after = record { reads = makes.reads; creates = makes.cause.0; appends = makes.cause.1; writes = ap (λ (s : SinkState). s.faults) same } in
+      ends_unmade 6 (Some OutOfMemory) makes same (record {
+        refused = inr (inr refl);
+        read_fault = λ e. absurd (omega (arith, e));
+        write_fault = λ e. absurd (omega (arith, e));
+        memory = λ e. (record { writes = none.writes; appends = none.appends }, inl none);
+        memory_alone = λ e late. none;
+      }) (λ e. absurd (omega (arith, e)))

@@ -15,12 +15,14 @@ use Rattle.capture_reader.specs.CaptureFile.{CaptureFile, capture_file}
 use Rattle.netlabel_run.specs.declared.command.Command.{Command}
 use Rattle.netlabel_run.specs.declared.command.Command.TheVariants.{Judge, Check, Show, Agree, Make, Run}
 use Rattle.call_report.specs.Lines.Denial.{verdict_line}
-use Rattle.netlabel_run.specs.Numbers.{number_named, versions_named}
+use Rattle.command_words.specs.Numbers.{number_named, versions_named}
 use Rattle.netlabel_run.specs.Words.{AsksToJudge, AsksToRun, plainly, with_workers, AsksToAgree, without_versions, with_versions, AsksToMake, IsAsked}
-use Rattle.netlabel_run.specs.ScriptFile.{script_read, ByAnswer, ByScript, script_stop_status}
+use Rattle.script_input.specs.ScriptFile.{script_read, ByAnswer, ByScript, script_stop_status, ScriptReport, ScriptStatus}
 use Rattle.netlabel_run.specs.Judge.{JudgeReport, absent, too_long, judged, JudgeStatus}
 use Rattle.netlabel_run.specs.Check.{CheckReport, CheckStatus}
-use Rattle.netlabel_run.specs.Agree.{AgreeAnswer, AgreeReport, AgreeStatus}
+use Rattle.netlabel_run.specs.Agree.{IsFound, agree_text}
+use Rattle.script_input.specs.Answer.{HopsAnswer}
+use Rattle.script_input.proofs.Law.{one_answer}
 use Rattle.netlabel_run.specs.Show.{lines_report, CaptureReport, ShowReport, ShowStatus}
 use Rattle.netlabel_run.specs.Run.{AreItsRuns, flow_stage}
 use Rattle.netlabel_run.specs.Commands.{netlabel_says}
@@ -36,7 +38,7 @@ use Rattle.script_run.proofs.Law.{runs_are_determined}
 use Rattle.call_report.specs.Report.{Folder, Versions, Report, late_report}
 use Rattle.netlabel_run.specs.Laws.{IsOne, IsDetermined}
 use Rattle.netlabel_run.proofs.Answer.{verdict_once, lines_once}
-use Rattle.netlabel_run.proofs.Found.{one_answer}
+use Rattle.netlabel_run.proofs.Found.{one_found}
 
 judge_report_once : (doi : ℕ) (level : Label) (file : Option (List ℕ)) → IsOne (JudgeReport doi level file)
 judge_report_once doi level None a b absent absent = refl
@@ -86,15 +88,18 @@ by_script_once : {A : Type 0} (file : List ℕ) (o : Option (List ℕ)) (nothing
 by_script_once {A} file None nothing refused read n r s = n
 by_script_once {A} file (Some text) nothing refused read n r s = by_answer_once (script_read file text) refused read r s
 
-agree_status_once : (name : List ℕ) (number : ℕ) (named : Option (List ℕ)) (file : Option (List ℕ)) → IsOne (AgreeStatus name number named file)
-agree_status_once name number named file = by_script_once name file (λ status. ⊥) (λ stop status. status ≡ script_stop_status stop)
-    (λ script status. (report : Report) × AgreeAnswer script number named status report)
-    (λ a b x y. absurd x) (λ stop a b x y. x ∙ sym y) (λ script a b x y. (one_answer script number named a b x.0 y.0 x.1 y.1).0)
+abbrev AgreeAnswer : ℕ → Option (List ℕ) → Script → ℕ → Report → Type 0
+AgreeAnswer number named = HopsAnswer IsFound agree_text number named
 
-agree_report_once : (name : List ℕ) (number : ℕ) (named : Option (List ℕ)) (file : Option (List ℕ)) → IsOne (AgreeReport name number named file)
+agree_status_once : (name : List ℕ) (number : ℕ) (named : Option (List ℕ)) (file : Option (List ℕ)) → IsOne (ScriptStatus (AgreeAnswer number named) name file)
+agree_status_once name number named file = by_script_once name file (λ status. ⊥) (λ stop status. status ≡ script_stop_status stop)
+    (λ script status. (report : Report) × AgreeAnswer number named script status report)
+    (λ a b x y. absurd x) (λ stop a b x y. x ∙ sym y) (λ script a b x y. (one_answer IsFound one_found agree_text number named script a b x.0 y.0 x.1 y.1).0)
+
+agree_report_once : (name : List ℕ) (number : ℕ) (named : Option (List ℕ)) (file : Option (List ℕ)) → IsOne (ScriptReport (AgreeAnswer number named) name file)
 agree_report_once name number named file = by_script_once name file (λ report. report ≡ late_report [] []) (λ stop report. report ≡ late_report [] (script_stop_line stop))
-    (λ script report. (status : ℕ) × AgreeAnswer script number named status report)
-    (λ a b x y. x ∙ sym y) (λ stop a b x y. x ∙ sym y) (λ script a b x y. (one_answer script number named x.0 y.0 a b x.1 y.1).1)
+    (λ script report. (status : ℕ) × AgreeAnswer number named script status report)
+    (λ a b x y. x ∙ sym y) (λ stop a b x y. x ∙ sym y) (λ script a b x y. (one_answer IsFound one_found agree_text number named script x.0 y.0 a b x.1 y.1).1)
 
 status_or_once : (event : Option Event) (format : Option CaptureFormat) (Rest : ℕ → Type 0) → IsOne Rest → IsOne (λ status. StatusOr event format (Rest status) status)
 status_or_once (Some event) format Rest one a b x y = x ∙ sym y
@@ -177,37 +182,37 @@ pub determined : (request : Option Command) (held : Folder) (seen : Versions) �
 determined None held seen = record {
   status = λ a b x y. x ∙ sym y;
   report = λ a b x y. x ∙ sym y;
-  stages = λ a b x y. x ∙ sym y;
+  stages = λ a b x y. x.1 ∙ sym y.1;
   outputs = λ a b x y. x ∙ sym y;
 }
 determined (Some (Judge doi level file)) held seen = record {
   status = judge_status_once (held file);
   report = judge_report_once doi level (held file);
-  stages = λ a b x y. x ∙ sym y;
+  stages = λ a b x y. x.1 ∙ sym y.1;
   outputs = λ a b x y. x ∙ sym y;
 }
 determined (Some (Check file)) held seen = record {
   status = check_status_once file (held file);
   report = check_report_once file (held file);
-  stages = λ a b x y. x ∙ sym y;
+  stages = λ a b x y. x.1 ∙ sym y.1;
   outputs = λ a b x y. x ∙ sym y;
 }
 determined (Some (Show file)) held seen = record {
   status = show_status_once (held file);
   report = show_report_once (held file);
-  stages = λ a b x y. x ∙ sym y;
+  stages = λ a b x y. x.1 ∙ sym y.1;
   outputs = λ a b x y. x ∙ sym y;
 }
 determined (Some (Agree file flow versions)) held seen = record {
   status = agree_status_once file flow versions (held file);
   report = agree_report_once file flow versions (held file);
-  stages = λ a b x y. x ∙ sym y;
+  stages = λ a b x y. x.1 ∙ sym y.1;
   outputs = λ a b x y. x ∙ sym y;
 }
 determined (Some (Make seed count file)) held seen = record {
   status = λ a b x y. x ∙ sym y;
   report = λ a b x y. x ∙ sym y;
-  stages = λ a b x y. x ∙ sym y;
+  stages = λ a b x y. x.1 ∙ sym y.1;
   outputs = λ a b x y. x ∙ sym y;
 }
 determined (Some (Run file workers)) held seen = record {
@@ -217,9 +222,9 @@ determined (Some (Run file workers)) held seen = record {
       (λ script report. (runs : List FlowRun) × AreItsRuns script held seen runs × (report ≡ runs_report script runs))
       (λ a b x y. x ∙ sym y) (λ stop a b x y. x ∙ sym y)
       (λ script a b x y. x.2 ∙ ap (runs_report script) (runs_are_determined (plan_of script) held 1 packets_limit script.flows seen x.0 y.0 x.1 y.1) ∙ sym y.2);
-  stages = by_script_once file (held file) (λ stages. stages ≡ reading_stage file ∷ []) (λ stop stages. stages ≡ reading_stage file ∷ [])
+  stages = λ a b x y. by_script_once file (held file) (λ stages. stages ≡ reading_stage file ∷ []) (λ stop stages. stages ≡ reading_stage file ∷ [])
       (λ script stages. stages ≡ reading_stage file ∷ map flow_stage (take (length seen) script.flows))
-      (λ a b x y. x ∙ sym y) (λ stop a b x y. x ∙ sym y) (λ script a b x y. x ∙ sym y);
+      (λ a b x y. x ∙ sym y) (λ stop a b x y. x ∙ sym y) (λ script a b x y. x ∙ sym y) a b x.1 y.1;
   outputs = by_script_once file (held file) (λ outputs. outputs ≡ []) (λ stop outputs. outputs ≡ [])
       (λ script outputs. (runs : List FlowRun) × AreItsRuns script held seen runs × (outputs ≡ runs_outputs runs))
       (λ a b x y. x ∙ sym y) (λ stop a b x y. x ∙ sym y)

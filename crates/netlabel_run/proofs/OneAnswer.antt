@@ -14,7 +14,7 @@ use Rattle.script_run.specs.Runs.{AreWholeRuns, IsLawfulRun}
 use Rattle.script_run.specs.Report.{runs_report, runs_outputs}
 use Rattle.script_run.proofs.Law.{runs_know_their_inputs_alone}
 use Rattle.netlabel_run.specs.declared.command.Command.TheVariants.{Run}
-use Rattle.netlabel_run.specs.ScriptFile.{script_read, ByAnswer, ByScript}
+use Rattle.script_input.specs.ScriptFile.{script_read, ByAnswer, ByScript}
 use Rattle.netlabel_run.specs.Run.{AreItsRuns, RunReport, RunOutputs}
 use Rattle.netlabel_run.specs.Laws.{HasNoCommandBeside, HoldTheSame, IsAnswer}
 use Rattle.netlabel_run.proofs.Forced.{forced}

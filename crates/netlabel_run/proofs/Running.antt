@@ -31,14 +31,14 @@ use Rattle.netlabel_run.specs.declared.command.Command.{Command}
 use Rattle.netlabel_run.specs.declared.command.Command.TheVariants.{Run}
 use Rattle.call_report.specs.CallEnds.{CallEnds, HasBegun, EndsWith, Prints, Leaves, IsClean, IsRefusal, IsWritten, StopsInBody}
 use Rattle.call_report.specs.Says.{Says}
-use Rattle.netlabel_run.specs.ScriptFile.{script_read, script_stop_status, ByAnswer, ByScript}
+use Rattle.script_input.specs.ScriptFile.{script_read, script_stop_status, ByAnswer, ByScript}
 use Rattle.netlabel_run.specs.Run.{AreItsRuns, RunMay, flow_stage}
 use Rattle.netlabel_run.specs.Commands.{netlabel_says}
 use Rattle.call_report.specs.Lines.Script.{script_stop_line}
-use Rattle.netlabel_run.specs.inside.Ending.{IsOnlyRead, ReadsScript}
+use Rattle.call_report.specs.Outside.{IsOnlyRead}
+use Rattle.script_input.proofs.Law.{ReadsScript}
 use Rattle.netlabel_run.proofs.Access.{has_access, withholds}
-use Rattle.netlabel_run.proofs.Endings.{front_behind, part_of_line, printed_body}
-use Rattle.netlabel_run.proofs.Requests.{knows_reading}
+use Rattle.call_report.proofs.Law.{front_behind, part_of_line, printed_body, never_8, knows_reading}
 use Rattle.netlabel_run.proofs.Runs.{runs_same, runs_front, body_begins, line_begins, report_begins, done_has_no_event, done_is_whole, event_is_whole, input_of_last, output_of_last, none_of_theirs}
 
 -- ---- a file that holds a script
@@ -181,8 +181,10 @@ module _ (file : List ℕ) (workers : ℕ) (before : Outside) (folder : DepotSta
   begun = record {
     content = content_of before.folder.tells before.folder.held text;
     told = content_told before.folder.tells before.folder.held text;
-    are = as_script file (content_of before.folder.tells before.folder.held text file) text script (content_holds before.folder.tells before.folder.held text file holds) is _ _ _ refl;
-    flows = length-map (take (length seen) script.flows) flow_stage ∙ length-take-le (length seen) script.flows ends.begun;
+    are = (
+      length-map (take (length seen) script.flows) flow_stage ∙ length-take-le (length seen) script.flows ends.begun,
+      as_script file (content_of before.folder.tells before.folder.held text file) text script (content_holds before.folder.tells before.folder.held text file holds) is _ _ _ refl,
+    );
   }
 
   -- ---- causes
@@ -466,7 +468,7 @@ module _ (file : List ℕ) (workers : ℕ) (before : Outside) (folder : DepotSta
         let cause = cause_of OutOfMemory (is_by status OutOfMemory e) in
         (unwritten cause.0, elim cause.1 [ inl none ↦ inl (none_failed none) | inr rose ↦ inr (input_rose rose) ]);
     memory_alone = λ e none. elim (cause_of OutOfMemory (is_by status OutOfMemory e)).1 [ inl none' ↦ none_failed none' | inr rose ↦ absurd (none_rose none rose) ];
-    unmoved = λ e. none_failed (cause_of Done (is_by status Done e));
+    unmoved = λ done. elim done [ inl none ↦ none_failed (cause_of Done (is_by status Done none)) | inr eight ↦ absurd (never_8 status eight) ];
   }
 
   pub run_ends : CallEnds netlabel_says asked before after (status_number status) seen
@@ -529,14 +531,13 @@ pauses_so file held None r h = subst (λ (x : Report). Contains x.pauses []) (sy
 pauses_so file held (Some text) r h = pauses_by held (script_read file text) r h
 
 -- what it knows of the file that it reads
-pub run_reads : (file : List ℕ) (workers : ℕ) → ReadsScript (Some (Run file workers)) file
+pub run_reads : (file : List ℕ) (workers : ℕ) → ReadsScript (netlabel_says (Some (Run file workers))) file
 run_reads file workers = record {
-  form = λ e. absurd cc;
-  knows = λ before after reads told. knows_reading (netlabel_says (Some (Run file workers))) file before after
-      (of_each file _ _ _ refl (λ why. refl) (λ script. refl) (before.folder.held file))
+  knows = λ before after reads told. knows_reading (netlabel_says (Some (Run file workers))) (reading_stage file ∷ []) before after
+      (refl, of_each file _ _ _ refl (λ why. refl) (λ script. refl) (before.folder.held file))
       (of_each file _ _ _ refl (λ why. refl) (λ script. ([], tt, refl)) (before.folder.held file))
       (of_each file _ _ _ refl (λ why. refl) (λ script. ([], tt, All-nil (IsLawfulRun script workers))) (before.folder.held file))
-      reads told;
+      (has_access (Some (Run file workers)) before.folder.held []) (withholds (Some (Run file workers)) before.folder.held []) reads told;
   refused = λ held text why holds is. record {
     status = of_refused file (held file) text why holds is _ _ _ refl;
     report = of_refused file (held file) text why holds is _ _ _ refl;

@@ -36,10 +36,9 @@ use Rattle.call_report.specs.Status.{status_number, write_status}
 use Rattle.call_report.specs.Printing.{HandsOn, IsUnderWay, Printed}
 use Rattle.netlabel_run.specs.inside.Stopping.{stop_line, stop_status}
 use Rattle.call_report.proofs.Law.{a_report_begins, a_report_takes_a_text, a_report_goes_on, a_report_breaks, faults_rose_over_a_report, a_report_is_printed}
-use Rattle.netlabel_run.proofs.Endings.{HasParts, IsDue, ends_printed, ends_short, ends_unwritten, ends_stopped_short, ends_stopped_unread}
+use Rattle.call_report.proofs.Law.{Knows, Begins, HasParts, IsDue, asks, none_when_done, only_read, knows_file, ends_printed, ends_short, ends_unwritten, ends_stopped_short, ends_stopped_unread}
 use Rattle.netlabel_run.proofs.Once.{show_report_once}
-use Rattle.netlabel_run.specs.inside.Ending.{IsOnlyRead, Knows, Begins}
-use Rattle.netlabel_run.proofs.Requests.{only_read, knows_reading}
+use Rattle.call_report.specs.Outside.{IsOnlyRead}
 use Rattle.netlabel_run.proofs.Answer.{lines_count}
 use Rattle.netlabel_run.proofs.Showing.{IsAmid, amid_start, amid_next, Ends, ends_report, ends_status, ends_whole, ends_broken, ends_full, has_front, front_pauses, HasFront, some_report, first_pause, empty_is_broken, capture_with, whole_status, full_status}
 
@@ -84,7 +83,7 @@ module _ (file : List ℕ) where
   has_form e = absurd cc
 
   knows_show : (before after : Outside) → IsOnlyRead before.folder after.folder → after.stream.tells ≡ before.stream.tells → Knows (show_says file) before after (reading_stage file ∷ [])
-  knows_show before after reads told = knows_reading (show_says file) file before after refl refl refl reads told
+  knows_show before after reads told = knows_file file ShowReport ShowStatus ⊥ before after reads told
 
   -- it doesn't wait for the capture's end before it prints
   not_late : (show_says file).late [] → ⊥
@@ -100,16 +99,14 @@ module _ (file : List ℕ) where
   }
 
   -- what is due of a capture, by its body, the event's line and the status that is told
-  show_due : (before : Outside) (due : Status) (body last octets' : List ℕ) → status_number due ≡ capture_status (capture_file octets') → (status_number due ≡ 3 → ⊥) → (status_number due ≡ 4 → ⊥) → (status_number due ≡ 6 → ⊥) → (status_number due ≡ 1 → ⊥)
-      → (status_number due ≡ 0 → last ≡ []) → (IsTrue before.folder.tells → (show_says file).status before.folder.held (status_number due)) → (IsTrue before.folder.tells → HasParts (show_says file) before.folder.held body last) → IsDue asked before due body last
-  show_due before due body last octets' may not_3 not_4 not_6 not_1 done has parts = record {
+  show_due : (before : Outside) (due : Status) (body last octets' : List ℕ) → status_number due ≡ capture_status (capture_file octets') → (status_number due ≡ 3 → ⊥) → (status_number due ≡ 4 → ⊥) → (status_number due ≡ 6 → ⊥)
+      → (status_number due ≡ 0 → last ≡ []) → (IsTrue before.folder.tells → (show_says file).status before.folder.held (status_number due)) → (IsTrue before.folder.tells → HasParts (show_says file) before.folder.held body last) → IsDue (show_says file) before (status_number due) body last
+  show_due before due body last octets' may not_3 not_4 not_6 done has parts = record {
     event = (not_3, not_4, not_6);
-    form = λ e. absurd (not_1 e);
-    usage = λ e. absurd (has_form e);
     has = has;
     may = (λ name. Some octets', may);
     parts = parts;
-    last = done;
+    last = none_when_done due last done;
     whole = λ told. refl;
   }
 
@@ -209,8 +206,9 @@ module _ (file : List ℕ) (before now after : Outside) (reader : AnyFrames) (wa
       let amid = (showing.told told).2 in
       let count : length amid.lines ≡ n = lines_count 1 amid.frames amid.lines amid.are ∙ amid.count in
       record { report = lines_report amid.lines None; has = parts None whole told; body = λ i. sym amid.is i ++ shown_end_line (count i); last = refl } in
-      ends_printed (asked file) before after (reading_stage file ∷ []) (knows (Ok None) reads printed.told) Done (showing.text ++ end) []
-      (show_due file before Done (showing.text ++ end) [] (capture_with 0) whole_status (λ e. omega (arith, e)) (λ e. omega (arith, e)) (λ e. omega (arith, e)) (λ e. omega (arith, e)) (λ e. refl) (due None whole) has)
+      ends_printed netlabel_says (asked file) before after (reading_stage file ∷ []) (knows (Ok None) reads printed.told) Done (showing.text ++ end) []
+      (asks (asked file) 0 (showing.text ++ end) (has_form file) (λ e. omega (arith, e)))
+      (show_due file before Done (showing.text ++ end) [] (capture_with 0) whole_status (λ e. omega (arith, e)) (λ e. omega (arith, e)) (λ e. omega (arith, e)) (λ e. refl) (due None whole) has)
       status (same_reads (Ok None) reads (λ failed. absurd cc))
       (a_report_is_printed (showing.text ++ end) (waiting ++ end) before.stream now.stream (a_report_takes_a_text showing.text waiting before.stream now.stream showing.way end) [] Done status after.stream printed)
 
@@ -224,8 +222,9 @@ module _ (file : List ℕ) (before now after : Outside) (reader : AnyFrames) (wa
       let has : IsTrue before.folder.tells → HasParts (show_says file) before.folder.held showing.text line = λ told.
       let amid = (showing.told told).2 in
       record { report = lines_report amid.lines event; has = parts event ends told; body = sym amid.is; last = refl } in
-      ends_printed (asked file) before after (reading_stage file ∷ []) (knows result reads printed.told) kind showing.text line
-      (show_due file before kind showing.text line octets' may not_3 not_4 not_6 not_1 (λ e. absurd (not_0 e)) (due event ends) has)
+      ends_printed netlabel_says (asked file) before after (reading_stage file ∷ []) (knows result reads printed.told) kind showing.text line
+      (asks (asked file) (status_number kind) showing.text (has_form file) not_1)
+      (show_due file before kind showing.text line octets' may not_3 not_4 not_6 (λ e. absurd (not_0 e)) (due event ends) has)
       status (same_reads result reads other)
       (a_report_is_printed showing.text waiting before.stream now.stream showing.way line kind status after.stream printed)
 
@@ -257,12 +256,12 @@ module _ (file : List ℕ) (before now after : Outside) (reader : AnyFrames) (wa
   ends_at_stop (stop.Ng fault) packet next status reads answer printed =
       ends_at_fault (stop.Ng fault) (Pcapng fault) status reads (λ failed. absurd cc) (said packet next (Err (stop.Ng fault)) answer) printed
   ends_at_stop stop.ReadFault packet next status reads answer printed =
-      ends_stopped_unread (asked file) before after (reading_stage file ∷ []) (knows (Err stop.ReadFault) reads printed.told) showing.text (has_form file) begins status
+      ends_stopped_unread netlabel_says (asked file) before after (reading_stage file ∷ []) (knows (Err stop.ReadFault) reads printed.told) showing.text (has_form file) begins status
       (record { name = file; counted = inl refl; rose = then_rose before.folder now.folder after.folder showing.same stop.ReadFault (file_name_of reader) file showing.name reads })
       pauses (not_late file)
       (a_report_is_printed showing.text waiting before.stream now.stream showing.way [] ReadFault status after.stream printed)
   ends_at_stop stop.OutOfMemory packet next status reads answer printed =
-      ends_stopped_short (asked file) before after (reading_stage file ∷ []) (knows (Err stop.OutOfMemory) reads printed.told) showing.text (has_form file) begins status
+      ends_stopped_short netlabel_says (asked file) before after (reading_stage file ∷ []) (knows (Err stop.OutOfMemory) reads printed.told) showing.text (has_form file) begins status
       (same_reads (Err stop.OutOfMemory) reads (λ failed. absurd cc))
       (a_report_is_printed showing.text waiting before.stream now.stream showing.way [] OutOfMemory status after.stream printed)
 
@@ -301,14 +300,14 @@ module _ (file : List ℕ) (before now after : Outside) (reader : AnyFrames) (wa
         → CallEnds netlabel_says (asked file) before after (status_number (write_status fault)) []
     ends_at_write still Failed hands =
         let line = shown_line (n + 1) s in
-        ends_unwritten (asked file) before after (reading_stage file ∷ []) (knows (Ok (Some head)) reads hands.told) (showing.text ++ line) (has_form file)
+        ends_unwritten netlabel_says (asked file) before after (reading_stage file ∷ []) (knows (Ok (Some head)) reads hands.told) (showing.text ++ line) (has_form file)
         (faults_rose_over_a_report showing.text waiting before.stream now.stream showing.way after.stream (hands.counts.cause refl))
         (a_report_breaks showing.text waiting before.stream now.stream showing.way line after.stream hands.err)
         write_front
     ends_at_write still IoOutOfMemory hands =
         let line = shown_line (n + 1) s in
         let breaks = a_report_breaks showing.text waiting before.stream now.stream showing.way line after.stream hands.err in
-        ends_short (asked file) before after (reading_stage file ∷ []) (knows (Ok (Some head)) reads hands.told) (showing.text ++ line)
+        ends_short netlabel_says (asked file) before after (reading_stage file ∷ []) (knows (Ok (Some head)) reads hands.told) (showing.text ++ line)
         (inl (same_reads (Ok (Some head)) reads (λ failed. absurd cc))) (hands.counts.still (λ failed. absurd cc) ∙ showing.way.faults)
         write_front
         (λ out. let less = breaks.written out in record { count = less.count; within = omega (arith, less.within); written = less.written })
@@ -331,8 +330,9 @@ module _ (file : List ℕ) (before after : Outside) where
       → Printed [] (capture_line 1 fault) WrongCapture status before.stream after.stream → CallEnds netlabel_says (asked file) before after (status_number status) []
   ends_at_begin why fault status reads other there printed =
       let report = late_report [] (capture_line 1 fault) in
-      ends_printed (asked file) before after (reading_stage file ∷ []) (knows_begun why reads printed.told) WrongCapture [] (capture_line 1 fault)
-      (show_due file before WrongCapture [] (capture_line 1 fault) [] empty_is_broken (λ e. omega (arith, e)) (λ e. omega (arith, e)) (λ e. omega (arith, e)) (λ e. omega (arith, e)) (λ e. absurd (omega (arith, e)))
+      ends_printed netlabel_says (asked file) before after (reading_stage file ∷ []) (knows_begun why reads printed.told) WrongCapture [] (capture_line 1 fault)
+      (asks (asked file) 5 [] (has_form file) (λ e. omega (arith, e)))
+      (show_due file before WrongCapture [] (capture_line 1 fault) [] empty_is_broken (λ e. omega (arith, e)) (λ e. omega (arith, e)) (λ e. omega (arith, e)) (λ e. absurd (omega (arith, e)))
       (λ told. let t = there told in subst (λ (f : Option (List ℕ)). ShowStatus f 5) (sym t.1) (ap capture_status (sym t.2)))
       (λ told. let t = there told in record {
         report = report;
@@ -347,8 +347,8 @@ module _ (file : List ℕ) (before after : Outside) where
   ends_unbegun (stop.Capture fault) status reads answer printed = ends_at_begin (stop.Capture fault) (Pcap fault) status reads (λ failed. absurd cc) answer printed
   ends_unbegun (stop.Ng fault) status reads answer printed = ends_at_begin (stop.Ng fault) (Pcapng fault) status reads (λ failed. absurd cc) answer printed
   ends_unbegun stop.ReadFault status reads answer printed =
-      ends_stopped_unread (asked file) before after (reading_stage file ∷ []) (knows_begun stop.ReadFault reads printed.told) [] (has_form file) any_begins status
+      ends_stopped_unread netlabel_says (asked file) before after (reading_stage file ∷ []) (knows_begun stop.ReadFault reads printed.told) [] (has_form file) any_begins status
       (record { name = file; counted = inl refl; rose = reads.reads.cause refl })
       (λ told report has. first_pause (before.folder.held file) report has) (not_late file) printed
   ends_unbegun stop.OutOfMemory status reads answer printed =
-      ends_stopped_short (asked file) before after (reading_stage file ∷ []) (knows_begun stop.OutOfMemory reads printed.told) [] (has_form file) any_begins status (reads.reads.still (λ failed. absurd cc)) printed
+      ends_stopped_short netlabel_says (asked file) before after (reading_stage file ∷ []) (knows_begun stop.OutOfMemory reads printed.told) [] (has_form file) any_begins status (reads.reads.still (λ failed. absurd cc)) printed

@@ -5,7 +5,7 @@ use Rattle.call_report.specs.Report.{Folder, Versions, Report}
 use Rattle.call_report.specs.Output.{Output}
 use Rattle.call_report.specs.Says.{Says}
 use Rattle.script_run.specs.Runs.{HasNoneBeside}
-use Rattle.netlabel_run.specs.ScriptFile.{ByScript}
+use Rattle.script_input.specs.ScriptFile.{ByScript}
 use Rattle.netlabel_run.specs.Run.{run_says}
 
 -- at most one value is of the kind

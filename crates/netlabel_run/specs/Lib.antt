@@ -1,7 +1,4 @@
-pub mod Numbers
 pub mod Words
-pub mod Usage
-pub mod ScriptFile
 pub mod Judge
 pub mod Check
 pub mod Show

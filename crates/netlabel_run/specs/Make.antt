@@ -13,7 +13,7 @@ make_says seed count file = record {
   report = λ held seen report. report ≡ late_report (made_line count (delivered_made seed count) (denied_made seed count)) [];
   status = λ held status. status ≡ 0;
   possible = λ status. status ≡ 0;
-  stages = λ held seen stages. stages ≡ making_stage file ∷ [];
+  stages = λ held seen stages. (seen ≡ []) × (stages ≡ making_stage file ∷ []);
   outputs = λ held seen outputs. outputs ≡ record { name = file; octets = Some (capture_made seed count) } ∷ [];
   lawful = λ held seen. seen ≡ [];
   whole = λ held seen. seen ≡ [];

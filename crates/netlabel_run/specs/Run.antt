@@ -1,5 +1,5 @@
 -- `run`: the commands and flows of a script.
-use Rattle.std.specs.Prelude.{ℕ, ◌≡◌, ◌⊎◌, ◌<◌, List, [], ◌∷◌, length, take, map, All, Some, Result, Ok, Err}
+use Rattle.std.specs.Prelude.{ℕ, ◌≡◌, ◌⊎◌, ◌<◌, List, [], ◌∷◌, length, take, drop, map, All, Some, Result, Ok, Err}
 use Rattle.label_commands.specs.declared.script.Script.{Script}
 use Rattle.label_commands.specs.declared.stop.ScriptStop.{ScriptStop}
 use Rattle.flow_lines.specs.declared.flow.FlowLine.{FlowLine}
@@ -16,7 +16,7 @@ use Rattle.flow_access.specs.Valid.{plan_of}
 use Rattle.script_run.specs.Runs.{AreRuns, AreWholeRuns, IsLawfulRun, FlowsStatus}
 use Rattle.script_run.specs.Report.{runs_report, runs_outputs}
 use Rattle.call_report.specs.Says.{Says}
-use Rattle.netlabel_run.specs.ScriptFile.{script_read, ByScript, script_stop_status}
+use Rattle.script_input.specs.ScriptFile.{script_read, ByScript, script_stop_status}
 
 -- the flows of a script have run so, under the versions that were printed
 abbrev pub AreItsRuns : Script → Folder → Versions → List FlowRun → Type 0
@@ -45,9 +45,9 @@ RunMay (Ok script) status = (status ≡ 0) ⊎ ((0 < length script.flows) × ((s
 abbrev pub flow_stage : FlowLine → Stage
 flow_stage flow = record { input = Some flow.input; output = flow.output }
 
--- the script is read first, and then each flow's capture that was begun
+-- the script is read first, and then each flow's capture that was begun, of which versions were printed, if none of its packets
 abbrev pub RunStages : List ℕ → Folder → Versions → List Stage → Type 0
-RunStages file held seen stages = ByScript file (held file)
+RunStages file held seen stages = (length (drop 1 stages) ≡ length seen) × ByScript file (held file)
     (stages ≡ reading_stage file ∷ [])
     (λ stop. stages ≡ reading_stage file ∷ [])
     (λ script. stages ≡ reading_stage file ∷ map flow_stage (take (length seen) script.flows))

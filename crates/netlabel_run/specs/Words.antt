@@ -1,19 +1,15 @@
 -- The forms of the command line: what the words, without the program's name, ask for.
-use Rattle.std.specs.Prelude.{ℕ, ◌≡◌, ◌<◌, ◌≤◌, ◌^◌, IsTrue, List, [], ◌∷◌, map, codes, string_bytes, String, Option, Some, None}
+use Rattle.std.specs.Prelude.{ℕ, ◌≡◌, ◌<◌, ◌≤◌, ◌^◌, IsTrue, List, [], ◌∷◌, codes, Option, Some, None}
 use Rattle.std.specs.Fmt.{decimal}
-use Rattle.std.specs.declared.alloc.Global.{Global}
 use Rattle.mls_label.specs.declared.label.Label.{Label}
 use Rattle.mls_range.specs.LabelText.{IsLabelText}
 use Rattle.mls_range.specs.TextFault.{IsRoomyLabel}
 use Rattle.command_values.specs.Doi.{doi_of_text}
 use Rattle.flow_lines.specs.FileName.{is_file_name}
-use Rattle.netlabel_run.specs.Numbers.{number_named, versions_named}
+use Rattle.command_words.specs.Numbers.{number_named, versions_named}
+use Rattle.command_words.specs.Words.{NamesWorkers}
 use Rattle.netlabel_run.specs.declared.command.Command.{Command}
 use Rattle.netlabel_run.specs.declared.command.Command.TheVariants.{Judge, Check, Show, Agree, Make, Run}
-
--- the octets of each word
-abbrev pub texts_of : List (String Global) → List (List ℕ)
-texts_of words = map string_bytes words
 
 -- a level that a word may name: the text of a label that has room for its categories
 pub record IsLevel (text : List ℕ) (level : Label) : Type 0 where
@@ -38,12 +34,6 @@ pub record AsksToShow (words : List (List ℕ)) (file : List ℕ) : Type 0 where
 pub record AsksToCheck (words : List (List ℕ)) (file : List ℕ) : Type 0 where
   pub are : words ≡ codes "check" ∷ file ∷ []
   pub is_name : IsTrue (is_file_name file)
-
--- a word that names a number of workers: 1 to 16, without leading zeros
-pub record NamesWorkers (text : List ℕ) (workers : ℕ) : Type 0 where
-  pub is : text ≡ decimal workers
-  pub some : 0 < workers
-  pub few : workers ≤ 16
 
 -- `run <script>`, which has 4 workers, or `run <script> -w <n>`
 pub data AsksToRun (words : List (List ℕ)) (file : List ℕ) : ℕ → Type 0 where

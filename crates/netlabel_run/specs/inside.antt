@@ -1,3 +1,1 @@
 pub mod Stopping
-pub mod Ending
-pub mod Agreeing

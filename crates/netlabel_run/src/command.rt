@@ -1,9 +1,7 @@
 //! What the words of the command line ask for.
 
-use crate::versions::NamedVersions;
-use command_values::Doi;
+use command_words::{FileName, NamedDoi, NamedVersions, Workers};
 use mls_label::Label;
-use octet_grammar::read_decimal;
 use std::marker::Model;
 
 /// A command with what its words name.
@@ -40,117 +38,6 @@ pub(crate) enum Command<'a> {
         file: FileName<'a>,
         workers: Workers,
     },
-}
-
-/// A DOI, which isn't 0.
-#[derive(Debug, Drop)]
-pub(crate) struct NamedDoi {
-    number: u32,
-}
-
-impl Model for NamedDoi {
-    ghost use Rattle.std.specs.Prelude.{ℕ, ◌<◌};
-
-    ghost Value = { ℕ };
-
-    ghost view = { λ d. d.number };
-
-    ghost invariant = { λ d. 0 < d.number };
-}
-
-impl NamedDoi {
-    ghost use Rattle.std.specs.Prelude.{◌≡◌};
-
-    pub(crate) fn new(doi: Doi) -> NamedDoi
-        ensures { result ≡ doi }
-    {
-        NamedDoi { number: doi.get() }
-    }
-
-    pub(crate) fn doi(&self) -> Doi
-        ensures { result ≡ self.now }
-    {
-        Doi::of(self.number)
-    }
-}
-
-/// How many workers judge packets beside each other, 1 to 16.
-#[derive(Debug, Drop)]
-pub(crate) struct Workers {
-    number: usize,
-}
-
-impl Model for Workers {
-    ghost use Rattle.std.specs.Prelude.{ℕ, ◌<◌, ◌≤◌};
-
-    ghost Value = { ℕ };
-
-    ghost view = { λ w. w.number };
-
-    ghost invariant = { λ w. (0 < w.number) × (w.number ≤ 16) };
-}
-
-impl Workers {
-    ghost use Rattle.std.specs.Prelude.{◌≡◌, ◌<◌, ◌≤◌, ℕ, IfSome, IfNone};
-    ghost use Rattle.netlabel_run.specs.Words.{NamesWorkers};
-
-    /// So many as there are where the words name no number.
-    pub(crate) fn usual() -> Workers
-        ensures { result ≡ 4 }
-    {
-        Workers { number: 4 }
-    }
-
-    /// So many as a word names.
-    pub(crate) fn named(word: &str) -> Option<Workers>
-        ensures some { IfSome result (λ workers. NamesWorkers word.now workers) }
-        ensures none { IfNone result ((workers : ℕ) → NamesWorkers word.now workers → ⊥) }
-    {
-        let number = read_decimal(word.as_bytes())?;
-        if number == 0 || number > 16 {
-            return None;
-        }
-        Some(Workers {
-            number: number as usize,
-        })
-    }
-
-    pub(crate) fn number(&self) -> usize
-        ensures number { result ≡ self.now }
-        ensures some { (0 < result) × (result ≤ 16) }
-    {
-        self.number
-    }
-}
-
-/// The name of a file, as its octets.
-#[derive(Debug, Drop)]
-pub(crate) struct FileName<'a> {
-    name: &'a str,
-}
-
-impl<'a> Model for FileName<'a> {
-    ghost use Rattle.std.specs.Prelude.{List, ℕ};
-
-    ghost Value = { List ℕ };
-
-    ghost view = { λ f. f.name.now };
-}
-
-impl<'a> FileName<'a> {
-    ghost use Rattle.std.specs.Prelude.{◌≡◌};
-
-    pub(crate) fn new(name: &'a str) -> FileName<'a>
-        ensures { result ≡ name.now }
-    {
-        FileName { name }
-    }
-
-    pub(crate) fn as_str(&self) -> &'a str
-        ensures { result.now ≡ self.now }
-    {
-        self.name
-    }
 }
 
 /// A label that is lent.

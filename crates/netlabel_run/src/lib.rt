@@ -5,19 +5,16 @@
 mod agree;
 mod check;
 mod command;
-mod compare;
 mod judge;
 pub mod laws;
 mod make;
 mod outcome;
 mod run;
-mod script;
 mod show;
 #[cfg(test)]
 mod tests;
 mod top;
 mod verdict;
-mod versions;
 mod words;
 
 pub use call_report::{FlowSeen, Seen};

@@ -12,11 +12,11 @@ ghost use Rattle.call_report.specs.CallEnds.{CallEnds};
 ghost use Rattle.netlabel_run.specs.Commands.{netlabel_says};
 
 use crate::outcome::Outcome;
-use crate::script::script_of;
 use call_report::Status;
 use label_commands::Script;
 use label_flow::Gate;
 use net_io::{Depot, OutOfMemory, Sink};
+use script_input::script_of;
 use script_run::run_script;
 use std::alloc::Global;
 use std::sync::Wait;

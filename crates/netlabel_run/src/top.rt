@@ -2,7 +2,8 @@
 
 ghost use Rattle.std.specs.Prelude.{◌≡◌, ℕ, [], List, Option};
 ghost use Rattle.netlabel_run.specs.declared.command.Command.{Command as Asked};
-ghost use Rattle.netlabel_run.specs.Words.{texts_of, IsAsked};
+ghost use Rattle.command_words.specs.Words.{texts_of};
+ghost use Rattle.netlabel_run.specs.Words.{IsAsked};
 ghost use Rattle.call_report.specs.Outside.{Outside};
 ghost use Rattle.call_report.specs.Lines.Fixed.{usage_line};
 ghost use Rattle.call_report.specs.CallEnds.{CallEnds};

@@ -3,12 +3,11 @@
 ghost use Rattle.std.specs.Prelude.{◌≡◌, ◌≤◌, ℕ, [], ◌∷◌, codes, IsTrue, IfSome, IfNone};
 ghost use Rattle.std.specs.Fmt.{decimal};
 ghost use Rattle.mls_label.specs.declared.label.Label.{Label as LabelValue};
-ghost use Rattle.netlabel_run.specs.Words.{texts_of, IsAsked, IsLevel};
+ghost use Rattle.command_words.specs.Words.{texts_of};
+ghost use Rattle.netlabel_run.specs.Words.{IsAsked, IsLevel};
 
-use crate::command::{Command, FileName, Level, NamedDoi, Workers};
-use crate::versions::{NamedVersions, read_number};
-use command_values::read_doi;
-use flow_lines::is_file_name;
+use crate::command::{Command, Level};
+use command_words::{FileName, NamedDoi, NamedVersions, Workers, read_number};
 use mls_label::Label;
 use mls_range::read_label_into;
 use octet_grammar::read_decimal;
@@ -32,22 +31,16 @@ pub(crate) fn read_words<'a>(words: &'a [String], label: &'a mut Label) -> Optio
 fn read_two<'a>(command: &str, file: &'a str) -> Option<Command<'a>>
     ensures { IsAsked (command.now ∷ file.now ∷ []) result }
 {
-    if !is_file_name(file.as_bytes()) {
-        return None;
-    }
+    let file = FileName::named(file)?;
     if command == "show" {
-        return Some(Command::Show {
-            file: FileName::new(file),
-        });
+        return Some(Command::Show { file });
     }
     if command == "check" {
-        return Some(Command::Check {
-            file: FileName::new(file),
-        });
+        return Some(Command::Check { file });
     }
     if command == "run" {
         return Some(Command::Run {
-            file: FileName::new(file),
+            file,
             workers: Workers::usual(),
         });
     }
@@ -62,11 +55,9 @@ fn read_three<'a>(command: &str, file: &'a str, flow: &str) -> Option<Command<'a
         return None;
     }
     let flow = read_number(flow)?;
-    if !is_file_name(file.as_bytes()) {
-        return None;
-    }
+    let file = FileName::named(file)?;
     Some(Command::Agree {
-        file: FileName::new(file),
+        file,
         flow,
         versions: None,
     })
@@ -104,14 +95,9 @@ fn read_run<'a>(file: &'a str, flag: &str, number: &str) -> Option<Command<'a>>
     if flag != "-w" {
         return None;
     }
-    if !is_file_name(file.as_bytes()) {
-        return None;
-    }
+    let file = FileName::named(file)?;
     let workers = Workers::named(number)?;
-    Some(Command::Run {
-        file: FileName::new(file),
-        workers,
-    })
+    Some(Command::Run { file, workers })
 }
 
 /// Reads the words behind `agree`, where there are three.
@@ -120,11 +106,9 @@ fn read_agree<'a>(file: &'a str, flow: &str, versions: &'a str) -> Option<Comman
 {
     let flow = read_number(flow)?;
     let versions = NamedVersions::named(versions)?;
-    if !is_file_name(file.as_bytes()) {
-        return None;
-    }
+    let file = FileName::named(file)?;
     Some(Command::Agree {
-        file: FileName::new(file),
+        file,
         flow,
         versions: Some(versions),
     })
@@ -136,14 +120,8 @@ fn read_make<'a>(number: &str, count: &str, file: &'a str) -> Option<Command<'a>
 {
     let seed = read_decimal(number.as_bytes())?;
     let count = read_count(count)?;
-    if !is_file_name(file.as_bytes()) {
-        return None;
-    }
-    Some(Command::Make {
-        seed,
-        count,
-        file: FileName::new(file),
-    })
+    let file = FileName::named(file)?;
+    Some(Command::Make { seed, count, file })
 }
 
 /// Reads how many packets are to be made.
@@ -168,17 +146,15 @@ fn read_judge<'a>(
 ) -> Option<Command<'a>>
     ensures { IsAsked (codes "judge" ∷ doi.now ∷ level.now ∷ file.now ∷ []) result }
 {
-    let doi = read_doi(doi.as_bytes())?;
-    if !is_file_name(file.as_bytes()) {
-        return None;
-    }
+    let doi = NamedDoi::named(doi)?;
+    let file = FileName::named(file)?;
     if !read_level(level, label) {
         return None;
     }
     Some(Command::Judge {
-        doi: NamedDoi::new(doi),
+        doi,
         level: Level::new(label),
-        file: FileName::new(file),
+        file,
     })
 }
 

@@ -19,7 +19,7 @@ abbrev pub In : List (ℕ × ℕ) → ℕ × ℕ → Type 0
 In [] p = ⊥
 In (q ∷ pairs) p = (q ≡ p) ⊎ In pairs p
 
-number_in_pairs : (pairs : List (ℕ × ℕ)) (n m : ℕ) → number_by pairs n ≡ Some m → In pairs (n, m)
+pub number_in_pairs : (pairs : List (ℕ × ℕ)) (n m : ℕ) → number_by pairs n ≡ Some m → In pairs (n, m)
 number_in_pairs [] n m e = absurd (cc)
 number_in_pairs (p ∷ pairs) n m e =
     elim (cases_eq n p.0) [
@@ -43,7 +43,7 @@ in_all P (q ∷ pairs) each = and_from (P q) (list_all P pairs) (each q (inl ref
 -- ---- distinct categories mean different things
 
 module _ (cats : List (ℕ × ℕ)) (distinct : is_distinct cats ≡ true) where
-  parts : (is_one_to_one cats ≡ true) × (list_all (is_closed cats) cats ≡ true)
+  pub parts : (is_one_to_one cats ≡ true) × (list_all (is_closed cats) cats ≡ true)
   parts = and_parts (is_one_to_one cats) (list_all (is_closed cats) cats) distinct
 
   pub once_of : names_once cats ≡ true
@@ -71,7 +71,7 @@ module _ (cats : List (ℕ × ℕ)) (distinct : is_distinct cats ≡ true) where
 -- ---- and the other way round
 
 -- a pair of categories that are named once is what is found
-found_once : (pairs : List (ℕ × ℕ)) (p : ℕ × ℕ) → names_once pairs ≡ true → In pairs p → number_by pairs p.0 ≡ Some p.1
+pub found_once : (pairs : List (ℕ × ℕ)) (p : ℕ × ℕ) → names_once pairs ≡ true → In pairs p → number_by pairs p.0 ≡ Some p.1
 found_once [] p once h = absurd h
 found_once (q ∷ pairs) p once h =
     let parts = and_parts (not (has (firsts pairs) q.0)) (names_once pairs) once in
@@ -102,7 +102,7 @@ first_in (q ∷ pairs) p h =
       | inr more ↦ or_right (nat_eq p.0 q.0) (has (firsts pairs) p.0) (first_in pairs p more)
     ]
 
-below_in : (pairs : List (ℕ × ℕ)) (p : ℕ × ℕ) → All (λ (q : ℕ × ℕ). q.0 < 65535) pairs → In pairs p → p.0 < 65535
+pub below_in : (pairs : List (ℕ × ℕ)) (p : ℕ × ℕ) → All (λ (q : ℕ × ℕ). q.0 < 65535) pairs → In pairs p → p.0 < 65535
 below_in [] p all h = absurd h
 below_in (q ∷ pairs) p all h =
     elim h [

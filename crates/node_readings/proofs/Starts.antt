@@ -4,28 +4,34 @@ use Rattle.std.specs.List.{All}
 use Rattle.std.proofs.lemmas.List.Elements.{All-nil}
 use Rattle.node_readings.specs.declared.fault.ReadingFault.{ReadingFault}
 use Rattle.node_readings.specs.declared.fault.ReadingFault.TheVariants.{NotIncreasing, NotDistinct}
-use Rattle.node_readings.specs.Reading.{names_once, is_increasing, is_distinct, reading_fault, IsReading}
+use Rattle.node_readings.specs.Reading.{names_once, is_increasing, is_distinct, reading_fault}
+use Rattle.doi_table.specs.Pairs.{flipped}
 use Rattle.node_readings.specs.inside.Namings.{AreNamings}
+use Rattle.node_readings.specs.inside.Kept.{IsKept}
 use Rattle.node_readings.proofs.Increasing.{Climbs, steps_increasing, increasing_is}
 
-pub nothing_named : (levels cats : List (ℕ × ℕ)) → levels ≡ [] → cats ≡ [] → IsReading (record { levels = levels; cats = cats })
-nothing_named levels cats no_levels no_cats =
-    subst (λ xs. IsReading (record { levels = xs; cats = cats })) (sym no_levels) (subst (λ xs. IsReading (record { levels = []; cats = xs })) (sym no_cats) (record {
-      increasing = steps_increasing [] (λ n lt. omega arith);
-      levels_once = refl;
-      distinct = refl;
-      categories = All-nil (λ (p : ℕ × ℕ). p.0 < 65535);
-    }))
+pub nothing_kept : (levels cats by_meaning : List (ℕ × ℕ)) → levels ≡ [] → cats ≡ [] → by_meaning ≡ [] → IsKept levels cats by_meaning
+nothing_kept levels cats by_meaning no_levels no_cats no_meanings = rw (no_levels, no_cats, no_meanings) (record {
+  reading = record {
+    increasing = steps_increasing [] (λ n lt. omega arith);
+    levels_once = refl;
+    distinct = refl;
+    categories = All-nil (λ (p : ℕ × ℕ). p.0 < 65535);
+  };
+  turned = refl;
+})
 
-pub is_made : (levels cats by_level by_category : List (ℕ × ℕ)) → by_level ≡ levels → by_category ≡ cats → is_increasing levels ≡ true → names_once levels ≡ true → is_distinct cats ≡ true → All (λ (p : ℕ × ℕ). p.0 < 65535) cats
-    → IsReading (record { levels = by_level; cats = by_category })
-is_made levels cats by_level by_category same_levels same_cats increasing once distinct below =
-    subst (λ xs. IsReading (record { levels = xs; cats = by_category })) (sym same_levels) (subst (λ xs. IsReading (record { levels = levels; cats = xs })) (sym same_cats) (record {
-      increasing = increasing;
-      levels_once = once;
-      distinct = distinct;
-      categories = below;
-    }))
+pub is_kept : (levels cats by_level by_category by_meaning : List (ℕ × ℕ)) → by_level ≡ levels → by_category ≡ cats → by_meaning ≡ flipped cats → is_increasing levels ≡ true → names_once levels ≡ true → is_distinct cats ≡ true → All (λ (p : ℕ × ℕ). p.0 < 65535) cats
+    → IsKept by_level by_category by_meaning
+is_kept levels cats by_level by_category by_meaning same_levels same_cats turned increasing once distinct below = rw (same_levels, same_cats) (record {
+  reading = record {
+    increasing = increasing;
+    levels_once = once;
+    distinct = distinct;
+    categories = below;
+  };
+  turned = turned;
+})
 
 -- ---- what the code learns of the levels
 

@@ -1,1 +1,3 @@
 pub mod Namings
+pub mod Kept
+pub mod Meant

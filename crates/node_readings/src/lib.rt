@@ -3,6 +3,7 @@
 //! mean the same. Contracts see a reading as its two lists of named pairs.
 #![tactic(auto)]
 
+mod compare;
 mod fault;
 pub mod laws;
 mod namings;
@@ -10,6 +11,7 @@ mod reading;
 #[cfg(test)]
 mod tests;
 
+pub use compare::meaning_dominates;
 pub use fault::ReadingFault;
 pub use mls_label::OutOfMemory;
 pub use reading::Reading;

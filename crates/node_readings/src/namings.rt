@@ -2,14 +2,13 @@
 
 ghost use Rattle.std.specs.Prelude.{◌≡◌, ◌↔◌, ℕ, ◌+◌, ◌<◌, ◌||◌, not, nat_le, [], ◌∷◌, ◌++◌, is_some, IsTrue, IfOk, if◌then◌else◌};
 ghost use Rattle.std.specs.List.{list_all};
-ghost use Rattle.doi_table.specs.Pairs.{number_by, flipped, are_distinct, seconds};
+ghost use Rattle.doi_table.specs.Pairs.{number_by};
 ghost use Rattle.node_readings.specs.Reading.{meaning_in};
 ghost use Rattle.node_readings.specs.inside.Namings.{AreNamings};
 
 use indexmap::IndexMap;
 use mls_label::OutOfMemory;
 use std::alloc::Global;
-use std::collections::BTreeSet;
 
 /// A number and what it means.
 pub type Naming = (u32, u32);
@@ -73,19 +72,6 @@ pub fn is_increasing(first: &IndexMap<u32, u32>) -> bool
         }
     }
     true
-}
-
-/// Whether no two pairs have the same meaning.
-pub fn mean_different_things(alloc: Global, pairs: &[Naming]) -> Result<bool, OutOfMemory>
-    ensures { IfOk result (λ differ. differ ≡ are_distinct (seconds pairs.now)) }
-{
-    let mut seen = BTreeSet::new(alloc);
-    let mut differ = true;
-    for (_, meaning) in pairs {
-        let new = seen.insert(*meaning)?;
-        differ = differ && new;
-    }
-    Ok(differ)
 }
 
 /// Whether each meaning below 65,535 is a number that is named itself.

@@ -1,35 +1,35 @@
 //! A reading: what each level and each category of a node means.
 
-ghost use Rattle.std.specs.Prelude.{◌≡◌, ◌<◌, [], length, slice_get, true, false, None, Some, IfOk, IfErr, OnOk, MatchOption};
+ghost use Rattle.std.specs.Prelude.{◌≡◌, ℕ, ◌<◌, [], length, slice_get, true, None, Some, IfOk, IfErr, OnOk, MatchOption};
 ghost use Rattle.std.specs.List.{All};
-ghost use Rattle.node_readings.specs.Reading.{meaning_in, is_distinct, reading_fault, IsReading, IsReadingFault};
+ghost use Rattle.doi_table.specs.Pairs.{number_by, flipped, seconds, are_distinct};
+ghost use Rattle.node_readings.specs.Reading.{meaning_in, names_once, is_distinct, reading_fault, IsReading, IsReadingFault};
 
 use crate::fault::ReadingFault;
-use crate::namings::{
-    Naming, Namings, are_closed, is_increasing, mean_different_things, meaning, namings_of,
-};
+use crate::namings::{Naming, Namings, are_closed, is_increasing, meaning, namings_of};
 use indexmap::IndexMap;
 use mls_label::OutOfMemory;
 use std::alloc::Global;
 use std::marker::Model;
 
 /// What each of a node's levels and categories means, where a number that isn't named means itself. The meanings of levels
-/// strictly increase, and those of categories differ: its type keeps that.
+/// strictly increase, and those of categories differ: its type keeps that. A category is found by its meaning too.
 #[derive(Drop)]
 pub struct Reading {
     levels: IndexMap<u32, u32>,
     cats: IndexMap<u32, u32>,
+    by_meaning: IndexMap<u32, u32>,
 }
 
 impl Model for Reading {
-    ghost use Rattle.node_readings.specs.Reading.{NamedMeanings, IsReading};
+    ghost use Rattle.node_readings.specs.Reading.{NamedMeanings};
+    ghost use Rattle.node_readings.specs.inside.Kept.{IsKept};
 
     ghost Value = { NamedMeanings };
 
     ghost view = { λ r. record { levels = r.levels.entries; cats = r.cats.entries } };
 
-    ghost invariant = { λ r. IsReading
-        (record { levels = r.levels.entries; cats = r.cats.entries }) };
+    ghost invariant = { λ r. IsKept r.levels.entries r.cats.entries r.by_meaning.entries };
 }
 
 impl Reading {
@@ -50,16 +50,17 @@ impl Reading {
         if !is_increasing(&first) {
             return Err(ReadingFault::NotIncreasing);
         }
-        let named = distinct_categories(alloc, categories)?;
+        let named = category_namings(alloc, categories)?;
         if !once {
             return Err(ReadingFault::NotDistinct);
         }
-        if !named.once {
+        if !named.distinct {
             return Err(ReadingFault::NotDistinct);
         }
         Ok(Reading {
             levels: first,
             cats: named.first,
+            by_meaning: named.by_meaning,
         })
     }
 
@@ -70,6 +71,7 @@ impl Reading {
         Ok(Reading {
             levels: IndexMap::new(alloc),
             cats: IndexMap::new(alloc),
+            by_meaning: IndexMap::new(alloc),
         })
     }
 
@@ -88,6 +90,34 @@ impl Reading {
         ensures reading { IsReading self.now }
     {
         meaning(&self.cats, u32::from(c))
+    }
+
+    /// The category that has a meaning, or `None` where no category has it.
+    pub fn find_category(&self, meaning: u32) -> Option<u16>
+        ensures category { MatchOption result
+            ((c : ℕ) → c < 65535 → meaning_in self.now.cats c ≡ meaning → ⊥)
+            (λ c. (c < 65535) × (meaning_in self.now.cats c ≡ meaning)) }
+        ensures reading { IsReading self.now }
+    {
+        match self.by_meaning.get(&meaning) {
+            Some(category) => Some(*category as u16),
+            None => self.unnamed_category(meaning),
+        }
+    }
+
+    // The category with this number, unless it is named.
+    fn unnamed_category(&self, number: u32) -> Option<u16>
+        ensures { MatchOption result
+            (number < 65535 → number_by self.now.cats number ≡ None → ⊥)
+            (λ c. (c ≡ number) × (c < 65535) × (number_by self.now.cats number ≡ None)) }
+    {
+        if number >= 65535 {
+            return None;
+        }
+        if self.cats.contains_key(&number) {
+            return None;
+        }
+        Some(number as u16)
     }
 
     /// How many categories are named.
@@ -110,16 +140,52 @@ impl Reading {
     }
 }
 
-// The namings of categories, `once` where they are distinct.
-fn distinct_categories(alloc: Global, cats: &[(u16, u32)]) -> Result<Namings, OutOfMemory>
-    ensures once { IfOk result (λ n. n.once ≡ is_distinct cats.now) }
-    ensures whole { IfOk result (λ n. n.once ≡ true → n.first.entries ≡ cats.now) }
+// The namings of categories, by the category and by the meaning, and whether they are distinct.
+#[derive(Drop)]
+struct CategoryNamings {
+    first: IndexMap<u32, u32>,
+    by_meaning: IndexMap<u32, u32>,
+    distinct: bool,
+}
+
+fn category_namings(alloc: Global, cats: &[(u16, u32)]) -> Result<CategoryNamings, OutOfMemory>
+    ensures distinct { IfOk result (λ n. n.distinct ≡ is_distinct cats.now) }
+    ensures whole { IfOk result (λ n. n.distinct ≡ true → n.first.entries ≡ cats.now) }
+    ensures turned { IfOk result
+        (λ n. n.distinct ≡ true → n.by_meaning.entries ≡ flipped cats.now) }
 {
     let pairs = widened_categories(alloc, cats)?;
     let Namings { first, once } = namings_of(alloc, &pairs)?;
-    let differ = mean_different_things(alloc, &pairs)?;
-    let once = once && differ && are_closed(&pairs, &first);
-    Ok(Namings { first, once })
+    let Namings {
+        first: by_meaning,
+        once: differ,
+    } = meanings_of(alloc, cats)?;
+    let distinct = are_distinct(&pairs, &first, once, differ);
+    Ok(CategoryNamings {
+        first,
+        by_meaning,
+        distinct,
+    })
+}
+
+// Whether the categories of pairs are distinct, where the first namings of them and what was learned of numbers and of meanings are given.
+fn are_distinct(pairs: &[Naming], first: &IndexMap<u32, u32>, once: bool, differ: bool) -> bool
+    requires once { once ≡ names_once pairs.now }
+    requires differ { differ ≡ are_distinct (seconds pairs.now) }
+    requires first { once ≡ true → first.now.entries ≡ pairs.now }
+    ensures { result ≡ is_distinct pairs.now }
+{
+    once && differ && are_closed(pairs, first)
+}
+
+// The namings of categories, each with the meaning in front.
+fn meanings_of(alloc: Global, cats: &[(u16, u32)]) -> Result<Namings, OutOfMemory>
+    ensures once { IfOk result (λ n. n.once ≡ are_distinct (seconds cats.now)) }
+    ensures turned { IfOk result (λ n. n.once ≡ true → n.first.entries ≡ flipped cats.now) }
+{
+    let turned = turned_categories(alloc, cats)?;
+    let namings = namings_of(alloc, &turned)?;
+    Ok(namings)
 }
 
 fn widened_levels(alloc: Global, levels: &[(u8, u32)]) -> Result<Vec<Naming>, OutOfMemory>
@@ -140,4 +206,14 @@ fn widened_categories(alloc: Global, cats: &[(u16, u32)]) -> Result<Vec<Naming>,
         wide.push((u32::from(*category), *meaning))?;
     }
     Ok(wide)
+}
+
+fn turned_categories(alloc: Global, cats: &[(u16, u32)]) -> Result<Vec<Naming>, OutOfMemory>
+    ensures { IfOk result (λ turned. turned.items ≡ flipped cats.now) }
+{
+    let mut turned = Vec::with_capacity(alloc, cats.len())?;
+    for (category, meaning) in cats {
+        turned.push((*meaning, u32::from(*category)))?;
+    }
+    Ok(turned)
 }

@@ -6,6 +6,7 @@ pub mod Listings
 pub mod Names
 pub mod Defined
 pub mod Stepping
+pub mod Lists
 pub mod Once
 pub mod Valid
 pub mod Law

@@ -1,3 +1,4 @@
 pub mod Pieces
 pub mod Turns
 pub mod Kept
+pub mod Lists

@@ -1,6 +1,7 @@
 //! The nodes of a script.
 
-ghost use Rattle.std.specs.Prelude.{◌≡◌, ◌<◌, Some, length, slice_get, replicate, IfOk, OnOk, OnErr};
+ghost use Rattle.std.specs.Prelude.{◌≡◌, ◌<◌, ℕ, List, Some, length, slice_get, replicate, IfOk, IsOk, OnOk, OnErr};
+ghost use Rattle.node_tables.specs.declared.reply.Reply.TheVariants.{Listed};
 ghost use Rattle.node_tables.specs.Tables.{fresh};
 ghost use Rattle.node_tables.specs.Steps.{step_applied, step_reply};
 
@@ -70,6 +71,18 @@ impl Network {
         ensures err { OnErr result (self.new ≡ self.old) }
     {
         self.nodes[step.node].obey(&step.command)
+    }
+
+    /// Carries out a step as `apply` does, without a reply: it takes no memory for the lines of a listing. After an error nothing has
+    /// changed.
+    pub fn advance(&mut self, step: &Step) -> Result<(), OutOfMemory>
+        requires { step.now.node < length self.old }
+        ensures tables { OnOk result (self.new ≡ step_applied self.old step.now) }
+        ensures listing { (lines : List (List ℕ))
+            → step_reply self.old step.now ≡ Some (Listed lines) → IsOk result }
+        ensures err { OnErr result (self.new ≡ self.old) }
+    {
+        self.nodes[step.node].change(&step.command)
     }
 }
 

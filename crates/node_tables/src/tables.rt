@@ -1,14 +1,16 @@
 //! The tables of one node.
 
-ghost use Rattle.std.specs.Prelude.{◌≡◌, IfOk, IfSome, Some, option_copied};
+ghost use Rattle.std.specs.Prelude.{◌≡◌, ℕ, List, IfOk, IfSome, IsOk, OnOk, OnErr, Some, option_copied};
 ghost use Rattle.mls_label.specs.Label.{Dominates};
 ghost use Rattle.mls_label.specs.declared.label.Proto.TheVariants.{Cipso};
 ghost use Rattle.doi_table.specs.Definition.{IsPlan};
 ghost use Rattle.command_values.specs.Tags.{AreTags};
 ghost use Rattle.script_lines.specs.declared.command.Command.TheVariants.{MapAdd, MapDel, MapList, UnlblAdd, UnlblDel, UnlblList, ReceiverAdd, ReceiverDel, RangeAdd, RangeDel, PairAdd, PairDel, MgmtVersion, MgmtProtocols};
+ghost use Rattle.node_tables.specs.declared.reply.Reply.TheVariants.{Listed};
 ghost use Rattle.node_tables.specs.Tables.{fresh, find_receiver_of, find_range_of, six_of, four_of};
 ghost use Rattle.node_tables.specs.Coherence.{IsCoherent};
-ghost use Rattle.node_tables.specs.Effect.{becomes, pass_plan, trans_plan, definition_effect, deletion_effect, listing_effect, effect_of};
+ghost use Rattle.node_tables.specs.Effect.{becomes, pass_plan, trans_plan, definition_effect, deletion_effect, listing_effect, effect_of, applied, reply_of};
+ghost use Rattle.node_tables.specs.inside.Lists.{is_listing};
 ghost use Rattle.node_tables.specs.inside.Turns.{Answers, Follows};
 ghost use Rattle.node_tables.specs.inside.Kept.{IsGiven};
 
@@ -223,6 +225,21 @@ impl Tables {
             Command::MgmtVersion => self.list_version(),
             Command::MgmtProtocols => self.list_protocols(),
         }
+    }
+
+    /// Carries out a command and gives no reply. The lines of a listing aren't made, so that one takes no memory. After an error nothing
+    /// has changed.
+    pub(crate) fn change(&mut self, command: &Command) -> Result<(), OutOfMemory>
+        ensures ok { OnOk result (self.new ≡ applied self.old command.now) }
+        ensures listing { (lines : List (List ℕ))
+            → reply_of self.old command.now ≡ Listed lines → IsOk result }
+        ensures err { OnErr result (self.new ≡ self.old) }
+    {
+        if is_listing(command) {
+            return Ok(());
+        }
+        let _reply = self.obey(command)?;
+        Ok(())
     }
 
     // The definitions of DOIs.
@@ -444,4 +461,19 @@ fn replied(turned: Result<(), Stop>) -> Result<Reply, OutOfMemory>
         Err(Stop::Refused(why)) => Ok(Reply::Refused(why)),
         Err(Stop::OutOfMemory) => Err(OutOfMemory),
     }
+}
+
+/// Whether a command lists lines, and so changes nothing.
+fn is_listing(command: &Command) -> bool
+    ensures { result ≡ is_listing command.now }
+{
+    matches!(
+        command,
+        Command::CipsoList { .. }
+            | Command::CalipsoList { .. }
+            | Command::MapList
+            | Command::UnlblList
+            | Command::MgmtVersion
+            | Command::MgmtProtocols
+    )
 }

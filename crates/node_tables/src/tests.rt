@@ -341,6 +341,38 @@ fn answers_commands(rt: HostRuntime) {
     }
 }
 
+/// What both nodes list.
+fn of_both(rt: &impl Abort, alloc: Global, network: &mut Network) -> Vec<u8> {
+    let mut all = listings(rt, alloc, network, 0);
+    all.extend_from_slice(&listings(rt, alloc, network, 1))
+        .expect(rt, "memory");
+    all
+}
+
+/// Gives the steps of these rows to one network with their replies, and to another without them.
+fn goes_on(rt: &impl Abort, alloc: Global, rows: Rows) {
+    let mut replied = Network::fresh(alloc, 2).expect(rt, "memory");
+    let mut silent = Network::fresh(alloc, 2).expect(rt, "memory");
+    for (node, line, _) in rows {
+        let step = step(rt, alloc, *node, line.as_bytes());
+        assert!(rt; step.node < replied.nodes() && step.node < silent.nodes());
+        let _reply = replied.apply(&step).expect(rt, "memory");
+        silent.advance(&step).expect(rt, "memory");
+        let (all, same) = (
+            of_both(rt, alloc, &mut replied),
+            of_both(rt, alloc, &mut silent),
+        );
+        assert!(rt; all == same, "{line} without its reply");
+    }
+}
+
+#[test]
+fn goes_on_without_replies(rt: HostRuntime) {
+    for rows in [NAMED, DEFINITIONS, ENTRIES, LABELS, OTHERS, APART] {
+        goes_on(&rt, rt.alloc(), rows);
+    }
+}
+
 /// What is set at the second node.
 const SET: Rows = &[
     (1, "range add default range:s0-s1", "done"),

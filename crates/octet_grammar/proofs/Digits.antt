@@ -1,5 +1,5 @@
 -- Decimal texts, digit by digit.
-use Rattle.std.proofs.Common.{◌≡◌, ℕ, suc, zero, ◌+◌, ◌-◌, ◌*◌, ◌/◌, ◌%◌, ◌^◌, ◌<◌, ◌≤◌, List, [], ◌∷◌, ◌++◌, length, get_or, set, take, drop, refl, sym, ap, subst, ◌∙◌, append_assoc, arith, inl, inr, ◌⊎◌, Option, Some, None}
+use Rattle.std.proofs.Common.{◌≡◌, ℕ, suc, zero, ◌+◌, ◌-◌, ◌*◌, ◌/◌, ◌%◌, ◌^◌, ◌<◌, ◌≤◌, List, [], ◌∷◌, ◌++◌, length, get_or, set, take, drop, refl, sym, ap, subst, ◌∙◌, append_assoc, arith, inl, inr, ◌⊎◌, if◌then◌else◌, nat_lt, Option, Some, None}
 use Rattle.std.specs.Prelude.{IfSome, IfNone}
 use Rattle.std.specs.Char.{digit_value}
 use Rattle.std.specs.Fmt.{decimal}
@@ -7,6 +7,7 @@ use Rattle.std.specs.Str.Parse.{AllDigits, digits_value, digits_value_after}
 use Rattle.std.proofs.lemmas.List.{length-append}
 use Rattle.std.proofs.lemmas.Fmt.{decimal_digit, decimal_step, length-decimal-le, decimal_nonempty, first_decimal, digits_decimal, digits_value-decimal, decimal-digits_value}
 use Rattle.std.proofs.lemmas.Str.Parse.{IsNumeralModel}
+use Rattle.std.proofs.lemmas.Bool.{cond-true, cond-false, lt-ltb, le-ltb, cases_lt}
 use Rattle.std.proofs.lemmas.Bool.Decides.{nat_tests}
 use Rattle.std.proofs.lemmas.Int.Digits.{digits_value_more, digits_more}
 
@@ -42,6 +43,55 @@ five_digits n many few =
     let front = four_digits (n / 10) (omega arith) (omega arith) in
     decimal_step n (omega arith) (omega arith) ∙ ap (λ t. t ++ (48 + n % 10) ∷ []) front
     ∙ (λ i. (48 + thousands i % 10) ∷ (48 + hundreds i % 10) ∷ (48 + tens i % 10) ∷ (48 + n / 10 % 10) ∷ (48 + n % 10) ∷ [])
+
+-- the digit that counts this power of ten, where the number has it
+abbrev pub counted : ℕ → ℕ → List ℕ
+counted n power = if nat_lt n power then [] else (48 + n / power % 10) ∷ []
+
+uncounted : (n power : ℕ) → n < power → counted n power ≡ []
+uncounted n power small = cond-true (nat_lt n power) [] ((48 + n / power % 10) ∷ []) (lt-ltb n power small)
+
+is_counted : (n power : ℕ) → power ≤ n → counted n power ≡ (48 + n / power % 10) ∷ []
+is_counted n power large = cond-false (nat_lt n power) [] ((48 + n / power % 10) ∷ []) (le-ltb n power large)
+
+-- the last digit, and in front of it those that count higher powers
+abbrev pub behind_higher : ℕ → List ℕ → List ℕ → List ℕ → List ℕ → List ℕ
+behind_higher n a b c d = a ++ (b ++ (c ++ (d ++ (48 + n % 10) ∷ [])))
+
+below_10 : (n : ℕ) → n < 10 → decimal n ≡ behind_higher n (counted n 10000) (counted n 1000) (counted n 100) (counted n 10)
+below_10 n one = decimal_digit n one ∙ ap (λ k. (48 + k) ∷ []) (omega arith)
+    ∙ sym (λ i. behind_higher n (uncounted n 10000 (omega arith) i) (uncounted n 1000 (omega arith) i) (uncounted n 100 (omega arith) i) (uncounted n 10 one i))
+
+below_100 : (n : ℕ) → n < 100 → (n < 10) ⊎ (10 ≤ n) → decimal n ≡ behind_higher n (counted n 10000) (counted n 1000) (counted n 100) (counted n 10)
+below_100 n few (inl fewer) = below_10 n fewer
+below_100 n few (inr many) = two_digits n many few
+    ∙ sym (λ i. behind_higher n (uncounted n 10000 (omega arith) i) (uncounted n 1000 (omega arith) i) (uncounted n 100 few i) (is_counted n 10 many i))
+
+below_1000 : (n : ℕ) → n < 1000 → (n < 100) ⊎ (100 ≤ n) → decimal n ≡ behind_higher n (counted n 10000) (counted n 1000) (counted n 100) (counted n 10)
+below_1000 n few (inl fewer) = below_100 n fewer (cases_lt n 10)
+below_1000 n few (inr many) = three_digits n many few
+    ∙ sym (λ i. behind_higher n (uncounted n 10000 (omega arith) i) (uncounted n 1000 few i) (is_counted n 100 many i) (is_counted n 10 (omega arith) i))
+
+below_10000 : (n : ℕ) → n < 10000 → (n < 1000) ⊎ (1000 ≤ n) → decimal n ≡ behind_higher n (counted n 10000) (counted n 1000) (counted n 100) (counted n 10)
+below_10000 n few (inl fewer) = below_1000 n fewer (cases_lt n 100)
+below_10000 n few (inr many) = four_digits n many few
+    ∙ sym (λ i. behind_higher n (uncounted n 10000 few i) (is_counted n 1000 many i) (is_counted n 100 (omega arith) i) (is_counted n 10 (omega arith) i))
+
+below_100000 : (n : ℕ) → n < 100000 → (n < 10000) ⊎ (10000 ≤ n) → decimal n ≡ behind_higher n (counted n 10000) (counted n 1000) (counted n 100) (counted n 10)
+below_100000 n few (inl fewer) = below_10000 n fewer (cases_lt n 1000)
+below_100000 n few (inr many) = five_digits n many few
+    ∙ sym (λ i. behind_higher n (is_counted n 10000 many i) (is_counted n 1000 (omega arith) i) (is_counted n 100 (omega arith) i) (is_counted n 10 (omega arith) i))
+
+by_parts : (old a b c d e : List ℕ) → ((((old ++ a) ++ b) ++ c) ++ d) ++ e ≡ old ++ (a ++ (b ++ (c ++ (d ++ e))))
+by_parts old a b c d e = simp append_assoc
+
+-- digit by digit behind a text, the spelling of a number of at most five digits
+pub digits_appended : (n : ℕ) (old : List ℕ) → n < 100000
+    → ((((old ++ counted n 10000) ++ counted n 1000) ++ counted n 100) ++ counted n 10) ++ (48 + n % 10) ∷ [] ≡ old ++ decimal n
+digits_appended n old few =
+    let joined : ((((old ++ counted n 10000) ++ counted n 1000) ++ counted n 100) ++ counted n 10) ++ (48 + n % 10) ∷ [] ≡ old ++ behind_higher n (counted n 10000) (counted n 1000) (counted n 100) (counted n 10) =
+    by_parts old (counted n 10000) (counted n 1000) (counted n 100) (counted n 10) ((48 + n % 10) ∷ []) in
+    joined ∙ ap (λ t. old ++ t) (sym (below_100000 n few (cases_lt n 10000)))
 
 pub room_for_decimal : (n : ℕ) → n < 2 ^ 64 → length (decimal n) ≤ 20
 room_for_decimal n small = length-decimal-le 20 n (omega arith) (omega arith) small

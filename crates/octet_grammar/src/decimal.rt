@@ -1,7 +1,7 @@
 //! Numbers as decimal text, without sign or leading zero: the one spelling that words, texts of labels and the report share. A contract sees
 //! the spelling as std's `decimal`, which is what `{}` prints.
 
-ghost use Rattle.std.specs.Prelude.{◌≡◌, ℕ, ◌+◌, ◌*◌, ◌%◌, ◌<◌, ◌≤◌, ◌^◌, ◌⊎◌, ◌++◌, length, drop, slice_index, IfSome, IfNone, MatchBool, OnOk, OnErr};
+ghost use Rattle.std.specs.Prelude.{◌≡◌, ℕ, ◌+◌, ◌*◌, ◌/◌, ◌%◌, ◌<◌, ◌≤◌, ◌^◌, ◌⊎◌, [], ◌∷◌, ◌++◌, if◌then◌else◌, nat_lt, length, drop, slice_index, vec_len, vec_capacity, IfSome, IfNone, MatchBool, OnOk, OnErr};
 ghost use Rattle.std.specs.Option.{SomeIff};
 ghost use Rattle.std.specs.Fmt.{decimal};
 ghost use Rattle.std.specs.Str.Parse.{AllDigits, digits_value};
@@ -11,39 +11,52 @@ use std::alloc::AllocError;
 /// As many digits as a `u64` has at the most.
 const MOST_DIGITS: usize = 20;
 
+/// As many digits as a `u16` has at the most.
+const SHORT_DIGITS: usize = 5;
+
 /// Appends the decimal text of a number. After an error `out` is as it was.
-#[tactic(auto, using(std::proofs::lemmas::Fmt::decimal_digit, crate::proofs::Digits::two_digits, crate::proofs::Digits::three_digits, crate::proofs::Digits::four_digits, crate::proofs::Digits::five_digits))]
 pub fn write_decimal(n: u64, out: &mut Vec<u8>) -> Result<(), AllocError>
     ensures ok { OnOk result (out.new.items ≡ out.old.items ++ decimal n) }
     ensures err { OnErr result (out.new.items ≡ out.old.items) }
 {
     // Most numbers are short, and then no room for 20 digits has to be cleared.
-    if n < 10 {
-        return out.extend_from_slice(&[digit(n)]);
+    let Ok(short) = u16::try_from(n) else {
+        return write_long(n, out);
+    };
+    out.reserve(SHORT_DIGITS)?;
+    push_decimal(short, out);
+    Ok(())
+}
+
+/// Appends the decimal text of a number of 16 bits where there is room for five digits.
+#[tactic(auto, using(crate::proofs::Digits::digits_appended))]
+pub fn push_decimal(n: u16, out: &mut Vec<u8>)
+    requires room { vec_len out.old + 5 ≤ vec_capacity out.old }
+    ensures { out.new.items ≡ out.old.items ++ decimal n }
+{
+    push_digit(n, 10000, out);
+    push_digit(n, 1000, out);
+    push_digit(n, 100, out);
+    push_digit(n, 10, out);
+    out.push_reserved(digit(n));
+}
+
+/// Appends the digit that counts this power of ten, where the number has it.
+fn push_digit(n: u16, power: u16, out: &mut Vec<u8>)
+    requires power { 0 < power }
+    requires room { vec_len out.old < vec_capacity out.old }
+    ensures items { out.new.items ≡ out.old.items
+        ++ (if nat_lt n power then [] else (48 + n / power % 10) ∷ []) }
+    ensures len { vec_len out.new ≤ vec_len out.old + 1 }
+    ensures capacity { vec_capacity out.new ≡ vec_capacity out.old }
+{
+    if n >= power {
+        out.push_reserved(digit(n / power));
     }
-    if n < 100 {
-        return out.extend_from_slice(&[digit(n / 10), digit(n)]);
-    }
-    if n < 1000 {
-        return out.extend_from_slice(&[digit(n / 100), digit(n / 10), digit(n)]);
-    }
-    if n < 10000 {
-        return out.extend_from_slice(&[digit(n / 1000), digit(n / 100), digit(n / 10), digit(n)]);
-    }
-    if n < 100000 {
-        return out.extend_from_slice(&[
-            digit(n / 10000),
-            digit(n / 1000),
-            digit(n / 100),
-            digit(n / 10),
-            digit(n),
-        ]);
-    }
-    write_long(n, out)
 }
 
 /// The last digit of a number.
-fn digit(n: u64) -> u8
+fn digit(n: u16) -> u8
     ensures { result ≡ 48 + n % 10 }
 {
     b'0' + (n % 10) as u8

@@ -10,7 +10,7 @@ mod memory;
 mod number;
 mod octet;
 
-pub use decimal::{read_decimal, write_decimal};
+pub use decimal::{push_decimal, read_decimal, write_decimal};
 pub use fault::{WireFault, WireKind};
 pub use memory::OutOfMemory;
 pub use number::{nonzero_at, number_in, u16_at, u32_at};

@@ -11,11 +11,12 @@ use Rattle.shared_tables.specs.Plan.{PlanState, network_after}
 use Rattle.packet_walk.specs.declared.packet.PacketIn.{PacketIn}
 use Rattle.packet_walk.specs.declared.walked.End.{End}
 use Rattle.packet_walk.specs.declared.walked.End.TheVariants as the_end
-use Rattle.packet_walk.specs.Walk.{Coming, IsReadFrom, IsWalkOf, denied, hop_verdict}
+use Rattle.packet_walk.specs.Walk.{Coming, IsReadFrom, IsWalkOf, Rises, denied, hop_verdict}
 use Rattle.packet_walk.specs.NoOption.{HopHasNoOption, MeetsNoOption}
 use Rattle.packet_walk.proofs.NoOption.{denies, ends_denied}
 use Rattle.packet_walk.proofs.Told.{hop_told, walk_told}
 use Rattle.packet_walk.proofs.OneWay.{read_once, one_way, over_beginning, one_cut}
+use Rattle.packet_walk.proofs.ByVersions.{rises_wider}
 
 pub walks_end_in_one_way : (plan : PlanState) (hops : List Hop) (packet : PacketIn) (versions : List ℕ) (end end' : End) (out out' : List ℕ) → IsWalkOf plan hops packet versions end out
     → IsWalkOf plan hops packet versions end' out' → (end ≡ end') × (out ≡ out')
@@ -47,3 +48,6 @@ hops_that_tell_inexpressible_have_no_option = hop_told
 pub walks_that_tell_inexpressible_meet_no_option : (plan : PlanState) (hops : List Hop) (packet : PacketIn) (versions : List ℕ) (out : List ℕ) (at : ℕ)
     → IsWalkOf plan hops packet versions (the_end.Denied at Inexpressible) out → MeetsNoOption plan hops packet versions at Inexpressible
 walks_that_tell_inexpressible_meet_no_option = walk_told
+
+pub versions_rise_between_wider_bounds : (low high lower higher : ℕ) (versions : List ℕ) → lower ≤ low → high ≤ higher → Rises low high versions → Rises lower higher versions
+versions_rise_between_wider_bounds = rises_wider

@@ -127,8 +127,8 @@ pub record GoesOn (plan : PlanState) (hops : List Hop) (packet : List ℕ) (bega
 pub goes_first : (plan : PlanState) (hops : List Hop) (packet : List ℕ) (began : ℕ) → GoesOn plan hops packet began 0 Unlabelled packet began []
 goes_first plan hops packet began = record { rest = λ now after end left walked. walked }
 
-hops_at : (hops : List Hop) (at : ℕ) (hop : Hop) → at < length hops → hop ≡ get_or hops at hop → drop at hops ≡ hop ∷ drop (at + 1) hops
-hops_at hops at hop within is = drop-cons hops at hop within ∙ ap (λ h. h ∷ drop (suc at) hops) (sym is) ∙ ap (λ n. hop ∷ drop n hops) (suc-eq-add-one at)
+pub place_at : {X : Type 0} (xs : List X) (at : ℕ) (x : X) → at < length xs → x ≡ get_or xs at x → drop at xs ≡ x ∷ drop (at + 1) xs
+place_at xs at x within is = drop-cons xs at x within ∙ ap (λ y. y ∷ drop (suc at) xs) (sym is) ∙ ap (λ n. x ∷ drop n xs) (suc-eq-add-one at)
 
 module _ (plan : PlanState) (hops : List Hop) (packet : List ℕ) (began at : ℕ) (carrier : Carrier) (octets : List ℕ) (seen : ℕ) (before : List ℕ)
     (goes : GoesOn plan hops packet began at carrier octets seen before) where
@@ -136,7 +136,7 @@ module _ (plan : PlanState) (hops : List Hop) (packet : List ℕ) (began at : �
   goes_at : (hop : Hop) (now : ℕ) (after : List ℕ) (end : End) (left : List ℕ) → at < length hops → hop ≡ get_or hops at hop
       → HasWalked plan (at + 1) (hop ∷ drop (at + 1) hops) carrier octets seen now before after end left → HasWalked plan 1 hops Unlabelled packet began now [] after end left
   goes_at hop now after end left within is walked =
-      goes.rest now after end left (subst (λ (hs : List Hop). HasWalked plan (at + 1) hs carrier octets seen now before after end left) (sym (hops_at hops at hop within is)) walked)
+      goes.rest now after end left (subst (λ (hs : List Hop). HasWalked plan (at + 1) hs carrier octets seen now before after end left) (sym (place_at hops at hop within is)) walked)
 
   pub goes_more : (hop : Hop) (next : Carrier) (mid : ℕ) (label : Label) (out : List ℕ) → at < length hops → hop ≡ get_or hops at hop
       → HasJudged plan seen mid hop octets (Goes next) label out → GoesOn plan hops packet began (at + 1) next out mid (before ++ mid ∷ [])

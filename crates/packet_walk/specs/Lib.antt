@@ -1,3 +1,4 @@
 pub mod Walk
+pub mod Stepping
 pub mod NoOption
 pub mod inside

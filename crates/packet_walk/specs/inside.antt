@@ -1,3 +1,4 @@
 pub mod Hop
 pub mod Way
 pub mod Slot
+pub mod Named

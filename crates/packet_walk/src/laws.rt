@@ -12,7 +12,7 @@ ghost use Rattle.shared_tables.specs.Plan.{PlanState, network_after};
 ghost use Rattle.packet_walk.specs.declared.packet.PacketIn.{PacketIn};
 ghost use Rattle.packet_walk.specs.declared.walked.End.{End};
 ghost use Rattle.packet_walk.specs.declared.walked.End.TheVariants as the_end;
-ghost use Rattle.packet_walk.specs.Walk.{Coming, IsReadFrom, IsWalkOf, denied, hop_verdict};
+ghost use Rattle.packet_walk.specs.Walk.{Coming, IsReadFrom, IsWalkOf, Rises, denied, hop_verdict};
 ghost use Rattle.packet_walk.specs.NoOption.{HopHasNoOption, MeetsNoOption};
 
 /// Under given versions a packet's walk ends in one way, and leaves the same octets.
@@ -77,4 +77,10 @@ pub fn walks_are_cut_in_one_way()
     ensures { (plan : PlanState) (hops : List Hop) (packet : PacketIn) (a b r s : List ℕ)
         (end end' : End) (out out' : List ℕ) → a ++ r ≡ b ++ s
         → IsWalkOf plan hops packet a end out → IsWalkOf plan hops packet b end' out' → a ≡ b }
+{}
+
+/// Versions that don't fall from one bound to another don't fall between wider bounds.
+pub fn versions_rise_between_wider_bounds()
+    ensures { (low high lower higher : ℕ) (versions : List ℕ) → lower ≤ low → high ≤ higher
+        → Rises low high versions → Rises lower higher versions }
 {}

@@ -140,14 +140,14 @@ fn walk_hops<G: Gate>(
 }
 
 // The packet as it comes behind so many hops.
-fn coming<'a>(hops: usize, packet: &'a [u8], out: &'a Vec<u8>) -> &'a [u8]
+pub(crate) fn coming<'a>(hops: usize, packet: &'a [u8], out: &'a Vec<u8>) -> &'a [u8]
     ensures { result.now ≡ octets_behind hops packet.now out.now.items }
 {
     if hops == 0 { packet } else { out.as_slice() }
 }
 
 // Leaves in `out` the packet as it comes behind so many hops.
-fn leave(hops: usize, packet: &[u8], out: &mut Vec<u8>) -> Result<(), OutOfMemory>
+pub(crate) fn leave(hops: usize, packet: &[u8], out: &mut Vec<u8>) -> Result<(), OutOfMemory>
     ensures { OnOk result (out.new.items ≡ octets_behind hops packet.now out.old.items) }
 {
     if hops == 0 {

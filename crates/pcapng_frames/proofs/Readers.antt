@@ -1,5 +1,6 @@
 -- A reader stands in its file.
-use Rattle.std.proofs.Common.{arith, ◌≡◌, ◌+◌, ◌-◌, ℕ, List, [], ◌∷◌, ◌++◌, length, drop, Result, Ok, Err, Option, Some, None, refl, ap, sym, subst, ◌∙◌}
+use Rattle.std.proofs.Common.{arith, ◌≡◌, ◌+◌, ◌-◌, ℕ, true, List, [], ◌∷◌, ◌++◌, take, drop, Result, Ok, Err, Option, Some, None, refl, ap, sym, subst, ◌∙◌}
+use Rattle.std.proofs.lemmas.Slice.Eq.{bytes_eq-Decides}
 use Rattle.std.proofs.lemmas.Bool.Decides.{nat_tests}
 use Rattle.std.proofs.lemmas.List.{take-append-drop}
 use Rattle.file_window.specs.declared.order.OctetOrder.{OctetOrder}
@@ -14,7 +15,7 @@ use Rattle.pcapng_frames.specs.declared.fault.NgFault.{NgFault}
 use Rattle.pcapng_frames.specs.Section.{Section, no_section}
 use Rattle.pcapng_frames.specs.Head.{head_by, block_order, block_head_at, whole_at}
 use Rattle.pcapng_frames.specs.Block.{NgBlock, said_by, behind_whole, behind_block_head, block_at}
-use Rattle.pcapng_frames.specs.Capture.{IsNgFile}
+use Rattle.pcapng_frames.specs.Capture.{is_pcapng}
 use Rattle.pcapng_frames.specs.Reader.{NgReader, AreBlocks, NgChain, NgStandsIn}
 use Rattle.pcapng_frames.specs.inside.Parts.{passed_block, frame_block, turn_block}
 use Rattle.pcapng_frames.proofs.Chains.{whole_same, chain_more, no_blocks}
@@ -41,23 +42,31 @@ pub begun : (file name : List ℕ) (section : Section) (place : ℕ) (ahead : Li
     → NgStandsIn (record { name = name; section = section; place = place; ahead = ahead }) file
 begun file name section place ahead here front = record { chain = chain_more file no_section 0 no_section 0 section place None (no_blocks file no_section 0) (omega arith) here; ahead = front }
 
--- the first four octets are the type of a section header in each order
-kind_first : (order : OctetOrder) (file : List ℕ) → IsNgFile file → ordered_number order 4 file ≡ 0x0A0D0D0A
-unfolding ordered_number
-kind_first Little file is = ap (ordered_number Little 4) (sym (take-append-drop 4 file) ∙ ap (λ front. front ++ drop 4 file) is) ∙ number_front Little 4 (0x0a ∷ 0x0d ∷ 0x0d ∷ 0x0a ∷ []) (drop 4 file) (omega arith)
-kind_first Big file is = ap (ordered_number Big 4) (sym (take-append-drop 4 file) ∙ ap (λ front. front ++ drop 4 file) is) ∙ number_front Big 4 (0x0a ∷ 0x0d ∷ 0x0d ∷ 0x0a ∷ []) (drop 4 file) (omega arith)
+-- the first four octets
+front_of : (file : List ℕ) → is_pcapng file ≡ true → take 4 file ≡ 0x0a ∷ 0x0d ∷ 0x0d ∷ 0x0a ∷ []
+front_of file is = (bytes_eq-Decides (take 4 file) (0x0a ∷ 0x0d ∷ 0x0d ∷ 0x0a ∷ [])).0 is
 
-first_by : (file : List ℕ) (at : ℕ) (order : Option OctetOrder) (head : BlockHead) → IsNgFile file → head_by at file order ≡ Ok (Some head) → head.kind ≡ 0x0A0D0D0A
+-- they are the type of a section header in each order
+kind_first : (order : OctetOrder) (file : List ℕ) → is_pcapng file ≡ true → ordered_number order 4 file ≡ 0x0A0D0D0A
+unfolding ordered_number
+kind_first Little file is =
+    ap (ordered_number Little 4) (sym (take-append-drop 4 file) ∙ ap (λ front. front ++ drop 4 file) (front_of file is))
+    ∙ number_front Little 4 (0x0a ∷ 0x0d ∷ 0x0d ∷ 0x0a ∷ []) (drop 4 file) (omega arith)
+kind_first Big file is =
+    ap (ordered_number Big 4) (sym (take-append-drop 4 file) ∙ ap (λ front. front ++ drop 4 file) (front_of file is))
+    ∙ number_front Big 4 (0x0a ∷ 0x0d ∷ 0x0d ∷ 0x0a ∷ []) (drop 4 file) (omega arith)
+
+first_by : (file : List ℕ) (at : ℕ) (order : Option OctetOrder) (head : BlockHead) → is_pcapng file ≡ true → head_by at file order ≡ Ok (Some head) → head.kind ≡ 0x0A0D0D0A
 first_by file at None head first is = cc
 first_by file at (Some order) head first is = let kind = kind_first order file first in grind (arith, nat_tests)
 
-first_head : (order : OctetOrder) (at : ℕ) (file : List ℕ) (head : BlockHead) → IsNgFile file → block_head_at order at file ≡ Ok (Some head) → head.kind ≡ 0x0A0D0D0A
+first_head : (order : OctetOrder) (at : ℕ) (file : List ℕ) (head : BlockHead) → is_pcapng file ≡ true → block_head_at order at file ≡ Ok (Some head) → head.kind ≡ 0x0A0D0D0A
 unfolding block_head_at
 first_head order at file head first is = let by = first_by file at (block_order order file) head first in grind (arith, nat_tests)
 
-not_empty : (order : OctetOrder) (at : ℕ) (file : List ℕ) → IsNgFile file → block_head_at order at file ≡ Ok None → ⊥
+not_empty : (order : OctetOrder) (at : ℕ) (file : List ℕ) → is_pcapng file ≡ true → block_head_at order at file ≡ Ok None → ⊥
 unfolding block_head_at
-not_empty order at [] first is = (let none = ap length first in omega (arith, none))
+not_empty order at [] first is = absurd (let no = first in cc)
 not_empty order at (octet ∷ file) first is = not_some (block_order order (octet ∷ file)) (grind (arith, nat_tests)) where
   not_some : (found : Option OctetOrder) → head_by at (octet ∷ file) found ≡ Ok None → ⊥
   not_some None is = cc
@@ -77,7 +86,7 @@ whole_frame section at rest head (Err fault) block kind was is = cc
 whole_frame section at rest head (Ok other) block kind was is =
     said_frame section at rest other (said_by section at rest other) block (ap (λ (h : BlockHead). h.kind) (whole_same at rest head other was) ∙ kind) refl is
 
-head_frame : (section : Section) (at : ℕ) (file : List ℕ) (said : Result (Option BlockHead) NgFault) (block : NgBlock) → IsNgFile file → block_head_at section.order at file ≡ said
+head_frame : (section : Section) (at : ℕ) (file : List ℕ) (said : Result (Option BlockHead) NgFault) (block : NgBlock) → is_pcapng file ≡ true → block_head_at section.order at file ≡ said
     → behind_block_head section at file said ≡ Ok (Some block) → block.frame ≡ None
 head_frame section at file (Err fault) block first was is = cc
 head_frame section at file (Ok None) block first was is = cc
@@ -90,14 +99,14 @@ behind_none section at rest (Ok head) is = said_none (said_by section at rest he
   said_none (Err fault) was = (let no = rw was at is in cc)
   said_none (Ok block) was = (let no = rw was at is in cc)
 
-head_none : (section : Section) (at : ℕ) (file : List ℕ) (said : Result (Option BlockHead) NgFault) → IsNgFile file → block_head_at section.order at file ≡ said
+head_none : (section : Section) (at : ℕ) (file : List ℕ) (said : Result (Option BlockHead) NgFault) → is_pcapng file ≡ true → block_head_at section.order at file ≡ said
     → behind_block_head section at file said ≡ Ok None → ⊥
 head_none section at file (Err fault) first was is = cc
 head_none section at file (Ok None) first was is = not_empty section.order at file first was
 head_none section at file (Ok (Some head)) first was is = behind_none section at file (whole_at at file head) is
 
 -- the first block of a pcapng file gives no frame, and isn't the file's end
-pub begins_passed : (file : List ℕ) (section : Section) (size : ℕ) (octets : List ℕ) (turn : Turn) → IsNgFile file → block_at no_section 0 file ≡ Ok (turn_block section size octets turn) → turn ≡ Passed
+pub begins_passed : (file : List ℕ) (section : Section) (size : ℕ) (octets : List ℕ) (turn : Turn) → is_pcapng file ≡ true → block_at no_section 0 file ≡ Ok (turn_block section size octets turn) → turn ≡ Passed
 begins_passed file section size octets End first is = absurd (head_none no_section 0 file (block_head_at no_section.order 0 file) first refl is)
 begins_passed file section size octets Passed first is = refl
 begins_passed file section size octets (Frame head) first is =

@@ -1,5 +1,5 @@
 -- A whole pcapng file: blocks to the file's end or to the first fault, of which some give frames.
-use Rattle.std.specs.Prelude.{◌≡◌, ℕ, zero, suc, ◌+◌, List, [], ◌∷◌, length, take, drop, Option, Some, None, Result, Ok, Err}
+use Rattle.std.specs.Prelude.{◌≡◌, ℕ, zero, suc, ◌+◌, Bool, true, List, [], ◌∷◌, length, take, drop, bytes_eq, Option, Some, None, Result, Ok, Err}
 use Rattle.pcapng_frames.specs.declared.fault.NgFault.{NgFault}
 use Rattle.pcapng_frames.specs.Section.{Section, no_section}
 use Rattle.pcapng_frames.specs.Block.{NgFrame, NgBlock, block_at}
@@ -28,9 +28,9 @@ blocks_within (suc n) section at rest = with_block (blocks_within n) at rest (bl
 unfoldable pub frames_at : Section → ℕ → List ℕ → NgCapture
 frames_at section at rest = blocks_within (length rest) section at rest
 
--- a file is pcapng where its first four octets are 0a 0d 0d 0a
-abbrev pub IsNgFile : List ℕ → Type 0
-IsNgFile file = take 4 file ≡ 0x0a ∷ 0x0d ∷ 0x0d ∷ 0x0a ∷ []
+-- a file is pcapng where its first four octets are 0a 0d 0d 0a, the type of a section header
+abbrev pub is_pcapng : List ℕ → Bool
+is_pcapng file = bytes_eq (take 4 file) (0x0a ∷ 0x0d ∷ 0x0d ∷ 0x0a ∷ [])
 
 -- what a pcapng file holds, from its first section header on
 abbrev pub ng_of : List ℕ → NgCapture
@@ -38,4 +38,4 @@ ng_of file = frames_at no_section 0 file
 
 -- the octets are this pcapng capture: whole blocks to the end
 abbrev pub IsNg : List ℕ → NgCapture → Type 0
-IsNg file capture = IsNgFile file × ((ng_of file ≡ capture) × (capture.fault ≡ None))
+IsNg file capture = (is_pcapng file ≡ true) × ((ng_of file ≡ capture) × (capture.fault ≡ None))

@@ -6,8 +6,8 @@ ghost use Rattle.pcapng_frames.specs.Head.{least_total, whole_at};
 ghost use Rattle.pcapng_frames.specs.Block.{said_by, block_at};
 ghost use Rattle.pcapng_frames.specs.Capture.{frames_at};
 ghost use Rattle.pcapng_frames.specs.Reader.{IsNgAnswer, NgChain, next_at, found_here};
-ghost use Rattle.pcapng_frames.specs.inside.Parts.{left_of, StandsAt, HasNanos, turn_said, turn_block};
-ghost use Rattle.pcapng_frames.specs.inside.Table.{IsLater};
+ghost use Rattle.pcapng_frames.specs.inside.Parts.{rest_at, IsAhead, HasNanos, turn_said, turn_block};
+ghost use Rattle.pcapng_frames.specs.inside.Table.{KeepsTable};
 
 use crate::describing::{take_interface, take_section};
 use crate::head::{BlockHead, INTERFACE, OBSOLETE, PACKET, SECTION_HEADER, SIMPLE};
@@ -44,21 +44,21 @@ fn take_block<D: Depot>(
     requires held { min head.total 65536 ≤ length window.old }
     requires near { place < 2 ^ 40 }
     requires empty { into.old.items ≡ [] }
-    requires ahead { StandsAt (D.state depot.old) name.now place window.old }
+    requires ahead { IsAhead (D.state depot.old) name.now place window.old }
     requires place { place + length window.old < 2 ^ 64 }
     requires whole { IsTrue (D.state depot.old).tells
-        → head.total ≤ length (left_of (D.state depot.old) name.now place) }
+        → head.total ≤ length (rest_at (D.state depot.old) name.now place) }
     ensures answer { IsTrue (D.state depot.old).tells
         → IsNgAnswer (turn_said section.new.section head.total into.new.items) result
-        (said_by section.old.section place (left_of (D.state depot.old) name.now place) head) }
+        (said_by section.old.section place (rest_at (D.state depot.old) name.now place) head) }
     ensures some { IfOk result (λ turn. turn ≡ Turn.End → ⊥) }
     ensures passed { IfOk result (λ turn. turn ≡ Turn.Passed → into.new.items ≡ []) }
-    ensures later { IsLater section.old section.new }
+    ensures later { KeepsTable section.old section.new }
     ensures nanos { IfOk result (λ turn. HasNanos turn) }
     ensures captured { OnOk result (vec_len into.new ≤ 262144) }
     ensures memory { vec_capacity into.old ≤ vec_capacity into.new }
     ensures ahead { OnOk result
-        (StandsAt (D.state depot.old) name.now (place + head.total) window.new) }
+        (IsAhead (D.state depot.old) name.now (place + head.total) window.new) }
     ensures place { OnOk result (place + head.total + length window.new < 2 ^ 64) }
     ensures frame { OnlyReads NgStop.ReadFault result name.now (D.state depot.old)
         (D.state depot.new) }
@@ -94,11 +94,11 @@ pub fn read_block<D: Depot>(
     into: &mut Vec<u8>,
 ) -> Result<Turn, NgStop>
     requires empty { into.old.items ≡ [] }
-    requires ahead { StandsAt (D.state depot.old) name.now place.old window.old }
+    requires ahead { IsAhead (D.state depot.old) name.now place.old window.old }
     requires place { place.old + length window.old < 2 ^ 64 }
     ensures answer { IsTrue (D.state depot.old).tells
         → IsNgAnswer (turn_block section.new.section (place.new - place.old) into.new.items) result
-        (block_at section.old.section place.old (left_of (D.state depot.old) name.now place.old)) }
+        (block_at section.old.section place.old (rest_at (D.state depot.old) name.now place.old)) }
     ensures end { IfOk result (λ turn. turn ≡ Turn.End → place.new ≡ place.old) }
     ensures stays { IfOk result (λ turn. turn ≡ Turn.End → section.new ≡ section.old) }
     ensures moved { IfOk result (λ turn. turn ≡ Turn.Passed → place.old + 12 ≤ place.new) }
@@ -106,11 +106,11 @@ pub fn read_block<D: Depot>(
     ensures passed { IfOk result (λ turn. turn ≡ Turn.Passed → into.new.items ≡ []) }
     ensures none { IfOk result (λ turn. turn ≡ Turn.End → into.new.items ≡ []) }
     ensures onward { place.old ≤ place.new }
-    ensures later { IsLater section.old section.new }
+    ensures later { KeepsTable section.old section.new }
     ensures nanos { IfOk result (λ turn. HasNanos turn) }
     ensures captured { OnOk result (vec_len into.new ≤ 262144) }
     ensures memory { vec_capacity into.old ≤ vec_capacity into.new }
-    ensures ahead { OnOk result (StandsAt (D.state depot.old) name.now place.new window.new) }
+    ensures ahead { OnOk result (IsAhead (D.state depot.old) name.now place.new window.new) }
     ensures place { OnOk result (place.new + length window.new < 2 ^ 64) }
     ensures frame { OnlyReads NgStop.ReadFault result name.now (D.state depot.old)
         (D.state depot.new) }
@@ -134,25 +134,25 @@ pub fn read_frame<D: Depot>(
     into: &mut Vec<u8>,
 ) -> Result<Option<NgHead>, NgStop>
     requires empty { into.old.items ≡ [] }
-    requires ahead { StandsAt (D.state depot.old) name.now place.old window.old }
+    requires ahead { IsAhead (D.state depot.old) name.now place.old window.old }
     requires place { place.old + length window.old < 2 ^ 64 }
     ensures answer { IsTrue (D.state depot.old).tells
         → IsNgAnswer (option_map (found_here section.new.section place.new into.new.items)) result
-        (next_at section.old.section place.old (left_of (D.state depot.old) name.now place.old)) }
+        (next_at section.old.section place.old (rest_at (D.state depot.old) name.now place.old)) }
     ensures chain { OnOk result
         (IsTrue (D.state depot.old).tells
         → NgChain (octets_of ((D.state depot.old).held name.now))
         section.old.section place.old section.new.section place.new) }
     ensures end { IfOk result (λ read. read ≡ None → IsTrue (D.state depot.old).tells
-        → frames_at section.new.section place.new (left_of (D.state depot.old) name.now place.new)
+        → frames_at section.new.section place.new (rest_at (D.state depot.old) name.now place.new)
         ≡ record { frames = []; fault = None }) }
     ensures none { IfOk result (λ read. read ≡ None → into.new.items ≡ []) }
     ensures onward { place.old ≤ place.new }
-    ensures later { IsLater section.old section.new }
+    ensures later { KeepsTable section.old section.new }
     ensures nanos { IfOk result (λ read. IfSome read (λ head. head.nanos < 1000000000)) }
     ensures captured { OnOk result (vec_len into.new ≤ 262144) }
     ensures memory { vec_capacity into.old ≤ vec_capacity into.new }
-    ensures ahead { OnOk result (StandsAt (D.state depot.old) name.now place.new window.new) }
+    ensures ahead { OnOk result (IsAhead (D.state depot.old) name.now place.new window.new) }
     ensures place { OnOk result (place.new + length window.new < 2 ^ 64) }
     ensures frame { OnlyReads NgStop.ReadFault result name.now (D.state depot.old)
         (D.state depot.new) }

@@ -5,8 +5,8 @@ ghost use Rattle.file_window.specs.Window.{IsFrom};
 ghost use Rattle.pcapng_frames.specs.Options.{option_at, resolution_at};
 ghost use Rattle.pcapng_frames.specs.Block.{section_block, interface_block};
 ghost use Rattle.pcapng_frames.specs.Reader.{IsNgAnswer};
-ghost use Rattle.pcapng_frames.specs.inside.Parts.{left_of, StandsAt, passed_block, IsSaid};
-ghost use Rattle.pcapng_frames.specs.inside.Table.{IsLater};
+ghost use Rattle.pcapng_frames.specs.inside.Parts.{rest_at, IsAhead, passed_block, IsSaid};
+ghost use Rattle.pcapng_frames.specs.inside.Table.{KeepsTable};
 
 use crate::head::BlockHead;
 use crate::look::have;
@@ -33,7 +33,7 @@ pub fn take_section(
         (section_block place rest head) }
     ensures moved { OnOk result (window.new ≡ drop head.total window.old) }
     ensures kept { OnErr result (section.new ≡ section.old) }
-    ensures later { IsLater section.old section.new }
+    ensures later { KeepsTable section.old section.new }
 {
     if head.order.u16_at(window.ahead(), 12) != 1 {
         return Err(NgFault {
@@ -55,16 +55,16 @@ fn option_here<D: Depot>(
     left: u32,
     window: &mut Window,
 ) -> Result<Option<BlockOption>, NgStop>
-    requires ahead { StandsAt (D.state depot.old) name.now at window.old }
+    requires ahead { IsAhead (D.state depot.old) name.now at window.old }
     requires place { at + length window.old < 2 ^ 64 }
     requires there { IsTrue (D.state depot.old).tells
         → at + (left + 4) ≤ length (octets_of ((D.state depot.old).held name.now)) }
     ensures answer { IsTrue (D.state depot.old).tells
         → IsNgAnswer (λ read. read) result
-        (option_at order at left (left_of (D.state depot.old) name.now at)) }
+        (option_at order at left (rest_at (D.state depot.old) name.now at)) }
     ensures some { IfOk result (λ read. IfSome read (λ option. 4 ≤ option.size)) }
     ensures fits { IfOk result (λ read. IfSome read (λ option. option.size ≤ left)) }
-    ensures ahead { StandsAt (D.state depot.old) name.now at window.new }
+    ensures ahead { IsAhead (D.state depot.old) name.now at window.new }
     ensures place { at + length window.new < 2 ^ 64 }
     ensures frame { OnlyReads NgStop.ReadFault result name.now (D.state depot.old)
         (D.state depot.new) }
@@ -86,15 +86,15 @@ fn read_resolution<D: Depot>(
     window: &mut Window,
 ) -> Result<u8, NgStop>
     requires near { from < 2 ^ 41 }
-    requires ahead { StandsAt (D.state depot.old) name.now from window.old }
+    requires ahead { IsAhead (D.state depot.old) name.now from window.old }
     requires place { from + length window.old < 2 ^ 64 }
     requires there { IsTrue (D.state depot.old).tells
         → from + (left + 4) ≤ length (octets_of ((D.state depot.old).held name.now)) }
     ensures answer { IsTrue (D.state depot.old).tells
         → IsNgAnswer (λ resolution. resolution) result
-        (resolution_at order None from left (left_of (D.state depot.old) name.now from)) }
+        (resolution_at order None from left (rest_at (D.state depot.old) name.now from)) }
     ensures ahead { OnOk result
-        (StandsAt (D.state depot.old) name.now (from + (left + 4)) window.new) }
+        (IsAhead (D.state depot.old) name.now (from + (left + 4)) window.new) }
     ensures place { OnOk result (from + (left + 4) + length window.new < 2 ^ 64) }
     ensures frame { OnlyReads NgStop.ReadFault result name.now (D.state depot.old)
         (D.state depot.new) }
@@ -124,18 +124,18 @@ pub fn take_interface<D: Depot>(
     requires least { 20 ≤ head.total }
     requires held { min head.total 65536 ≤ length window.old }
     requires near { place < 2 ^ 40 }
-    requires ahead { StandsAt (D.state depot.old) name.now place window.old }
+    requires ahead { IsAhead (D.state depot.old) name.now place window.old }
     requires place { place + length window.old < 2 ^ 64 }
     requires whole { IsTrue (D.state depot.old).tells
-        → head.total ≤ length (left_of (D.state depot.old) name.now place) }
+        → head.total ≤ length (rest_at (D.state depot.old) name.now place) }
     ensures answer { IsTrue (D.state depot.old).tells
         → IsNgAnswer (λ _. passed_block section.new.section head.total) result
         (interface_block section.old.section place
-        (left_of (D.state depot.old) name.now place) head) }
+        (rest_at (D.state depot.old) name.now place) head) }
     ensures kept { OnErr result (section.new ≡ section.old) }
-    ensures later { IsLater section.old section.new }
+    ensures later { KeepsTable section.old section.new }
     ensures ahead { OnOk result
-        (StandsAt (D.state depot.old) name.now (place + head.total) window.new) }
+        (IsAhead (D.state depot.old) name.now (place + head.total) window.new) }
     ensures place { OnOk result (place + head.total + length window.new < 2 ^ 64) }
     ensures frame { OnlyReads NgStop.ReadFault result name.now (D.state depot.old)
         (D.state depot.new) }

@@ -1,12 +1,12 @@
 //! A reader of one pcapng capture.
-ghost use Rattle.std.specs.Prelude.{◌≡◌, ◌+◌, ◌<◌, ◌≤◌, ◌^◌, IsTrue, [], None, length, drop, option_map, vec_len, vec_capacity, OnOk, OnErr, IfOk, IfSome};
+ghost use Rattle.std.specs.Prelude.{◌≡◌, ◌+◌, ◌<◌, ◌≤◌, ◌^◌, IsTrue, true, [], None, length, drop, option_map, vec_len, vec_capacity, OnOk, OnErr, IfOk, IfSome};
 ghost use Rattle.net_io.specs.Depot.{octets_of, OnlyReads};
 ghost use Rattle.file_window.specs.Window.{IsFrom};
 ghost use Rattle.pcapng_frames.specs.Section.{no_section};
 ghost use Rattle.pcapng_frames.specs.Block.{block_at};
-ghost use Rattle.pcapng_frames.specs.Capture.{IsNgFile, frames_at};
+ghost use Rattle.pcapng_frames.specs.Capture.{is_pcapng, frames_at};
 ghost use Rattle.pcapng_frames.specs.Reader.{IsNgReady, IsNgAnswer, NgChain, next_at, found_here, begun_block};
-ghost use Rattle.pcapng_frames.specs.inside.Parts.{left_of, StandsAt};
+ghost use Rattle.pcapng_frames.specs.inside.Parts.{rest_at, IsAhead};
 
 use crate::blocks::{Turn, read_block, read_frame};
 use crate::look::stop_at;
@@ -47,16 +47,16 @@ fn next_frame<D: Depot>(
     section: &mut SectionTable,
     into: &mut Vec<u8>,
 ) -> Result<Option<NgHead>, NgStop>
-    requires ahead { StandsAt (D.state depot.old) name.now place.old window.old }
+    requires ahead { IsAhead (D.state depot.old) name.now place.old window.old }
     requires place { place.old + length window.old < 2 ^ 64 }
     ensures answer { IsTrue (D.state depot.old).tells
         → IsNgAnswer (option_map (found_here section.new.section place.new into.new.items)) result
-        (next_at section.old.section place.old (left_of (D.state depot.old) name.now place.old)) }
+        (next_at section.old.section place.old (rest_at (D.state depot.old) name.now place.old)) }
     ensures chain { IsTrue (D.state depot.old).tells
         → NgChain (octets_of ((D.state depot.old).held name.now))
         section.old.section place.old section.new.section place.new }
     ensures end { IfOk result (λ read. read ≡ None → IsTrue (D.state depot.old).tells
-        → frames_at section.new.section place.new (left_of (D.state depot.old) name.now place.new)
+        → frames_at section.new.section place.new (rest_at (D.state depot.old) name.now place.new)
         ≡ record { frames = []; fault = None }) }
     ensures none { IfOk result (λ read. read ≡ None → into.new.items ≡ []) }
     ensures stands { OnErr result (place.new ≡ place.old) }
@@ -65,7 +65,7 @@ fn next_frame<D: Depot>(
     ensures nanos { IfOk result (λ read. IfSome read (λ head. head.nanos < 1000000000)) }
     ensures captured { vec_len into.new ≤ 262144 }
     ensures memory { vec_capacity into.old ≤ vec_capacity into.new }
-    ensures ahead { StandsAt (D.state depot.old) name.now place.new window.new }
+    ensures ahead { IsAhead (D.state depot.old) name.now place.new window.new }
     ensures place { place.new + length window.new < 2 ^ 64 }
     ensures frame { OnlyReads NgStop.ReadFault result name.now (D.state depot.old)
         (D.state depot.new) }
@@ -93,7 +93,7 @@ impl NgFrames {
     /// count of failed reads of this name rose in this call, and no other answer moves a count.
     pub fn begin<D: Depot>(alloc: Global, depot: &mut D, name: &str) -> Result<NgFrames, NgStop>
         requires pcapng { IsTrue (D.state depot.old).tells
-            → IsNgFile (octets_of ((D.state depot.old).held name.now)) }
+            → is_pcapng (octets_of ((D.state depot.old).held name.now)) ≡ true }
         ensures answer { IsTrue (D.state depot.old).tells
             → IsNgAnswer begun_block result
             (block_at no_section 0 (octets_of ((D.state depot.old).held name.now))) }

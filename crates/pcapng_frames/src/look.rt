@@ -3,7 +3,7 @@ ghost use Rattle.std.specs.Prelude.{◌≡◌, ◌+◌, ◌<◌, ◌≤◌, ◌^
 ghost use Rattle.net_io.specs.Depot.{octets_of, OnlyReads};
 ghost use Rattle.file_window.specs.Window.{IsFrom};
 ghost use Rattle.pcapng_frames.specs.Reader.{IsNgAnswer};
-ghost use Rattle.pcapng_frames.specs.inside.Parts.{left_of, StandsAt, enough_at};
+ghost use Rattle.pcapng_frames.specs.inside.Parts.{rest_at, IsAhead, enough_at};
 
 use crate::{NgFault, NgKind, NgStop};
 use file_window::Window;
@@ -25,13 +25,13 @@ pub fn have<D: Depot>(
     need: usize,
 ) -> Result<(), NgStop>
     requires need { need ≤ 65536 }
-    requires ahead { StandsAt (D.state depot.old) name.now place window.old }
+    requires ahead { IsAhead (D.state depot.old) name.now place window.old }
     requires place { place + length window.old < 2 ^ 64 }
     ensures answer { IsTrue (D.state depot.old).tells
         → IsNgAnswer (λ had. had) result
-        (enough_at need place (left_of (D.state depot.old) name.now place)) }
+        (enough_at need place (rest_at (D.state depot.old) name.now place)) }
     ensures enough { OnOk result (need ≤ length window.new) }
-    ensures ahead { StandsAt (D.state depot.old) name.now place window.new }
+    ensures ahead { IsAhead (D.state depot.old) name.now place window.new }
     ensures place { place + length window.new < 2 ^ 64 }
     ensures frame { OnlyReads NgStop.ReadFault result name.now (D.state depot.old)
         (D.state depot.new) }

@@ -4,7 +4,7 @@ ghost use Rattle.net_io.specs.Depot.{octets_of, OnlyReads};
 ghost use Rattle.file_window.specs.Window.{IsFrom};
 ghost use Rattle.pcapng_frames.specs.Head.{least_total, block_head_at, whole_at};
 ghost use Rattle.pcapng_frames.specs.Reader.{IsNgAnswer};
-ghost use Rattle.pcapng_frames.specs.inside.Parts.{left_of, StandsAt, trailer_at};
+ghost use Rattle.pcapng_frames.specs.inside.Parts.{rest_at, IsAhead, trailer_at};
 
 use crate::head::{BlockHead, LEAST_BLOCK, read_block_head};
 use crate::look::{find_end, have, stop_at};
@@ -20,14 +20,14 @@ pub fn read_head<D: Depot>(
     place: u64,
     window: &mut Window,
 ) -> Result<Option<BlockHead>, NgStop>
-    requires ahead { StandsAt (D.state depot.old) name.now place window.old }
+    requires ahead { IsAhead (D.state depot.old) name.now place window.old }
     requires place { place + length window.old < 2 ^ 64 }
     ensures answer { IsTrue (D.state depot.old).tells
         → IsNgAnswer (λ read. read) result
-        (block_head_at order place (left_of (D.state depot.old) name.now place)) }
+        (block_head_at order place (rest_at (D.state depot.old) name.now place)) }
     ensures least { IfOk result (λ read. IfSome read (λ head. least_total head.kind ≤ head.total)) }
     ensures near { IfOk result (λ read. IfSome read (λ head. place < 2 ^ 40)) }
-    ensures ahead { StandsAt (D.state depot.old) name.now place window.new }
+    ensures ahead { IsAhead (D.state depot.old) name.now place window.new }
     ensures place { place + length window.new < 2 ^ 64 }
     ensures frame { OnlyReads NgStop.ReadFault result name.now (D.state depot.old)
         (D.state depot.new) }
@@ -49,36 +49,8 @@ fn check_trailer(head: BlockHead, place: u64, last: u32) -> Result<(), NgStop>
     Ok(())
 }
 
-/// Checks that the file has the whole block, which has room in a window, and its trailer.
-fn check_held<D: Depot>(
-    depot: &mut D,
-    name: &str,
-    head: BlockHead,
-    place: u64,
-    window: &mut Window,
-) -> Result<(), NgStop>
-    requires room { head.total ≤ 65536 }
-    requires least { 12 ≤ head.total }
-    requires near { place < 2 ^ 40 }
-    requires ahead { StandsAt (D.state depot.old) name.now place window.old }
-    requires place { place + length window.old < 2 ^ 64 }
-    ensures answer { IsTrue (D.state depot.old).tells
-        → IsNgAnswer (λ _. head) result
-        (whole_at place (left_of (D.state depot.old) name.now place) head) }
-    ensures held { OnOk result (min head.total 65536 ≤ length window.new) }
-    ensures ahead { StandsAt (D.state depot.old) name.now place window.new }
-    ensures place { place + length window.new < 2 ^ 64 }
-    ensures frame { OnlyReads NgStop.ReadFault result name.now (D.state depot.old)
-        (D.state depot.new) }
-{
-    let total = head.total as usize;
-    have(depot, name, place, window, total)?;
-    let last = head.order.u32_at(window.ahead(), total - 4);
-    check_trailer(head, place, last)
-}
-
-/// The four octets of a trailer, or where the file ends in front of them or in them.
-fn read_trailer<D: Depot>(
+/// The trailer of a block that is longer than a window, or where the file ends in front of it or in it.
+fn read_far_trailer<D: Depot>(
     depot: &mut D,
     name: &str,
     head: BlockHead,
@@ -87,10 +59,10 @@ fn read_trailer<D: Depot>(
     requires far { 65536 < head.total }
     requires near { place < 2 ^ 40 }
     requires held { IsTrue (D.state depot.old).tells
-        → 65536 ≤ length (left_of (D.state depot.old) name.now place) }
+        → 65536 ≤ length (rest_at (D.state depot.old) name.now place) }
     ensures answer { IsTrue (D.state depot.old).tells
         → IsNgAnswer (λ last. last) result
-        (trailer_at place (left_of (D.state depot.old) name.now place) head) }
+        (trailer_at place (rest_at (D.state depot.old) name.now place) head) }
     ensures frame { OnlyReads NgStop.ReadFault result name.now (D.state depot.old)
         (D.state depot.new) }
 {
@@ -104,30 +76,29 @@ fn read_trailer<D: Depot>(
     Ok(head.order.u32_at(&last, 0))
 }
 
-/// Checks that the file has the whole block, which is longer than a window, and its trailer.
-fn check_far<D: Depot>(
+/// The four octets of a trailer: from the window, which has the block or as much of it as has room, or by a read of their own.
+fn read_trailer<D: Depot>(
     depot: &mut D,
     name: &str,
     head: BlockHead,
     place: u64,
-    window: &mut Window,
-) -> Result<(), NgStop>
-    requires far { 65536 < head.total }
+    window: &Window,
+) -> Result<u32, NgStop>
+    requires least { 12 ≤ head.total }
     requires near { place < 2 ^ 40 }
-    requires ahead { StandsAt (D.state depot.old) name.now place window.old }
-    requires place { place + length window.old < 2 ^ 64 }
+    requires ahead { IsAhead (D.state depot.old) name.now place window.now }
+    requires held { min head.total 65536 ≤ length window.now }
     ensures answer { IsTrue (D.state depot.old).tells
-        → IsNgAnswer (λ _. head) result
-        (whole_at place (left_of (D.state depot.old) name.now place) head) }
-    ensures held { OnOk result (min head.total 65536 ≤ length window.new) }
-    ensures ahead { StandsAt (D.state depot.old) name.now place window.new }
-    ensures place { place + length window.new < 2 ^ 64 }
+        → IsNgAnswer (λ last. last) result
+        (trailer_at place (rest_at (D.state depot.old) name.now place) head) }
     ensures frame { OnlyReads NgStop.ReadFault result name.now (D.state depot.old)
         (D.state depot.new) }
 {
-    have(depot, name, place, window, WINDOW)?;
-    let last = read_trailer(depot, name, head, place)?;
-    check_trailer(head, place, last)
+    let total = head.total as usize;
+    if total > WINDOW {
+        return read_far_trailer(depot, name, head, place);
+    }
+    Ok(head.order.u32_at(window.ahead(), total - 4))
 }
 
 /// Checks that the file has the whole block, and that its trailer repeats its total length.
@@ -140,20 +111,19 @@ pub fn check_whole<D: Depot>(
 ) -> Result<(), NgStop>
     requires least { 12 ≤ head.total }
     requires near { place < 2 ^ 40 }
-    requires ahead { StandsAt (D.state depot.old) name.now place window.old }
+    requires ahead { IsAhead (D.state depot.old) name.now place window.old }
     requires place { place + length window.old < 2 ^ 64 }
     ensures answer { IsTrue (D.state depot.old).tells
         → IsNgAnswer (λ _. head) result
-        (whole_at place (left_of (D.state depot.old) name.now place) head) }
+        (whole_at place (rest_at (D.state depot.old) name.now place) head) }
     ensures held { OnOk result (min head.total 65536 ≤ length window.new) }
-    ensures ahead { StandsAt (D.state depot.old) name.now place window.new }
+    ensures ahead { IsAhead (D.state depot.old) name.now place window.new }
     ensures place { place + length window.new < 2 ^ 64 }
     ensures frame { OnlyReads NgStop.ReadFault result name.now (D.state depot.old)
         (D.state depot.new) }
 {
-    if head.total as usize <= WINDOW {
-        check_held(depot, name, head, place, window)
-    } else {
-        check_far(depot, name, head, place, window)
-    }
+    let held = (head.total as usize).min(WINDOW);
+    have(depot, name, place, window, held)?;
+    let last = read_trailer(depot, name, head, place, window)?;
+    check_trailer(head, place, last)
 }

@@ -2,7 +2,7 @@
 ghost use Rattle.std.specs.Prelude.{◌≡◌, ◌++◌, ◌∷◌, ◌≤◌, [], length, OnOk, OnErr};
 ghost use Rattle.std.specs.List.{slice_get};
 ghost use Rattle.pcapng_frames.specs.Section.{no_section};
-ghost use Rattle.pcapng_frames.specs.inside.Table.{Table, IsLater, IsMark};
+ghost use Rattle.pcapng_frames.specs.inside.Table.{Table, KeepsTable, IsMark};
 
 use crate::Interface;
 use file_window::OctetOrder;
@@ -68,7 +68,7 @@ impl SectionTable {
     /// A new section forgets the interfaces.
     pub fn begin(&mut self, order: OctetOrder)
         ensures section { self.new.section ≡ record { order = order; interfaces = [] } }
-        ensures later { IsLater self.old self.new }
+        ensures later { KeepsTable self.old self.new }
     {
         self.order = order;
         self.first = self.interfaces.len();
@@ -84,7 +84,7 @@ impl SectionTable {
                   (interface ∷ []);
             }) }
         ensures err { OnErr result (self.new ≡ self.old) }
-        ensures later { IsLater self.old self.new }
+        ensures later { KeepsTable self.old self.new }
     {
         self.interfaces.push(interface)?;
         Ok(())
@@ -118,7 +118,7 @@ impl SectionTable {
     pub fn back(&mut self, mark: Mark)
         requires order { mark.first ≤ mark.count }
         requires later { mark.count ≤ length self.old.all }
-        ensures { (old : Table) → IsMark mark old → IsLater old self.old
+        ensures { (old : Table) → IsMark mark old → KeepsTable old self.old
             → self.new.section ≡ old.section }
     {
         self.order = mark.order;

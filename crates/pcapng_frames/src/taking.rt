@@ -5,7 +5,7 @@ ghost use Rattle.file_window.specs.Window.{IsFrom};
 ghost use Rattle.pcapng_frames.specs.Packet.{packet_at};
 ghost use Rattle.pcapng_frames.specs.Block.{packet_block};
 ghost use Rattle.pcapng_frames.specs.Reader.{IsNgAnswer};
-ghost use Rattle.pcapng_frames.specs.inside.Parts.{left_of, StandsAt, frame_block};
+ghost use Rattle.pcapng_frames.specs.inside.Parts.{rest_at, IsAhead, frame_block};
 
 use crate::head::BlockHead;
 use crate::look::stop_at;
@@ -27,13 +27,13 @@ fn take_octets<D: Depot>(
     requires held { 28 ≤ length window.now }
     requires captured { captured ≤ 262144 }
     requires empty { into.old.items ≡ [] }
-    requires ahead { StandsAt (D.state depot.old) name.now place window.now }
+    requires ahead { IsAhead (D.state depot.old) name.now place window.now }
     requires place { place + length window.now < 2 ^ 64 }
     requires whole { IsTrue (D.state depot.old).tells
-        → 28 + captured ≤ length (left_of (D.state depot.old) name.now place) }
+        → 28 + captured ≤ length (rest_at (D.state depot.old) name.now place) }
     ensures answer { IsTrue (D.state depot.old).tells
         → IsNgAnswer (λ _. into.new.items) result
-        (Ok (take captured (drop 28 (left_of (D.state depot.old) name.now place)))) }
+        (Ok (take captured (drop 28 (rest_at (D.state depot.old) name.now place)))) }
     ensures len { OnOk result (vec_len into.new ≡ captured) }
     ensures memory { vec_capacity into.old ≤ vec_capacity into.new }
     ensures frame { OnlyReads NgStop.ReadFault result name.now (D.state depot.old)
@@ -61,20 +61,20 @@ pub fn take_packet<D: Depot>(
     requires held { min head.total 65536 ≤ length window.old }
     requires near { place < 2 ^ 40 }
     requires empty { into.old.items ≡ [] }
-    requires ahead { StandsAt (D.state depot.old) name.now place window.old }
+    requires ahead { IsAhead (D.state depot.old) name.now place window.old }
     requires place { place + length window.old < 2 ^ 64 }
     requires whole { IsTrue (D.state depot.old).tells
-        → head.total ≤ length (left_of (D.state depot.old) name.now place) }
+        → head.total ≤ length (rest_at (D.state depot.old) name.now place) }
     ensures answer { IsTrue (D.state depot.old).tells
         → IsNgAnswer (λ given. frame_block section.now.section head.total given into.new.items)
-        result (packet_block section.now.section (left_of (D.state depot.old) name.now place) head
+        result (packet_block section.now.section (rest_at (D.state depot.old) name.now place) head
         (packet_at section.now.section head.order head.total place
-        (left_of (D.state depot.old) name.now place))) }
+        (rest_at (D.state depot.old) name.now place))) }
     ensures nanos { IfOk result (λ given. given.nanos < 1000000000) }
     ensures captured { OnOk result (vec_len into.new ≤ 262144) }
     ensures memory { vec_capacity into.old ≤ vec_capacity into.new }
     ensures ahead { OnOk result
-        (StandsAt (D.state depot.old) name.now (place + head.total) window.new) }
+        (IsAhead (D.state depot.old) name.now (place + head.total) window.new) }
     ensures place { OnOk result (place + head.total + length window.new < 2 ^ 64) }
     ensures frame { OnlyReads NgStop.ReadFault result name.now (D.state depot.old)
         (D.state depot.new) }

@@ -2,9 +2,10 @@ pub mod Released
 pub mod Shown
 pub mod Unlabelled
 pub mod Walks
-pub mod Meant
 pub mod Places
 pub mod Links
 pub mod Reasons
+pub mod Coverage
+pub mod Told
 pub mod Rows
 pub mod Law

@@ -10,6 +10,7 @@ use Rattle.mls_range.specs.Computed.{lone_range}
 use Rattle.mls_range.proofs.Law.{dominance_computes}
 use Rattle.address_text.specs.declared.address.Address.TheVariants.{V4}
 use Rattle.address_text.specs.Prefix.{AddressBlock}
+use Rattle.domain_map.specs.declared.static_map.StaticEntry.{StaticEntry}
 use Rattle.domain_map.specs.Statics.{static_added}
 use Rattle.script_lines.specs.declared.command.Command.TheVariants.{AcceptOn, AcceptOff, UnlblAdd, RangeAdd}
 use Rattle.node_readings.specs.Meaning.{meaning_of, MeansDominates}
@@ -20,7 +21,7 @@ use Rattle.node_agreement.specs.Agreement.{Agree}
 use Rattle.label_commands.specs.Script.{no_meanings}
 use Rattle.label_commands.proofs.Law.{no_meanings_are_a_reading}
 use Rattle.static_law.specs.declared.uncovered.Uncovered.TheVariants.{NoRange, Entry}
-use Rattle.static_law.specs.Covered.{MeansMore, Covered}
+use Rattle.static_law.specs.Covered.{MeansNoLess, Covered}
 use Rattle.static_law.specs.Uncovered.{MayLabel, IsUncovered}
 
 -- s0, s2:c1, s2:c0.c5 and s2
@@ -80,7 +81,7 @@ covered_by_six : Covered a eth1 (b six) eth0 no_meanings no_meanings
 unfolding effect_of static_added
 covered_by_six = record {
   agree = no_difference (b six);
-  unlabelled = inr (inr (record { range = range; found = refl; above = All-cons (MeansMore no_meanings (meaning_of no_meanings one)) (record { interface = None; prefix = ten; low = six; high = six }) [] six_above (All-nil (MeansMore no_meanings (meaning_of no_meanings one))) }));
+  unlabelled = inr (inr (record { range = range; found = refl; above = All-cons (λ (e : ℕ × StaticEntry). MeansNoLess no_meanings (meaning_of no_meanings one) e.1) (0, record { interface = None; prefix = ten; low = six; high = six }) [] six_above (All-nil (λ (e : ℕ × StaticEntry). MeansNoLess no_meanings (meaning_of no_meanings one) e.1)) }));
 }
 
 -- and by a node that accepts nothing without a label, whatever it sets
@@ -102,7 +103,7 @@ uncovered_by_bare = (
     refl,
     record {
       entry = record { interface = None; prefix = ten; low = bare; high = bare };
-      stands = record { there = refl; counts = refl };
+      counts = (0, omega arith, refl);
       low = bare_below;
       first = λ before other below stands. absurd (none_below below);
     },

@@ -1,18 +1,21 @@
 -- The label that the next hop takes of a packet without an option, where the link is covered: it means at least what it meant.
 use Rattle.std.proofs.Common.{◌≡◌, ◌⊎◌, inl, inr, ℕ, Bool, true, false, List, [], Option, Some, None, Result, Ok, Err, IfSome, refl, sym, ap, subst, ◌∙◌}
-use Rattle.std.specs.Prelude.{All, not, ◌&&◌, if◌then◌else◌, option_map}
+use Rattle.std.specs.Prelude.{All, Contains, IsTrue, not, ◌&&◌, if◌then◌else◌, option_map}
 use Rattle.std.proofs.lemmas.Bool.{and_parts, false≢true}
 use Rattle.std.proofs.lemmas.Map.Entries.{All-lookup}
-use Rattle.std.proofs.lemmas.List.Elements.{All-nil, All-filter, All-weaker}
+use Rattle.std.proofs.lemmas.List.Elements.{All-contains}
+use Rattle.std.proofs.lemmas.Option.{slice_get_within, get_or_from_slice_get}
 use Rattle.mls_label.specs.declared.label.Label.{Label}
 use Rattle.mls_label.specs.Label.{Dominates, IsLabel}
 use Rattle.mls_range.specs.Range.{LabelRange}
 use Rattle.mls_range.specs.Computed.{dominates}
 use Rattle.mls_range.proofs.Law.{dominance_computes}
 use Rattle.address_text.specs.declared.address.Address.{Address}
+use Rattle.address_text.specs.Prefix.{holds}
 use Rattle.domain_map.specs.declared.static_map.StaticEntry.{StaticEntry}
 use Rattle.domain_map.specs.Domains.{Domain, same_domain}
-use Rattle.domain_map.specs.Statics.{candidates, find_static_of}
+use Rattle.domain_map.specs.Statics.{counting, entries_for, find_static_of}
+use Rattle.domain_map.proofs.Law.{entries_stand_at_their_places, found_labels_are_those_of_an_entry}
 use Rattle.ip_headers.specs.Packet.{ParsedPacket}
 use Rattle.ip_headers.specs.Reading.{first_place}
 use Rattle.packet_label.specs.declared.denial.Carrier.TheVariants as carried
@@ -33,10 +36,8 @@ use Rattle.node_tables.proofs.Law.{range_ends_are_labels}
 use Rattle.label_receive.specs.Incoming.{Incoming, address_in, static_labels, option_labels, label_of}
 use Rattle.label_receive.specs.Range.{in_range, is_outside}
 use Rattle.flow_access.specs.Labels.{high_of, hop_label}
-use Rattle.flow_access.proofs.Law.{high_found}
-use Rattle.static_law.specs.Covered.{interface_in, AreAbove, Covered}
-use Rattle.static_law.specs.Uncovered.{counting}
-use Rattle.static_law.proofs.Places.{candidates_are}
+use Rattle.static_law.specs.Covered.{interface_in, MeansNoLess, AreNoLess, Covered}
+use Rattle.static_law.proofs.Places.{some_contained}
 use Rattle.static_law.proofs.Released.{IsReleased}
 
 -- ---- what is taken is a static label
@@ -109,29 +110,34 @@ released_below t out range x found is =
 
 module _ (a b : TableState) (out into : List ℕ) (a_named b_named : NamedMeanings) (valid_a : AreValid a) (valid_b : AreValid b) (named_a : IsReading a_named) (x y : Label) (is : IsLabel x)
     (released : IsReleased a out x) (static : IsStatic b into y) where
-  -- what all entries in question keep to
-  taken : (P : Label → Type 0) → All (λ (entry : StaticEntry). P entry.high) (candidates b.statics into) → P y
-  taken P all = subst P static.high (high_found P b.statics into static.source static.labels all static.found)
+  -- the entry whose high label was taken
+  taken : (place : ℕ) × (entry : StaticEntry) × Contains (entries_for b.statics into) (place, entry) × IsTrue (holds entry.prefix static.source) × (static.labels ≡ (entry.low, entry.high))
+  taken = found_labels_are_those_of_an_entry b.statics into static.source static.labels static.found
 
-  above_range : AreAbove a.ranges out a_named (candidates b.statics into) b_named → MeansDominates (meaning_of b_named y) (meaning_of a_named x)
+  of_taken : (P : Label → Type 0) → P taken.1.high → P y
+  of_taken P h = subst P static.high (subst (λ (ls : Label × Label). P ls.1) (sym taken.4) h)
+
+  above_range : AreNoLess a.ranges out a_named (entries_for b.statics into) b_named → MeansDominates (meaning_of b_named y) (meaning_of a_named x)
   above_range above =
       let high = found_is a.ranges out above.range above.found valid_a.ranges in
       let below = (meaning_follows_dominance a_named above.range.high x named_a high.level high.cats is.level is.cats).0 (released_below a out above.range x above.found released) in
+      let more = All-contains (λ (e : ℕ × StaticEntry). MeansNoLess b_named (meaning_of a_named above.range.high) e.1) (entries_for b.statics into) (taken.0, taken.1) above.above taken.2 in
       dominance_of_meanings_goes_on (meaning_of b_named y) (meaning_of a_named above.range.high) (meaning_of a_named x)
-      (taken (λ l. MeansDominates (meaning_of b_named l) (meaning_of a_named above.range.high)) above.above) below
+      (of_taken (λ l. MeansDominates (meaning_of b_named l) (meaning_of a_named above.range.high)) more) below
 
-  no_entry : candidates b.statics into ≡ [] → ⊥
-  no_entry none = taken (λ l. ⊥) (subst (All (λ (entry : StaticEntry). ⊥)) (sym none) (All-nil (λ (entry : StaticEntry). ⊥)))
+  no_entry : entries_for b.statics into ≡ [] → ⊥
+  no_entry = some_contained (entries_for b.statics into) taken.0 taken.1 taken.2
 
-  are_labels : All (λ (entry : StaticEntry). IsLabel entry.high) (candidates b.statics into)
-  are_labels =
-      let bounded = subst (All IsBoundedStatic) (sym (candidates_are b.statics into)) (All-filter (λ (e : StaticEntry). same_domain (counting b.statics into) e.interface) IsBoundedStatic b.statics valid_b.statics) in
-      All-weaker IsBoundedStatic (λ (entry : StaticEntry). IsLabel entry.high) (λ entry is. (range_ends_are_labels (record { low = entry.low; high = entry.high }) is).1) (candidates b.statics into) bounded
+  is_label : IsLabel y
+  is_label =
+      let at = ((entries_stand_at_their_places b.statics (counting b.statics into) taken.0 taken.1).0 taken.2).0 in
+      let bounded : IsBoundedStatic taken.1 = subst IsBoundedStatic (get_or_from_slice_get b.statics taken.0 taken.1 taken.1 at) (valid_b.statics taken.0 taken.1 (slice_get_within b.statics taken.0 taken.1 at)) in
+      of_taken IsLabel (range_ends_are_labels (record { low = taken.1.low; high = taken.1.high }) bounded).1
 
   pub climbs_over : Covered a out b into a_named b_named → MeansDominates (meaning_of b_named y) (meaning_of a_named x) × IsLabel y
-  climbs_over covered = (by_way covered.unlabelled, taken IsLabel are_labels)
+  climbs_over covered = (by_way covered.unlabelled, is_label)
     where
-      by_way : (b.accepts ≡ false) ⊎ ((candidates b.statics into ≡ []) ⊎ AreAbove a.ranges out a_named (candidates b.statics into) b_named) → MeansDominates (meaning_of b_named y) (meaning_of a_named x)
+      by_way : (b.accepts ≡ false) ⊎ ((entries_for b.statics into ≡ []) ⊎ AreNoLess a.ranges out a_named (entries_for b.statics into) b_named) → MeansDominates (meaning_of b_named y) (meaning_of a_named x)
       by_way (inl off) = absurd (false≢true (sym off ∙ static.accepts))
       by_way (inr (inl none)) = absurd (no_entry none)
       by_way (inr (inr above)) = above_range above

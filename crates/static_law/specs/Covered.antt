@@ -2,7 +2,7 @@
 use Rattle.std.specs.Prelude.{◌≡◌, ◌⊎◌, ℕ, false, List, [], ◌∷◌, All, Some}
 use Rattle.mls_range.specs.Range.{LabelRange}
 use Rattle.domain_map.specs.declared.static_map.StaticEntry.{StaticEntry}
-use Rattle.domain_map.specs.Statics.{Statics, candidates}
+use Rattle.domain_map.specs.Statics.{entries_for}
 use Rattle.flow_lines.specs.declared.hop.Hop.{Hop}
 use Rattle.flow_lines.specs.declared.hop.Hop.TheVariants.{Send, Forward, Receive}
 use Rattle.node_readings.specs.Reading.{NamedMeanings}
@@ -25,20 +25,20 @@ interface_in (Forward node from to domain) = from
 interface_in (Receive node interface) = interface
 
 -- the high label of an entry means at least so much
-abbrev pub MeansMore : NamedMeanings → Meaning → StaticEntry → Type 0
-MeansMore named least entry = MeansDominates (meaning_of named entry.high) least
+abbrev pub MeansNoLess : NamedMeanings → Meaning → StaticEntry → Type 0
+MeansNoLess named least entry = MeansDominates (meaning_of named entry.high) least
 
--- there is a range, the interface's own or else the default one, and each of the entries means at least as much as its high end
-pub record AreAbove (ranges : Ranges) (out : List ℕ) (left_named : NamedMeanings) (entries : Statics) (right_named : NamedMeanings) : Type 0 where
+-- there is a range, the interface's own or else the default one, and no entry means less than its high end
+pub record AreNoLess (ranges : Ranges) (out : List ℕ) (left_named : NamedMeanings) (entries : List (ℕ × StaticEntry)) (right_named : NamedMeanings) : Type 0 where
   pub range : LabelRange
   pub found : find_range_of ranges out ≡ Some range
-  pub above : All (MeansMore right_named (meaning_of left_named range.high)) entries
+  pub above : All (λ e. MeansNoLess right_named (meaning_of left_named range.high) e.1) entries
 
 -- The nodes agree. Besides, the right one doesn't accept what has no label, or no static entry counts for the interface at which it comes in,
--- or each that counts there is above the range of the interface at which it went out.
+-- or each that counts there means no less than the range of the interface at which it went out.
 pub record Covered (left : TableState) (out : List ℕ) (right : TableState) (into : List ℕ) (left_named right_named : NamedMeanings) : Type 0 where
   pub agree : Agree left right left_named right_named
-  pub unlabelled : (right.accepts ≡ false) ⊎ ((candidates right.statics into ≡ []) ⊎ AreAbove left.ranges out left_named (candidates right.statics into) right_named)
+  pub unlabelled : (right.accepts ≡ false) ⊎ ((entries_for right.statics into ≡ []) ⊎ AreNoLess left.ranges out left_named (entries_for right.statics into) right_named)
 
 -- so it is between two hops, each under its version
 abbrev pub CoveredBetween : PlanState → List NamedMeanings → Hop → ℕ → Hop → ℕ → Type 0

@@ -1,99 +1,126 @@
-//! The static entries that count for an interface.
+//! The static entries that count for an interface, one place after another.
 
-ghost use Rattle.std.specs.Prelude.{◌≡◌, ℕ, ◌<◌, false, Some, length, slice_get, MatchBool, MatchOption};
-ghost use Rattle.domain_map.specs.declared.static_map.StaticEntry.{StaticEntry};
+ghost use Rattle.std.specs.Prelude.{◌≡◌, ◌≢◌, ℕ, ◌<◌, [], Contains, Some, IfSome, MatchBool, MatchOption, option_copied};
 ghost use Rattle.domain_map.specs.Domains.{same_domain};
+ghost use Rattle.domain_map.specs.declared.static_map.StaticEntry.{StaticEntry};
+ghost use Rattle.domain_map.specs.Statics.{entries_for};
 ghost use Rattle.node_readings.specs.Meaning.{meaning_of};
-ghost use Rattle.static_law.specs.Covered.{MeansMore};
-ghost use Rattle.static_law.specs.Uncovered.{counting, IsEntryAt, IsFirstLow};
+ghost use Rattle.static_law.specs.Covered.{MeansNoLess};
+ghost use Rattle.static_law.specs.Uncovered.{IsFirstLow};
 
-use crate::meaning::means_more;
 use address_text::Name;
 use domain_map::StaticMap;
 use mls_label::Label;
-use node_readings::Reading;
+use node_readings::{Reading, meaning_dominates};
+use std::marker::Model;
 
-/// The interface whose entries count for one: itself if it has any, else the default one.
-pub fn counting(statics: &StaticMap, interface: &Name) -> Option<Name>
-    ensures { result ≡ counting statics.now interface.now }
-{
-    let own = Some(interface.copy());
-    if has_entries(statics, &own) {
-        return own;
-    }
-    None
+/// The entries of an interface, `None` being the default one. Contracts see them, each with its place among all of the node.
+#[derive(Drop)]
+pub struct Entries<'a> {
+    statics: &'a StaticMap,
+    interface: Option<&'a Name>,
 }
 
-/// Whether the interface has an entry.
-pub fn has_entries(statics: &StaticMap, interface: &Option<Name>) -> bool
-    ensures { MatchBool result
-        ((place : ℕ) × (entry : StaticEntry) × IsEntryAt statics.now interface.now place entry)
-        ((place : ℕ) (entry : StaticEntry) → slice_get statics.now place ≡ Some entry
-        → same_domain interface.now entry.interface ≡ false) }
-{
-    for place in 0..statics.count() {
-        if is_of(statics, place, interface) {
-            return true;
+impl<'a> Model for Entries<'a> {
+    ghost use Rattle.std.specs.Prelude.{List, ℕ, option_copied};
+    ghost use Rattle.domain_map.specs.declared.static_map.StaticEntry.{StaticEntry};
+    ghost use Rattle.domain_map.specs.Statics.{entries_of};
+
+    ghost Value = { List (ℕ × StaticEntry) };
+
+    ghost view = { λ e. entries_of e.statics.now (option_copied e.interface) };
+}
+
+impl<'a> Entries<'a> {
+    /// Those that count for what comes in at an interface.
+    pub fn counting(statics: &'a StaticMap, interface: &'a Name) -> Entries<'a>
+        ensures { result ≡ entries_for statics.now interface.now }
+    {
+        Entries {
+            statics,
+            interface: statics.counting(interface),
         }
     }
-    false
-}
 
-/// The place of the interface's first entry whose high label doesn't mean as much as a label, by the readings of both nodes.
-pub fn first_low(
-    statics: &StaticMap,
-    interface: &Option<Name>,
-    reading: &Reading,
-    least: &Label,
-    least_reading: &Reading,
-) -> Option<usize>
-    ensures { MatchOption result
-        ((place : ℕ) (entry : StaticEntry) → IsEntryAt statics.now interface.now place entry
-        → MeansMore reading.now (meaning_of least_reading.now least.now) entry)
-        (IsFirstLow statics.now interface.now reading.now
-        (meaning_of least_reading.now least.now)) }
-{
-    for place in 0..statics.count() {
-        if is_low(statics, place, interface, reading, least, least_reading) {
-            return Some(place);
+    /// Whether there are none.
+    pub fn is_empty(&self) -> bool
+        ensures { MatchBool result (self.now ≡ []) (self.now ≢ []) }
+    {
+        for place in 0..self.statics.count() {
+            if self.high_at(place).is_some() {
+                return false;
+            }
+        }
+        true
+    }
+
+    /// The place of the first one whose high label doesn't mean as much as a label, by the readings of both nodes.
+    pub fn first_low(
+        &self,
+        reading: &Reading,
+        least: &Label,
+        least_reading: &Reading,
+    ) -> Option<usize>
+        ensures { MatchOption result
+            ((place : ℕ) (entry : StaticEntry) → Contains self.now (place, entry)
+            → MeansNoLess reading.now (meaning_of least_reading.now least.now) entry)
+            (IsFirstLow self.now reading.now (meaning_of least_reading.now least.now)) }
+    {
+        for place in 0..self.statics.count() {
+            if self.is_low(place, reading, least, least_reading) {
+                return Some(place);
+            }
+        }
+        None
+    }
+
+    /// Whether one stands at this place whose high label doesn't mean as much as a label.
+    fn is_low(
+        &self,
+        place: usize,
+        reading: &Reading,
+        least: &Label,
+        least_reading: &Reading,
+    ) -> bool
+        ensures { MatchBool result
+            ((entry : StaticEntry) × Contains self.now (place, entry)
+            × (MeansNoLess reading.now (meaning_of least_reading.now least.now) entry → ⊥))
+            ((entry : StaticEntry) → Contains self.now (place, entry)
+            → MeansNoLess reading.now (meaning_of least_reading.now least.now) entry) }
+    {
+        match self.high_at(place) {
+            Some(high) => !meaning_dominates(reading, high, least_reading, least),
+            None => false,
         }
     }
-    None
+
+    /// The high label of the one at this place.
+    fn high_at(&self, place: usize) -> Option<&'a Label>
+        ensures there { MatchOption result
+            ((entry : StaticEntry) → Contains self.now (place, entry) → ⊥)
+            (λ high. (entry : StaticEntry) × Contains self.now (place, entry)
+            × (entry.high ≡ high.now)) }
+        ensures one { IfSome result (λ high. (entry : StaticEntry)
+            → Contains self.now (place, entry) → entry.high ≡ high.now) }
+    {
+        if place >= self.statics.count() {
+            return None;
+        }
+        let (own, _, _, high) = self.statics.entry(place);
+        if !are_one(own, self.interface) {
+            return None;
+        }
+        Some(high)
+    }
 }
 
-// Whether the entry at a place is of the interface.
-fn is_of(statics: &StaticMap, place: usize, interface: &Option<Name>) -> bool
-    requires { place < length statics.now }
-    ensures { (entry : StaticEntry) × (slice_get statics.now place ≡ Some entry)
-        × (result ≡ same_domain interface.now entry.interface) }
+/// Whether two interfaces are one.
+fn are_one(a: Option<&Name>, b: Option<&Name>) -> bool
+    ensures { result ≡ same_domain (option_copied b.entry) (option_copied a.entry) }
 {
-    let (own, _, _, _) = statics.entry(place);
-    match (interface, own) {
-        (Some(wanted), Some(found)) => wanted == found,
+    match (a, b) {
+        (Some(a), Some(b)) => b == a,
         (None, None) => true,
         _ => false,
     }
-}
-
-// Whether it is, and its high label doesn't mean so much.
-fn is_low(
-    statics: &StaticMap,
-    place: usize,
-    interface: &Option<Name>,
-    reading: &Reading,
-    least: &Label,
-    least_reading: &Reading,
-) -> bool
-    requires { place < length statics.now }
-    ensures { MatchBool result
-        ((entry : StaticEntry) × IsEntryAt statics.now interface.now place entry
-        × (MeansMore reading.now (meaning_of least_reading.now least.now) entry → ⊥))
-        ((entry : StaticEntry) → IsEntryAt statics.now interface.now place entry
-        → MeansMore reading.now (meaning_of least_reading.now least.now) entry) }
-{
-    if !is_of(statics, place, interface) {
-        return false;
-    }
-    let (_, _, _, high) = statics.entry(place);
-    !means_more(high, reading, least, least_reading)
 }

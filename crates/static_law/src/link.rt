@@ -4,7 +4,7 @@ ghost use Rattle.std.specs.Prelude.{IfNone, IfSome};
 ghost use Rattle.static_law.specs.Covered.{Covered};
 ghost use Rattle.static_law.specs.Uncovered.{IsUncovered};
 
-use crate::entries::{counting, first_low, has_entries};
+use crate::entries::Entries;
 use crate::uncovered::Uncovered;
 use address_text::Name;
 use node_agreement::agrees;
@@ -35,21 +35,14 @@ pub fn covers(
     if !right.accepts() {
         return None;
     }
-    let statics = right.statics();
-    let interface = counting(statics, in_interface);
-    if !has_entries(statics, &interface) {
+    let entries = Entries::counting(right.statics(), in_interface);
+    if entries.is_empty() {
         return None;
     }
     let Some(range) = left.find_range(out_interface) else {
         return Some(Uncovered::NoRange);
     };
-    match first_low(
-        statics,
-        &interface,
-        right_reading,
-        range.high(),
-        left_reading,
-    ) {
+    match entries.first_low(right_reading, range.high(), left_reading) {
         Some(index) => Some(Uncovered::Entry { index }),
         None => None,
     }

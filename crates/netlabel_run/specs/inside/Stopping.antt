@@ -4,9 +4,7 @@ use Rattle.capture_reader.specs.declared.fault.FileFault.TheVariants.{Pcap, Pcap
 use Rattle.capture_reader.specs.declared.fault.ReadStop.{ReadStop}
 use Rattle.capture_reader.specs.declared.fault.ReadStop.TheVariants as stop
 use Rattle.call_report.specs.declared.status.Status.{Status}
-use Rattle.call_report.specs.declared.status.Status.TheVariants.{WrongScript, WrongCapture, ReadFault, OutOfMemory, Limit}
-use Rattle.label_commands.specs.declared.stop.ScriptStop.{ScriptStop}
-use Rattle.label_commands.specs.declared.stop.ScriptStop.TheVariants as script
+use Rattle.call_report.specs.declared.status.Status.TheVariants.{WrongCapture, ReadFault, OutOfMemory}
 use Rattle.call_report.specs.Lines.Capture.{capture_line}
 
 abbrev pub stop_status : ReadStop → Status
@@ -21,9 +19,3 @@ stop_line (stop.Capture fault) = capture_line 1 (Pcap fault)
 stop_line (stop.Ng fault) = capture_line 1 (Pcapng fault)
 stop_line stop.ReadFault = []
 stop_line stop.OutOfMemory = []
-
--- where a text is no script
-abbrev pub script_due : ScriptStop → Status
-script_due (script.Fault fault) = WrongScript
-script_due (script.Limit what number) = Limit
-script_due script.OutOfMemory = OutOfMemory

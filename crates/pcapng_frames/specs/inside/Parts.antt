@@ -13,12 +13,12 @@ use Rattle.pcapng_frames.specs.Section.{Section}
 use Rattle.pcapng_frames.specs.Block.{NgBlock}
 
 -- what is left of a file from an octet on
-abbrev pub left_of : DepotState → List ℕ → ℕ → List ℕ
-left_of folder name at = drop at (octets_of (folder.held name))
+abbrev pub rest_at : DepotState → List ℕ → ℕ → List ℕ
+rest_at folder name at = drop at (octets_of (folder.held name))
 
 -- where the content is told, these octets stand in a file from an octet on
-abbrev pub StandsAt : DepotState → List ℕ → ℕ → List ℕ → Type 0
-StandsAt folder name at octets = IsTrue folder.tells → IsFrom (octets_of (folder.held name)) at octets
+abbrev pub IsAhead : DepotState → List ℕ → ℕ → List ℕ → Type 0
+IsAhead folder name at octets = IsTrue folder.tells → IsFrom (octets_of (folder.held name)) at octets
 
 -- the file has so many octets from the octet `at` on
 abbrev pub enough_at : ℕ → ℕ → List ℕ → Result (Unit {0}) NgFault

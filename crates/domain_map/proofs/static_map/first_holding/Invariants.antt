@@ -1,4 +1,5 @@
 use Rattle.std.proofs.Common.{◌≡◌, ◌&&◌, length, find, map}
+use Rattle.std.specs.Option.{option_copied}
 use Rattle.address_text.specs.Prefix.{holds}
 use Rattle.domain_map.specs.declared.order.Ranked.{Ranked}
 use Rattle.domain_map.specs.Domains.{same_domain}
@@ -8,7 +9,7 @@ use Rattle.domain_map.proofs.static_map.first_holding.Given as goal
 
 -- nothing so far passes
 abbrev pub invariant-loop-rest : goal.invariant-loop-rest
-invariant-loop-rest l = let test = λ (r : Ranked). passes_at (λ e. same_domain l.interface e.interface && holds e.prefix l.address) l.entries r.place in record {
+invariant-loop-rest l = let test = λ (r : Ranked). passes_at (λ e. same_domain (option_copied l.interface) e.interface && holds e.prefix l.address) l.entries r.place in record {
   tells : Tells (map (λ e. e.prefix.bits) l.entries) l.rest;
   found : find test l.order ≡ find test l.rest;
 }

@@ -2,11 +2,11 @@ use Rattle.std.proofs.Common.{arith}
 use Rattle.std.specs.Option.{option_copied}
 use Rattle.ip_headers.specs.declared.version.Version.TheVariants.{V4}
 use Rattle.ip_headers.specs.inside.Write.{others_in}
-use Rattle.ip_headers.proofs.Writing.{label_small, length-area, room4, area_size4, length4}
+use Rattle.ip_headers.proofs.Writing.{whole_small, length-area, room4, area_size4, length4}
 use Rattle.ip_headers.proofs.writing4.sizes.Goals as goal
 
 pub kept_size-kept-requires-clause-within : goal.kept_size-kept-requires-clause-within
-kept_size-kept-requires-clause-within c = omega (arith, c.label_size.ensures, label_small V4 c.args.option c.requires.label)
+kept_size-kept-requires-clause-within c = omega (arith, c.label_size.ensures, whole_small c.args.option c.requires.option)
 
 pub returns : goal.returns
 returns c =

@@ -7,6 +7,8 @@ use Rattle.call_report.specs.Outside.{Outside}
 use Rattle.call_report.specs.Printing.{Printed}
 use Rattle.netlabel_run.specs.declared.command.Command.TheVariants.{Check}
 use Rattle.netlabel_run.specs.Check.{check_text}
+use Rattle.script_input.proofs.Law.{ends_without_script}
+use Rattle.netlabel_run.specs.Commands.{netlabel_says}
 use Rattle.netlabel_run.proofs.Checking.{check_reads, ends_checked}
 use Rattle.netlabel_run.proofs.check.check.Goals as goal
 
@@ -23,4 +25,7 @@ returns-in-Ok g c =
     ends_checked file before after has.text c.in-Ok.script c.print_script.result has.reads printed.told has.counts has.holds has.is printed
 
 pub returns-in-Err : goal.returns-in-Err
-returns-in-Err g c = c.in-Err.ensures.err (Some (Check c.args.file.now)) (check_reads c.args.file.now)
+returns-in-Err g c =
+    let before : Outside = record { folder = g.D.Depot.state c.args.depot.now; stream = g.S.Sink.state c.args.out.now } in
+    let after : Outside = record { folder = g.D.Depot.state c.script_of.new.depot; stream = g.S.Sink.state c.script_of.new.out } in
+    ends_without_script netlabel_says (Some (Check c.args.file.now)) c.args.file.now (λ e. cc) (check_reads c.args.file.now) before after c.in-Err.status c.in-Err.ensures.err

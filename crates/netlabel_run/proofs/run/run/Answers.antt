@@ -1,4 +1,4 @@
-use Rattle.std.proofs.Common.{ℕ, subst, sym, ap, [], Some}
+use Rattle.std.proofs.Common.{ℕ, subst, sym, ap, [], ◌∷◌, Some}
 use Rattle.net_io.specs.Depot.{DepotState}
 use Rattle.net_io.specs.Sink.{SinkState}
 use Rattle.script_lines.specs.Form.{with_translations}
@@ -11,7 +11,9 @@ use Rattle.netlabel_run.specs.declared.command.Command.TheVariants.{Run}
 use Rattle.call_report.specs.CallEnds.{CallEnds}
 use Rattle.netlabel_run.specs.Commands.{netlabel_says}
 use Rattle.netlabel_run.proofs.Running.{run_reads, run_ends}
-use Rattle.netlabel_run.proofs.Scripts.{ends_without_room}
+use Rattle.call_report.specs.Stages.{reading_stage}
+use Rattle.call_report.proofs.Law.{ends_unprinted}
+use Rattle.script_input.proofs.Law.{ends_without_script}
 use Rattle.netlabel_run.proofs.run.run.Goals as goal
 
 pub run_flows-requires-clause-sound : goal.run_flows-requires-clause-sound
@@ -41,7 +43,7 @@ returns-in-Ok g c =
     let read : Outside = record { folder = g.D.Depot.state c.script_of.new.depot; stream = stream } in
     let after : Outside = record { folder = g.D.Depot.state c.protect_read.new.depot; stream = stream } in
     let asked = Some (Run file c.args.workers) in
-    let ends = ends_without_room asked file (run_reads file c.args.workers) before read has.reads (ap (λ (s : SinkState). s.tells) has.stream) has.counts has.stream in
+    let ends = ends_unprinted netlabel_says asked before read (reading_stage file ∷ []) ((run_reads file c.args.workers).knows before read has.reads (ap (λ (s : SinkState). s.tells) has.stream)) has.counts has.stream in
     subst (λ (n : ℕ). CallEnds netlabel_says asked before after n c.without_flows.result.seen) (sym c.without_flows.ensures.status)
     (subst (λ (seen : Versions). CallEnds netlabel_says asked before after 6 seen) (sym c.without_flows.ensures.seen)
     (subst (λ (f : DepotState). CallEnds netlabel_says asked before (record { folder = f; stream = stream }) 6 []) (sym c.protect_read.ensures) ends))
@@ -53,4 +55,4 @@ returns g c =
     let after : Outside = record { folder = g.D.Depot.state c.script_of.new.depot; stream = g.S.Sink.state c.script_of.new.out } in
     let asked = Some (Run file c.args.workers) in
     subst (λ (n : ℕ). CallEnds netlabel_says asked before after n c.without_flows-in-Err.result.seen) (sym c.without_flows-in-Err.ensures.status)
-    (subst (λ (seen : Versions). CallEnds netlabel_says asked before after (status_number c.in-Err.status) seen) (sym c.without_flows-in-Err.ensures.seen) (c.in-Err.ensures.err asked (run_reads file c.args.workers)))
+    (subst (λ (seen : Versions). CallEnds netlabel_says asked before after (status_number c.in-Err.status) seen) (sym c.without_flows-in-Err.ensures.seen) (ends_without_script netlabel_says asked file (λ e. cc) (run_reads file c.args.workers) before after c.in-Err.status c.in-Err.ensures.err))

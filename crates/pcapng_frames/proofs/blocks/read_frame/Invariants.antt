@@ -4,7 +4,7 @@ use Rattle.net_io.specs.Depot.{octets_of, OnlyReads}
 use Rattle.file_window.specs.Window.{IsFrom}
 use Rattle.pcapng_frames.specs.declared.fault.NgStop.TheVariants.{ReadFault}
 use Rattle.pcapng_frames.specs.Reader.{NgChain, next_at}
-use Rattle.pcapng_frames.specs.inside.Table.{IsLater}
+use Rattle.pcapng_frames.specs.inside.Table.{KeepsTable}
 use Rattle.pcapng_frames.proofs.blocks.read_frame.Given as goal
 
 abbrev pub decreases-loop-head : goal.decreases-loop-head
@@ -20,7 +20,7 @@ invariant-loop-head g l =
       onward : l.initial.place ≤ l.place;
       empty : l.into.items ≡ [];
       small : l.place + length l.window < 2 ^ 64;
-      later : IsLater l.initial.section l.section;
+      later : KeepsTable l.initial.section l.section;
       memory : vec_capacity l.initial.into ≤ vec_capacity l.into;
       ahead : IsTrue before.tells → IsFrom file l.place l.window;
       chain : IsTrue before.tells → NgChain file start l.initial.place l.section.section l.place;

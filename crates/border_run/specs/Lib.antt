@@ -1,0 +1,7 @@
+pub mod Words
+pub mod Lines
+pub mod Frames
+pub mod Definition
+pub mod Outcome
+pub mod Says
+pub mod inside

@@ -1,0 +1,4 @@
+pub mod Fronts
+pub mod NoEnd
+pub mod PacketLines
+pub mod Law

@@ -1,0 +1,3 @@
+mod Fills
+mod Sets
+mod Crowds

@@ -1,0 +1,14 @@
+use Rattle.std.proofs.Common.{Ok, Err, refl}
+use Rattle.packet_label.specs.declared.packet.Wire.TheVariants.{Calipso}
+use Rattle.netlabel_codec.proofs.option.read_calipso.Goals as goal
+
+pub returns-in-Ok-clause-tells : goal.returns-in-Ok-clause-tells
+returns-in-Ok-clause-tells c = record {
+  answer = Ok (Calipso 0 c.in-Ok.head.doi c.read_calipso_into.new.label, c.in-Ok.head.length);
+  reads = record { within = c.in-Ok.ensures.ok.within; is = (refl, c.in-Ok.ensures.ok.member) };
+  tells = c.tell_option.ensures.tells;
+}
+
+pub returns-in-Err-clause-tells : goal.returns-in-Err-clause-tells
+returns-in-Err-clause-tells c =
+    record { answer = Err c.octet_of.result; reads = c.octet_of.ensures c.args.octets.now c.in-Err.ensures.err; tells = c.tell_fault.ensures.tells c.args.runs.now }

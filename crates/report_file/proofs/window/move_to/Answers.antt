@@ -1,0 +1,10 @@
+use Rattle.std.proofs.Common.{arith, ◌≡◌, ◌+◌, ◌-◌, subst, sym, drop, ℕ}
+use Rattle.file_window.specs.Window.{IsFrom}
+use Rattle.file_window.proofs.Law.{a_window_goes_on_behind_octets}
+use Rattle.report_file.proofs.window.move_to.Goals as goal
+
+pub returns-else-at-place-clause-ahead : goal.returns-else-at-place-clause-ahead
+returns-else-at-place-clause-ahead c = λ file from.
+    let at : c.args.place.now + (c.args.at - c.args.place.now) ≡ c.args.at = omega arith in
+    let behind = drop (c.args.at - c.args.place.now) c.args.window.now in
+    rw c.skip.ensures (subst (λ (n : ℕ). IsFrom file n behind) at (a_window_goes_on_behind_octets file c.args.place.now (c.args.at - c.args.place.now) c.args.window.now from))

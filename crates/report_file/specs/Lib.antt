@@ -1,0 +1,4 @@
+pub mod Meeting
+pub mod Versions
+pub mod File
+pub mod inside

@@ -1,0 +1,15 @@
+//! The report of a run, read through a window of its file: whether a text stands at a place, and which versions the line there
+//! names at its end. No line is held whole, and memory doesn't grow with the report. Over the named files of `net_io` and the window
+//! of `file_window`; the texts are those of `call_report`.
+#![tactic(auto)]
+
+mod meeting;
+mod naming;
+mod report;
+#[cfg(test)]
+mod tests;
+mod window;
+mod word;
+
+pub use meeting::Met;
+pub use report::ReportFile;

@@ -1,0 +1,184 @@
+-- The lines that are written, by their words.
+use Rattle.std.proofs.Common.{◌≡◌, ◌∙◌, ℕ, ◌<◌, ◌^◌, Bool, true, false, not, List, [], ◌∷◌, ◌++◌, length, codes, decimal, append_assoc, Option, Some, None, refl, sym, ap, subst, arith}
+use Rattle.std.specs.Prelude.{◌==◌, ◌&&◌, nat_le, nat_eq, ◌||◌}
+use Rattle.std.specs.List.{All, join_with_byte, list_all}
+use Rattle.std.proofs.lemmas.Bool.{and_parts}
+use Rattle.std.proofs.lemmas.Bool.Decides.{Decides-eqb, nat_tests}
+use Rattle.std.proofs.lemmas.List.Elements.{All-cons, All-nil, All-from_get_or}
+use Rattle.std.proofs.lemmas.Fmt.{decimal_is_IsNumeral}
+use Rattle.std.proofs.lemmas.Str.Parse.{digit_at}
+use Rattle.address_text.specs.Name.{is_name_octet, is_name}
+use Rattle.flow_lines.specs.FileName.{is_file_octet, is_file_name}
+use Rattle.call_report.specs.Lines.Flow.{flow_line, flow_end_line}
+use Rattle.call_report.specs.Lines.Fixed.{done_line, packets_limit_line}
+use Rattle.call_report.specs.Lines.Reply.{reply_text}
+use Rattle.node_tables.specs.declared.reply.Reply.TheVariants.{Done, Listed, Refused}
+use Rattle.node_tables.specs.declared.reply.Refusal.{Refusal}
+use Rattle.node_tables.specs.declared.reply.Refusal.TheVariants.{DoiExists, DoiUnknown, DoiInUse, NotOneToOne, TooManyPairs, MapExists, MapUnknown, MapPlain, MapHasAddresses, StaticExists, StaticUnknown, ReceiverExists, ReceiverUnknown, RangeExists, RangeUnknown, PairExists, PairUnknown, TableFull}
+use Rattle.node_tables.specs.Refusal.{refusal_name}
+use Rattle.report_lines.specs.declared.form.Form.{Form}
+use Rattle.report_lines.specs.declared.form.Form.TheVariants as form
+use Rattle.report_lines.specs.Slot.{may_stand, is_one_of, refusals}
+use Rattle.report_lines.specs.Form.{slots_of}
+use Rattle.report_lines.specs.Line.{line_words, misfit_of, AreWords, IsWrittenAs}
+use Rattle.report_lines.proofs.Numbers.{a_number}
+use Rattle.report_lines.proofs.Law.{joined_words_are_read_back}
+
+-- ---- words without a blank
+
+no_blank : (p : ℕ → Bool) → p 32 ≡ false → (c : ℕ) → p c ≡ true → (c == 32) ≡ false
+no_blank p none c passes =
+    elim (c == 32) as (λ b. (c == 32) ≡ b → b ≡ false) [
+      | true ↦ λ e. absurd (let same : c ≡ 32 = (Decides-eqb c 32).0 e in let blank : p c ≡ false = ap p same ∙ none in cc)
+      | false ↦ λ e. refl
+    ] refl
+
+blank_free : (p : ℕ → Bool) → p 32 ≡ false → (xs : List ℕ) → list_all p xs ≡ true → All (λ c. (c == 32) ≡ false) xs
+blank_free p none [] all = All-nil (λ c. (c == 32) ≡ false)
+blank_free p none (x ∷ xs) all =
+    let parts = and_parts (p x) (list_all p xs) all in
+    All-cons (λ c. (c == 32) ≡ false) x xs (no_blank p none x parts.0) (blank_free p none xs parts.1)
+
+fixed : (word : List ℕ) → list_all (λ c. not (c == 32)) word ≡ true → All (λ c. (c == 32) ≡ false) word
+fixed word plain = blank_free (λ c. not (c == 32)) refl word plain
+
+digits : (n : ℕ) → n < 2 ^ 64 → All (λ c. (c == 32) ≡ false) (decimal n)
+digits n small = All-from_get_or (λ c. (c == 32) ≡ false) (decimal n) 0 λ i h.
+    let digit = digit_at (decimal n) i (decimal_is_IsNumeral n small).0.1 h in grind (arith, nat_tests, digit)
+
+file : (name : List ℕ) → is_file_name name ≡ true → All (λ c. (c == 32) ≡ false) name
+file [] is = absurd (cc)
+file (first ∷ octets) is =
+    blank_free is_file_octet refl (first ∷ octets) (and_parts (not (nat_eq first 45 || nat_eq first 35) && nat_le (length octets) 126) (list_all is_file_octet (first ∷ octets)) is).1
+
+name_words : (name : List ℕ) → is_name name ≡ true → All (λ c. (c == 32) ≡ false) name
+name_words name is =
+    blank_free is_name_octet refl name (and_parts (nat_le 1 (length name) && nat_le (length name) 63) (list_all is_name_octet name) is).1
+
+-- ---- parts of a line, from the left and from the right
+
+abbrev left_join : List ℕ → List (List ℕ) → List ℕ
+left_join front [] = front
+left_join front (part ∷ parts) = left_join (front ++ part) parts
+
+abbrev right_join : List (List ℕ) → List ℕ
+right_join [] = []
+right_join (part ∷ []) = part
+right_join (part ∷ next ∷ parts) = part ++ right_join (next ∷ parts)
+
+left_right : (front part : List ℕ) (parts : List (List ℕ)) → left_join front (part ∷ parts) ≡ front ++ right_join (part ∷ parts)
+left_right front part [] = refl
+left_right front part (next ∷ parts) = left_right (front ++ part) next parts ∙ append_assoc front part (right_join (next ∷ parts))
+
+-- words and the end of their line
+abbrev ended : List (List ℕ) → List ℕ
+ended [] = 10 ∷ []
+ended (word ∷ []) = word ++ 10 ∷ []
+ended (word ∷ next ∷ words) = word ++ (32 ∷ ended (next ∷ words))
+
+joined_ended : (words : List (List ℕ)) → join_with_byte 32 words ++ 10 ∷ [] ≡ ended words
+joined_ended [] = refl
+joined_ended (word ∷ []) = refl
+joined_ended (word ∷ next ∷ words) = append_assoc word (32 ∷ join_with_byte 32 (next ∷ words)) (10 ∷ []) ∙ ap (λ t. word ++ (32 ∷ t)) (joined_ended (next ∷ words))
+
+-- ---- lines of flows
+
+by_words : (form : Form) (words : List (List ℕ)) (front part : List ℕ) (parts : List (List ℕ)) → 0 < length words → AreWords words → front ++ right_join (part ∷ parts) ≡ ended words
+    → misfit_of 0 [] (slots_of form) words ≡ None → IsWrittenAs form (left_join front (part ∷ parts))
+by_words form words front part parts some are is fit = record {
+  line = join_with_byte 32 words;
+  is = left_right front part parts ∙ is ∙ sym (joined_ended words);
+  all_fit = ap (misfit_of 0 [] (slots_of form)) (joined_words_are_read_back words some are) ∙ fit;
+}
+
+flow_fits : (flow : ℕ) (input : List ℕ) → flow < 2 ^ 64 → is_file_name input ≡ true → misfit_of 0 [] (slots_of form.Flow) (codes "flow" ∷ decimal flow ∷ input ∷ []) ≡ None
+unfolding may_stand
+flow_fits flow input small is = rw (a_number flow (decimal flow) small refl, is) refl
+
+pub flow_written : (flow : ℕ) (input : List ℕ) → flow < 2 ^ 64 → is_file_name input ≡ true → IsWrittenAs form.Flow (flow_line flow input)
+unfolding flow_line
+flow_written flow input small is =
+    by_words form.Flow (codes "flow" ∷ decimal flow ∷ input ∷ []) (codes "flow ") (decimal flow) (codes " " ∷ input ∷ (10 ∷ []) ∷ []) (omega arith) (fixed (codes "flow") refl, (digits flow small, (file input is, tt))) refl (flow_fits flow input small is)
+
+end_fits : (f p q d : ℕ) → f < 2 ^ 64 → p < 2 ^ 64 → q < 2 ^ 64 → d < 2 ^ 64
+    → misfit_of 0 [] (slots_of form.End) (codes "end" ∷ decimal f ∷ codes "packets" ∷ decimal p ∷ codes "passed" ∷ decimal q ∷ codes "denied" ∷ decimal d ∷ []) ≡ None
+unfolding may_stand
+end_fits f p q d hf hp hq hd = rw (a_number f (decimal f) hf refl, a_number p (decimal p) hp refl, a_number q (decimal q) hq refl, a_number d (decimal d) hd refl) refl
+
+pub end_written : (f p q d : ℕ) → f < 2 ^ 64 → p < 2 ^ 64 → q < 2 ^ 64 → d < 2 ^ 64 → IsWrittenAs form.End (flow_end_line f p q d)
+unfolding flow_end_line
+end_written f p q d hf hp hq hd =
+    by_words form.End (codes "end" ∷ decimal f ∷ codes "packets" ∷ decimal p ∷ codes "passed" ∷ decimal q ∷ codes "denied" ∷ decimal d ∷ []) (codes "end ") (decimal f) (codes " packets " ∷ decimal p ∷ codes " passed " ∷ decimal q ∷ codes " denied " ∷ decimal d ∷ (10 ∷ []) ∷ []) (omega arith)
+    (fixed (codes "end") refl, (digits f hf, (fixed (codes "packets") refl, (digits p hp, (fixed (codes "passed") refl, (digits q hq, (fixed (codes "denied") refl, (digits d hd, tt)))))))) refl (end_fits f p q d hf hp hq hd)
+
+done_fits : misfit_of 0 [] (slots_of form.Finished) (codes "done" ∷ []) ≡ None
+unfolding may_stand
+done_fits = refl
+
+pub done_written : IsWrittenAs form.Finished done_line
+unfolding done_line
+done_written = by_words form.Finished (codes "done" ∷ []) (codes "done") (10 ∷ []) [] (omega arith) (fixed (codes "done") refl, tt) refl done_fits
+
+-- ---- replies
+
+reply_fits : (k : ℕ) (node : List ℕ) → k < 2 ^ 64 → is_name node ≡ true → misfit_of 0 [] (slots_of form.Done) (codes "command" ∷ decimal k ∷ node ∷ codes "done" ∷ []) ≡ None
+unfolding may_stand
+reply_fits k node small is = rw (a_number k (decimal k) small refl, is) refl
+
+pub done_reply_written : (k : ℕ) (node : List ℕ) → k < 2 ^ 64 → is_name node ≡ true → IsWrittenAs form.Done (reply_text k node Done)
+unfolding reply_text
+done_reply_written k node small is =
+    by_words form.Done (codes "command" ∷ decimal k ∷ node ∷ codes "done" ∷ []) (codes "command ") (decimal k) (codes " " ∷ node ∷ codes " " ∷ codes "done\n" ∷ []) (omega arith)
+    (fixed (codes "command") refl, (digits k small, (name_words node is, (fixed (codes "done") refl, tt)))) refl (reply_fits k node small is)
+
+-- the name of a refusal is one, and has no blank
+one_refusal : (why : Refusal) → is_one_of refusals (refusal_name why) ≡ true
+unfolding refusals
+one_refusal DoiExists = refl
+one_refusal DoiUnknown = refl
+one_refusal DoiInUse = refl
+one_refusal NotOneToOne = refl
+one_refusal TooManyPairs = refl
+one_refusal MapExists = refl
+one_refusal MapUnknown = refl
+one_refusal MapPlain = refl
+one_refusal MapHasAddresses = refl
+one_refusal StaticExists = refl
+one_refusal StaticUnknown = refl
+one_refusal ReceiverExists = refl
+one_refusal ReceiverUnknown = refl
+one_refusal RangeExists = refl
+one_refusal RangeUnknown = refl
+one_refusal PairExists = refl
+one_refusal PairUnknown = refl
+one_refusal TableFull = refl
+
+plain_refusal : (why : Refusal) → list_all (λ c. not (c == 32)) (refusal_name why) ≡ true
+plain_refusal DoiExists = refl
+plain_refusal DoiUnknown = refl
+plain_refusal DoiInUse = refl
+plain_refusal NotOneToOne = refl
+plain_refusal TooManyPairs = refl
+plain_refusal MapExists = refl
+plain_refusal MapUnknown = refl
+plain_refusal MapPlain = refl
+plain_refusal MapHasAddresses = refl
+plain_refusal StaticExists = refl
+plain_refusal StaticUnknown = refl
+plain_refusal ReceiverExists = refl
+plain_refusal ReceiverUnknown = refl
+plain_refusal RangeExists = refl
+plain_refusal RangeUnknown = refl
+plain_refusal PairExists = refl
+plain_refusal PairUnknown = refl
+plain_refusal TableFull = refl
+
+refused_fits : (k : ℕ) (node : List ℕ) (why : Refusal) → k < 2 ^ 64 → is_name node ≡ true → misfit_of 0 [] (slots_of form.Refused) (codes "command" ∷ decimal k ∷ node ∷ refusal_name why ∷ []) ≡ None
+unfolding may_stand
+refused_fits k node why small is = rw (a_number k (decimal k) small refl, is, one_refusal why) refl
+
+pub refused_reply_written : (k : ℕ) (node : List ℕ) (why : Refusal) → k < 2 ^ 64 → is_name node ≡ true → IsWrittenAs form.Refused (reply_text k node (Refused why))
+unfolding reply_text
+refused_reply_written k node why small is =
+    by_words form.Refused (codes "command" ∷ decimal k ∷ node ∷ refusal_name why ∷ []) (codes "command ") (decimal k) (codes " " ∷ node ∷ codes " " ∷ (refusal_name why ++ 10 ∷ []) ∷ []) (omega arith)
+    (fixed (codes "command") refl, (digits k small, (name_words node is, (fixed (refusal_name why) (plain_refusal why), tt)))) refl (refused_fits k node why small is)

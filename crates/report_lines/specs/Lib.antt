@@ -1,0 +1,4 @@
+pub mod Slot
+pub mod Form
+pub mod Line
+pub mod Told

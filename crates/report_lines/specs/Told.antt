@@ -1,0 +1,33 @@
+-- What a line tells under the name of a field.
+use Rattle.std.specs.Prelude.{ℕ, Bool, false, ◌||◌, ◌==◌, List, [], ◌∷◌, if◌then◌else◌}
+use Rattle.std.specs.Str.{bytes_eq}
+use Rattle.std.specs.List.{before_first, after_first}
+use Rattle.mls_range.specs.LabelText.{dot}
+use Rattle.report_lines.specs.declared.slot.Field.{Field}
+use Rattle.report_lines.specs.declared.slot.Field.TheVariants as name
+use Rattle.report_lines.specs.declared.slot.Slot.{Slot}
+use Rattle.report_lines.specs.declared.slot.Slot.TheVariants as slot
+use Rattle.report_lines.specs.Slot.{field_name}
+
+-- fields are told apart by their names
+abbrev pub is_field : Field → Field → Bool
+is_field a b = bytes_eq (field_name a) (field_name b)
+
+-- a slot's word tells something under a field
+abbrev pub tells : Slot → Field → Bool
+tells (slot.Fixed text) field = false
+tells (slot.Tag own text) field = is_field own field
+tells (slot.Number own) field = is_field own field
+tells (slot.Text own kind) field = is_field own field
+tells slot.Place field = is_field name.Flow field || is_field name.Number field
+tells slot.Versions field = is_field name.Versions field
+
+-- the part of the word that does
+abbrev pub part_of : Slot → Field → List ℕ → List ℕ
+part_of slot.Place field word = if is_field name.Flow field then before_first (λ c. c == dot) word else after_first (λ c. c == dot) word
+part_of slot field word = word
+
+-- what words in slots tell under a field, by the first that does; nothing where none does
+abbrev pub told_word : Field → List Slot → List (List ℕ) → List ℕ
+told_word field (slot ∷ slots) (word ∷ words) = if tells slot field then part_of slot field word else told_word field slots words
+told_word field slots words = []

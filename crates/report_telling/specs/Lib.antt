@@ -1,0 +1,5 @@
+pub mod Counts
+pub mod Json
+pub mod Csv
+pub mod Summary
+pub mod Taking

@@ -1,0 +1,144 @@
+-- What becomes of each line of a report, and of its end.
+use Rattle.std.specs.Prelude.{ℕ, ◌-◌, Bool, true, false, not, ◌==◌, ◌&&◌, nat_lt, List, [], ◌∷◌, ◌++◌, drop, codes, Option, Some, None, unwrap_or, position, Result, Ok, Err, if◌then◌else◌}
+use Rattle.std.specs.Fmt.{decimal}
+use Rattle.script_lines.specs.Octet.{is_plain}
+use Rattle.address_text.specs.Name.{is_name}
+use Rattle.report_lines.specs.declared.form.Form.{Form}
+use Rattle.report_lines.specs.declared.form.Form.TheVariants as form
+use Rattle.report_lines.specs.declared.slot.Field.{Field}
+use Rattle.report_lines.specs.declared.slot.Field.TheVariants as name
+use Rattle.report_lines.specs.Slot.{whole_number}
+use Rattle.report_lines.specs.Form.{slots_of}
+use Rattle.report_lines.specs.Line.{line_form, line_words}
+use Rattle.report_lines.specs.Told.{told_word}
+use Rattle.report_telling.specs.declared.counts.Progress.{Progress}
+use Rattle.report_telling.specs.declared.counts.Tally.{Tally}
+use Rattle.report_telling.specs.declared.way.Way.{Way}
+use Rattle.report_telling.specs.declared.way.Way.TheVariants.{Summary, Denied, Json, Csv}
+use Rattle.report_telling.specs.declared.taking.LineKind.{LineKind}
+use Rattle.report_telling.specs.declared.taking.LineKind.TheVariants.{Listed, Of}
+use Rattle.report_telling.specs.Counts.{risen, tallied, is_counted}
+use Rattle.report_telling.specs.Json.{json_text, listed_json, unfinished_json}
+use Rattle.report_telling.specs.Csv.{csv_text, listed_csv, unfinished_csv}
+use Rattle.report_telling.specs.Summary.{refused_text}
+
+-- the first octet that a line of a listing can't have: two spaces stand in front of printable ASCII
+abbrev pub listed_stop : List ℕ → Option ℕ
+listed_stop [] = Some 0
+listed_stop (a ∷ []) = if a == 32 then Some 1 else Some 0
+listed_stop (a ∷ b ∷ line) = if a == 32 then (if b == 32 then position (λ octet. not (is_plain octet)) (a ∷ b ∷ line) else Some 1) else Some 0
+
+abbrev pub listed_kind : Option ℕ → Result LineKind ℕ
+listed_kind None = Ok Listed
+listed_kind (Some octet) = Err octet
+
+abbrev pub form_kind : Result Form ℕ → Result LineKind ℕ
+form_kind (Ok form) = Ok (Of form)
+form_kind (Err octet) = Err octet
+
+-- What a line is, or the octet at fault: nothing comes behind a report's last line, and as many lines of a listing as were told.
+abbrev pub line_kind : Progress → List ℕ → Result LineKind ℕ
+line_kind p line =
+    if p.finished then Err 0
+    else if p.due == 0 then form_kind (line_form line)
+    else listed_kind (listed_stop line)
+
+-- a packet was denied
+abbrev pub is_denial_form : Form → Bool
+is_denial_form form.DeniedPlain = true
+is_denial_form form.DeniedOctet = true
+is_denial_form form.DeniedCategory = true
+is_denial_form form.DeniedCause = true
+is_denial_form form = false
+
+-- how a line of a form is told
+abbrev pub form_text : Way → ℕ → Form → List ℕ → List ℕ
+form_text Summary report form.Refused line = refused_text report (drop 8 line)
+form_text Summary report form line = []
+form_text Denied report form line = if is_denial_form form then line ++ 10 ∷ [] else []
+form_text Json report form line = json_text report form line
+form_text Csv report form line = csv_text report form line
+
+abbrev pub listed_text : Way → ℕ → List ℕ → List ℕ
+listed_text Summary report line = []
+listed_text Denied report line = []
+listed_text Json report line = listed_json report (drop 2 line)
+listed_text Csv report line = listed_csv report (drop 2 line)
+
+-- how a line of the report of this number is told
+abbrev pub line_text : Way → ℕ → LineKind → List ℕ → List ℕ
+line_text way report Listed line = listed_text way report line
+line_text way report (Of form) line = form_text way report form line
+
+-- how it is told that a report isn't finished, where it isn't
+abbrev pub unfinished_text : Way → ℕ → Bool → List ℕ
+unfinished_text way report true = []
+unfinished_text Summary report false = []
+unfinished_text Denied report false = codes "unfinished " ++ decimal report ++ codes "\n"
+unfinished_text Json report false = unfinished_json report
+unfinished_text Csv report false = unfinished_csv report
+
+-- what a line tells under a field
+abbrev pub told_in : Field → Form → List ℕ → List ℕ
+told_in field form line = told_word field (slots_of form) (line_words line)
+
+-- and its number
+abbrev pub number_told : Field → Form → List ℕ → ℕ
+number_told field form line = unwrap_or (whole_number (told_in field form line)) 0
+
+-- what a form counts for
+abbrev pub counted : Form → List ℕ → Progress → Progress
+counted form.Delivered line p = record p { delivered = risen p.delivered }
+counted form.Sent line p = record p { sent = risen p.sent }
+counted form.DeniedPlain line p = record p { denied = risen p.denied }
+counted form.DeniedOctet line p = record p { denied = risen p.denied }
+counted form.DeniedCategory line p = record p { denied = risen p.denied }
+counted form.DeniedCause line p = record p { denied = risen p.denied }
+counted form.Done line p = record p { commands = risen p.commands }
+counted form.Refused line p = record p { commands = risen p.commands; refused = risen p.refused }
+counted form.Listed line p = record p { commands = risen p.commands; due = number_told name.Lines form.Listed line }
+counted form.Flow line p = p
+counted form.End line p = p
+counted form line p = record p { finished = true }
+
+-- where a reading stands
+pub record Standing : Type 0 where
+  pub progress : Progress
+  pub tallies : List Tally
+
+-- there is a tally of a denied packet, or room for one
+abbrev pub has_place : Form → List ℕ → List Tally → Bool
+has_place form line tallies = is_name (told_in name.Name form line) && (is_name (told_in name.Node form line)
+    && is_counted (number_told name.Denial form line) (number_told name.Hop form line) (told_in name.Node form line) tallies)
+
+-- with one more in it
+abbrev pub with_tally : Form → List ℕ → List Tally → List Tally
+with_tally form line tallies = tallied (number_told name.Denial form line) (told_in name.Name form line) (number_told name.Hop form line) (told_in name.Node form line) tallies
+
+-- a packet that was denied, in its tally or elsewhere
+abbrev pub with_denied : Form → List ℕ → Standing → Standing
+with_denied form line s =
+    if has_place form line s.tallies then record { progress = s.progress; tallies = with_tally form line s.tallies }
+    else record { progress = record s.progress { elsewhere = risen s.progress.elsewhere }; tallies = s.tallies }
+
+-- one line more of the report in hand
+abbrev pub one_line : Progress → Progress
+one_line p = record p { line = risen p.line }
+
+-- where a reading stands behind a line of a form
+abbrev pub after_form : Form → List ℕ → Standing → Standing
+after_form form line s =
+    if is_denial_form form then with_denied form line (record { progress = counted form line (one_line s.progress); tallies = s.tallies })
+    else record { progress = counted form line (one_line s.progress); tallies = s.tallies }
+
+abbrev pub after_line : LineKind → List ℕ → Standing → Standing
+after_line Listed line s = record { progress = record (one_line s.progress) { due = s.progress.due - 1 }; tallies = s.tallies }
+after_line (Of form) line s = after_form form line s
+
+-- where it stands behind a report's end
+abbrev pub after_end : Progress → Progress
+after_end p = record p { reports = risen p.reports; unfinished = if p.finished then p.unfinished else risen p.unfinished; line = 0; due = 0; finished = false }
+
+-- the line that tells where a text is no report
+unfoldable pub no_report_text : Progress → ℕ → List ℕ
+no_report_text p octet = codes "report " ++ decimal (risen p.reports) ++ codes " line " ++ decimal (risen p.line) ++ codes " octet " ++ decimal octet ++ codes "\n"

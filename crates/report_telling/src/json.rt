@@ -1,0 +1,171 @@
+//! A line as a record of JSON.
+
+ghost use Rattle.std.specs.Prelude.{◌≡◌, ◌++◌, OnOk};
+ghost use Rattle.std.specs.List.{flat_map};
+ghost use Rattle.report_lines.specs.Line.{line_words};
+ghost use Rattle.report_telling.specs.Json.{escaped, string_text, member_name, versions_list, member_text, members_text, record_begin, json_text, listed_json, unfinished_json};
+
+use mls_label::OutOfMemory;
+use octet_grammar::write_decimal;
+use report_lines::{Field, Form, Slot, first_word, parts_at};
+
+/// Appends a line of this form, of the report of this number, as a record.
+#[tactic(auto, unfolding(crate::specs::Json::json_text))]
+pub fn write_json(
+    report: u64,
+    form: Form,
+    line: &[u8],
+    out: &mut Vec<u8>,
+) -> Result<(), OutOfMemory>
+    ensures { OnOk result (out.new.items ≡ out.old.items ++ json_text report form line.now) }
+{
+    begin_record(report, form.name(), out)?;
+    append_members(form.slots(), line, out)?;
+    out.extend_from_slice(b"}\n")?;
+    Ok(())
+}
+
+/// Appends a listed line as a record.
+#[tactic(auto, unfolding(crate::specs::Json::listed_json))]
+pub fn write_listed_json(report: u64, line: &[u8], out: &mut Vec<u8>) -> Result<(), OutOfMemory>
+    ensures { OnOk result (out.new.items ≡ out.old.items ++ listed_json report line.now) }
+{
+    begin_record(report, b"listed", out)?;
+    out.extend_from_slice(b",\"text\":")?;
+    append_string(line, out)?;
+    out.extend_from_slice(b"}\n")?;
+    Ok(())
+}
+
+/// Appends that a report isn't finished.
+#[tactic(auto, unfolding(crate::specs::Json::unfinished_json))]
+pub fn write_unfinished_json(report: u64, out: &mut Vec<u8>) -> Result<(), OutOfMemory>
+    ensures { OnOk result (out.new.items ≡ out.old.items ++ unfinished_json report) }
+{
+    begin_record(report, b"unfinished", out)?;
+    out.extend_from_slice(b"}\n")?;
+    Ok(())
+}
+
+fn begin_record(report: u64, name: &[u8], out: &mut Vec<u8>) -> Result<(), OutOfMemory>
+    ensures { OnOk result (out.new.items ≡ out.old.items ++ record_begin report name.now) }
+{
+    out.extend_from_slice(b"{\"report\":")?;
+    write_decimal(report, out)?;
+    out.extend_from_slice(b",\"line\":\"")?;
+    out.extend_from_slice(name)?;
+    out.extend_from_slice(b"\"")?;
+    Ok(())
+}
+
+/// Appends what the words of a line say.
+fn append_members(slots: &[Slot], line: &[u8], out: &mut Vec<u8>) -> Result<(), OutOfMemory>
+    ensures { OnOk result (out.new.items
+        ≡ out.old.items ++ members_text slots.now (line_words line.now)) }
+{
+    let mut slots = slots;
+    let mut text = line;
+    let mut more = true;
+    while let [slot, others @ ..] = slots {
+        if !more {
+            return Ok(());
+        }
+        let word = first_word(text);
+        append_member(*slot, word.text, out)?;
+        text = word.rest;
+        more = word.more;
+        slots = others;
+    }
+    Ok(())
+}
+
+fn append_member(slot: Slot, word: &[u8], out: &mut Vec<u8>) -> Result<(), OutOfMemory>
+    ensures { OnOk result (out.new.items ≡ out.old.items ++ member_text slot word.now) }
+{
+    match slot {
+        Slot::Fixed { .. } => Ok(()),
+        Slot::Tag { field, .. } => append_text(field, word, out),
+        Slot::Number { field } => append_number(field, word, out),
+        Slot::Text { field, .. } => append_text(field, word, out),
+        Slot::Place => append_place(word, out),
+        Slot::Versions => append_versions(word, out),
+    }
+}
+
+fn append_name(field: Field, out: &mut Vec<u8>) -> Result<(), OutOfMemory>
+    ensures { OnOk result (out.new.items ≡ out.old.items ++ member_name field) }
+{
+    out.extend_from_slice(b",\"")?;
+    out.extend_from_slice(field.name())?;
+    out.extend_from_slice(b"\":")?;
+    Ok(())
+}
+
+fn append_number(field: Field, number: &[u8], out: &mut Vec<u8>) -> Result<(), OutOfMemory>
+    ensures { OnOk result (out.new.items
+        ≡ out.old.items ++ (member_name field ++ number.now)) }
+{
+    append_name(field, out)?;
+    out.extend_from_slice(number)?;
+    Ok(())
+}
+
+fn append_text(field: Field, text: &[u8], out: &mut Vec<u8>) -> Result<(), OutOfMemory>
+    ensures { OnOk result (out.new.items
+        ≡ out.old.items ++ (member_name field ++ string_text text.now)) }
+{
+    append_name(field, out)?;
+    append_string(text, out)
+}
+
+fn append_place(word: &[u8], out: &mut Vec<u8>) -> Result<(), OutOfMemory>
+    ensures { OnOk result (out.new.items ≡ out.old.items ++ member_text Slot.Place word.now) }
+{
+    let (flow, number) = parts_at(word, b'.');
+    append_number(Field::Flow, flow, out)?;
+    append_number(Field::Number, number, out)
+}
+
+/// Appends versions as a list, which is empty where there are none.
+fn append_versions(word: &[u8], out: &mut Vec<u8>) -> Result<(), OutOfMemory>
+    ensures { OnOk result (out.new.items ≡ out.old.items ++ member_text Slot.Versions word.now) }
+{
+    append_name(Field::Versions, out)?;
+    out.push(b'[')?;
+    if word != b"-".as_slice() {
+        out.extend_from_slice(word)?;
+    }
+    out.push(b']')?;
+    Ok(())
+}
+
+/// Appends a text of printable ASCII as a string (RFC 8259, section 7).
+fn append_string(text: &[u8], out: &mut Vec<u8>) -> Result<(), OutOfMemory>
+    ensures { OnOk result (out.new.items ≡ out.old.items ++ string_text text.now) }
+{
+    out.push(b'"')?;
+    append_octets(text, out)?;
+    out.push(b'"')?;
+    Ok(())
+}
+
+fn append_octets(text: &[u8], out: &mut Vec<u8>) -> Result<(), OutOfMemory>
+    ensures { OnOk result (out.new.items ≡ out.old.items ++ flat_map escaped text.now) }
+{
+    let mut rest = text;
+    while let [octet, behind @ ..] = rest {
+        append_octet(*octet, out)?;
+        rest = behind;
+    }
+    Ok(())
+}
+
+fn append_octet(octet: u8, out: &mut Vec<u8>) -> Result<(), OutOfMemory>
+    ensures { OnOk result (out.new.items ≡ out.old.items ++ escaped octet) }
+{
+    if octet == b'"' || octet == b'\\' {
+        out.push(b'\\')?;
+    }
+    out.push(octet)?;
+    Ok(())
+}

@@ -1,0 +1,10 @@
+pub mod Sorted
+pub mod Going
+pub mod Back
+pub mod Rows
+pub mod Swaps
+pub mod Hop
+pub mod Stands
+pub mod InSteps
+pub mod OutSteps
+pub mod Law

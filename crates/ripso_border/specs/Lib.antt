@@ -1,0 +1,9 @@
+pub mod Options
+pub mod In
+pub mod Out
+pub mod Written
+pub mod Crossing
+pub mod Worked
+pub mod Border
+pub mod Laws
+pub mod inside

@@ -1,0 +1,32 @@
+use Rattle.std.proofs.Common.{refl, Some}
+use Rattle.script_lines.specs.Form.{with_translations}
+use Rattle.label_commands.proofs.Law.{scripts_are_sound}
+use Rattle.call_report.specs.Outside.{Outside}
+use Rattle.script_input.specs.Answer.{HopsAnswer}
+use Rattle.script_input.proofs.Law.{hops_are_answered, answers_read, ends_answered, ends_without_script}
+use Rattle.static_law.specs.Cover.{IsLinkFound, cover_text, cover_says}
+use Rattle.static_law.proofs.top.answer.Goals as goal
+
+pub answer_hops-requires : goal.answer_hops-requires
+answer_hops-requires g c = (c.args.file.now, scripts_are_sound with_translations c.args.file.now c.in-Ok.ensures.ok.text c.in-Ok.script c.in-Ok.ensures.ok.is)
+
+pub returns-in-Ok : goal.returns-in-Ok
+returns-in-Ok g c =
+    let file = c.args.file.now in
+    let number = c.args.flow in
+    let named = c.args.versions.now in
+    let before : Outside = record { folder = g.D.Depot.state c.args.depot.now; stream = g.S.Sink.state c.args.out.now } in
+    let mid : Outside = record { folder = g.D.Depot.state c.script_of.new.depot; stream = g.S.Sink.state c.script_of.new.out } in
+    let after : Outside = record { folder = g.D.Depot.state c.script_of.new.depot; stream = g.S.Sink.state c.answer_hops.new.out } in
+    ends_answered cover_says (Some (record { file = file; flow = number; versions = named })) (HopsAnswer IsLinkFound cover_text number named) file (λ e. cc) (λ P p. p) (hops_are_answered IsLinkFound cover_text number named)
+    before after c.in-Ok.script mid c.answer_hops.result c.in-Ok.ensures.ok refl c.answer_hops.ensures
+
+pub returns-in-Err : goal.returns-in-Err
+returns-in-Err g c =
+    let file = c.args.file.now in
+    let number = c.args.flow in
+    let named = c.args.versions.now in
+    let before : Outside = record { folder = g.D.Depot.state c.args.depot.now; stream = g.S.Sink.state c.args.out.now } in
+    let after : Outside = record { folder = g.D.Depot.state c.script_of.new.depot; stream = g.S.Sink.state c.script_of.new.out } in
+    ends_without_script cover_says (Some (record { file = file; flow = number; versions = named })) file (λ e. cc)
+    (answers_read (HopsAnswer IsLinkFound cover_text number named) file (hops_are_answered IsLinkFound cover_text number named)) before after c.in-Err.status c.in-Err.ensures.err
