@@ -19,10 +19,18 @@ refuse() {
     exit 1
 }
 
-# The examples' files. Where one is run in place its captures lie beside those that it reads: each has the name of one in `wanted`.
+# Whether a call of an example makes this file, where it is run in place: then it has the name of one in `wanted`, or `wanted-run` and the like.
+is_made() {
+    for wanted in "${1%/*}"/wanted*/"${1##*/}"; do
+        [ ! -e "$wanted" ] || return 0
+    done
+    return 1
+}
+
+# The examples' files, without what they make.
 examples() {
     find examples -type f | while read -r file; do
-        [ -e "${file%/*}/wanted/${file##*/}" ] || echo "$file"
+        is_made "$file" || echo "$file"
     done
 }
 

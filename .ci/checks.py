@@ -17,6 +17,12 @@ tracked = subprocess.run(["git", "ls-files"], cwd=top, capture_output=True, text
 texts = {name: (top / name).read_text(encoding="utf-8", errors="replace") for name in tracked if name and (top / name).is_file()}
 failures = []
 
+# An example's folder has files of the repository and what .gitignore names one by one, the captures that a call there makes: an input is never among these.
+ignored = {line for line in texts[".gitignore"].splitlines() if line.startswith("/examples/")}
+others = subprocess.run(["git", "ls-files", "--others", "examples"], cwd=top, capture_output=True, text=True, check=True).stdout.splitlines()
+failures += [f"{name}: stands there, and isn't in the repository" for name in others if f"/{name}" not in ignored]
+failures += [f".gitignore: {line}: no example makes it" for line in sorted(ignored - {"/examples/c/labels"}) if not [*top.glob(re.sub(r"([^/]+)$", r"wanted*/\1", line[1:]))]]
+
 # A reader has this repository alone: no number of a paper, no path of a machine.
 cited = re.compile(
     r"(?<![\w./-])(?:document 0\d|0[1-4], [A-K]\b|0[1-4] §\s?\d+|§\s?\d+|[RWLD]\d{1,2}\b|T[1-5][a-d]\b|rows? \d{1,2}\b)"
