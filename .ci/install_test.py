@@ -122,12 +122,15 @@ def test_install(tree, made):
     refused = run(tree / "install.sh", blocked)
     tell("refuses where it can't write", refused.returncode == 1 and "Nothing was changed" in refused.stderr, refused.stderr)
     tell("refuses a relative prefix", run(tree / "install.sh", "opt", cwd=made).returncode == 2)
-    (tree / "examples/crossing/far.pcap").write_text("made in place")
+    for made_in_place in ("crossing/far.pcap", "ripso-border/passed.pcap"):
+        (tree / "examples" / made_in_place).write_text("made in place")
     done = run(tree / "install.sh", "/usr", env={**os.environ, "DESTDIR": str(prefix)}, umask=0o077)
     there = held(prefix / "usr") if done.returncode == 0 else []
     closed = [path.relative_to(prefix) for path in prefix.rglob("*") if path.is_dir() and path.stat().st_mode & 0o777 != 0o755]
     tell("everybody may read the folders", bool(there) and not closed, closed)
-    tell("leaves out what an example made in place", "share/doc/netlabel/examples/crossing/far.pcap" not in there)
+    for made_in_place in ("crossing/far.pcap", "ripso-border/passed.pcap"):
+        tell(f"leaves out {made_in_place}, made in place", f"share/doc/netlabel/examples/{made_in_place}" not in there)
+    tell("takes the inputs of examples", "share/doc/netlabel/examples/ripso-border/inside.pcap" in there)
     tell("puts each file below DESTDIR", all(name in there for name in INSTALLED), done.stderr)
     tell("leaves no half file", not [name for name in there if name.endswith(".new")])
     for crate, name in PROGRAMS.items():
