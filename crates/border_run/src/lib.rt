@@ -10,3 +10,6 @@ mod task;
 mod top;
 
 pub use top::border;
+
+#[cfg(test)]
+mod tests;

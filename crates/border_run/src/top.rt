@@ -121,7 +121,18 @@ fn cross_by<D: Depot, S: Sink>(
         doi,
         definition,
     };
-    cross_capture(alloc, &border, task, depot, out)
+    match protect_read(task, depot) {
+        Ok(()) => cross_capture(alloc, &border, task, depot, out),
+        Err(OutOfMemory) => Status::OutOfMemory,
+    }
+}
+
+/// Protects what a call reads: the output can't be the script or the input by another name.
+fn protect_read<D: Depot>(task: &Task<'_>, depot: &mut D) -> Result<(), OutOfMemory>
+    ensures { D.state depot.new ≡ D.state depot.old }
+{
+    depot.protect(task.script.as_str())?;
+    depot.protect(task.input.as_str())
 }
 
 /// Whether the output is the script or the input.
