@@ -4,6 +4,7 @@
 
 mod course;
 mod definition;
+pub mod laws;
 mod lines;
 mod run;
 mod task;
