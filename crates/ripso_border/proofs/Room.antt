@@ -1,20 +1,18 @@
 -- What stands in the header of a packet of version 4, and how much room and length it takes without a label option.
-use Rattle.std.proofs.Common.{◌≡◌, ℕ, zero, suc, ◌+◌, ◌-◌, ◌%◌, ◌*◌, ◌<◌, ◌≤◌, Bool, true, false, not, ◌==◌, ◌||◌, cond, nat_lt, List, [], ◌∷◌, ◌++◌, length, take, drop, filter, map, replicate, refl, sym, ap, subst, ◌∙◌, arith, length-append, length-take, length-drop}
-use Rattle.std.specs.Prelude.{Option, Some, None, Result, Ok, Err, slice_get, slice_range, if◌then◌else◌}
+use Rattle.std.proofs.Common.{◌≡◌, ℕ, zero, suc, ◌+◌, ◌-◌, ◌≤◌, Bool, true, false, not, ◌==◌, ◌||◌, cond, nat_lt, List, [], ◌∷◌, ◌++◌, length, take, drop, filter, map, replicate, refl, ap, subst, ◌∙◌, arith, length-append, length-take, length-drop}
+use Rattle.std.specs.Prelude.{Option, Some, None, Ok, slice_get, slice_range}
 use Rattle.std.specs.Option.{option_or}
 use Rattle.std.proofs.lemmas.Bool.Decides.{nat_tests}
 use Rattle.std.proofs.lemmas.List.{length-replicate}
-use Rattle.octet_grammar.specs.Octets.{IsOctets}
-use Rattle.octet_grammar.proofs.Numbers.{u16_small}
 use Rattle.ip_headers.specs.declared.version.Version.{Version}
 use Rattle.ip_headers.specs.declared.version.Version.TheVariants.{V4, V6}
 use Rattle.ip_headers.specs.declared.fault.HeadFault.{HeadFault}
 use Rattle.ip_headers.specs.declared.fault.HeadKind.TheVariants.{Short, Version as VersionKind, HeaderLength, TotalLength, Checksum}
 use Rattle.ip_headers.specs.Sum.{ones_sum}
-use Rattle.ip_headers.specs.Options.{Placed, options_within, options_from, with_first, ends_list, is_whole, announced, is_label, is_other, labels_of, others_of, aligned, type_octet}
+use Rattle.ip_headers.specs.Options.{Placed, options_within, ends_list, is_whole, announced, is_label, is_other, labels_of, others_of, aligned, type_octet}
 use Rattle.ip_headers.specs.Packet.{Headers}
 use Rattle.ip_headers.specs.Header4.{version_number, header_length, total_length, payload4, head4, fixed_fault4}
-use Rattle.ip_headers.specs.Reading.{first_place, front_of, unless, options_of, front_fault, jumbo_fault, parsed}
+use Rattle.ip_headers.specs.Reading.{first_place, front_of, unless, options_of, parsed}
 use Rattle.ip_headers.specs.Written.{gap_to, filled, packed, kept_options, option_area, label_octets, rebuilt_room, rebuilt_length, room_of, length_of}
 use Rattle.packet_label.specs.Choice.{chosen, read_in, front_in}
 

@@ -1,5 +1,5 @@
 -- What goes out has room and length enough: option 130 takes at most 7 octets, where the CIPSO option took 10 or more.
-use Rattle.std.proofs.Common.{◌≡◌, ◌≢◌, ℕ, ◌+◌, ◌≤◌, ◌<◌, Bool, true, false, not, ◌==◌, nat_lt, List, [], ◌∷◌, length, refl, sym, ap, subst, ◌∙◌, arith}
+use Rattle.std.proofs.Common.{◌≡◌, ◌≢◌, ℕ, ◌+◌, ◌≤◌, Bool, true, false, not, ◌==◌, nat_lt, List, [], ◌∷◌, length, refl, sym, ap, subst, ◌∙◌, arith}
 use Rattle.std.specs.Prelude.{Option, Some, None, Result, Ok, Err, if◌then◌else◌}
 use Rattle.std.proofs.lemmas.Bool.{le-ltb}
 use Rattle.octet_grammar.specs.Octets.{IsOctets}
@@ -13,11 +13,9 @@ use Rattle.ripso_option.proofs.Law.{written_option_reads_back, options_have_3_to
 use Rattle.ip_headers.specs.declared.version.Version.{Version}
 use Rattle.ip_headers.specs.declared.version.Version.TheVariants.{V4, V6}
 use Rattle.ip_headers.specs.Options.{Placed}
-use Rattle.ip_headers.specs.Packet.{ParsedPacket, Headers}
-use Rattle.ip_headers.specs.Header4.{header_length, total_length}
+use Rattle.ip_headers.specs.Packet.{ParsedPacket}
 use Rattle.ip_headers.specs.Swapped.{led_by}
 use Rattle.ip_headers.specs.Written.{room_limit, rebuilt_room, rebuilt_length}
-use Rattle.packet_label.specs.declared.denial.Denial.{Denial}
 use Rattle.packet_label.specs.declared.denial.Denial.TheVariants.{NoRoom, TooLong, UnknownDoi, TagNotAllowed, Inexpressible}
 use Rattle.packet_label.specs.declared.fault.CarryFault.{CarryFault}
 use Rattle.packet_label.specs.declared.fault.CarryFault.TheVariants as fault
