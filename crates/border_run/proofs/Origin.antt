@@ -40,9 +40,9 @@ module _ (plan : DoiPlan) (doi : ℕ) (before : List ℕ) (p : ParsedPacket Wire
 
   begun : (t : TableState) (hop : Hop) (read : Result (ParsedPacket Wire) CarryFault) (origin : Label) → is_send hop ≡ false → PassesAll plan doi t → IsReadAs (packet_octets (written p)) read → hop_label t hop read ≡ Ok origin
       → SaysOrigin plan before origin
-  begun t (Send node domain interface label) read origin no passes reads e = absurd (cc)
-  begun t (Forward node from to domain) read origin no passes reads e = taken t from read origin passes reads e
-  begun t (Receive node interface) read origin no passes reads e = taken t interface read origin passes reads e
+  begun t (Send node domain interface label) read origin apart passes reads e = absurd (cc)
+  begun t (Forward node from to domain) read origin apart passes reads e = taken t from read origin passes reads e
+  begun t (Receive node interface) read origin apart passes reads e = taken t interface read origin passes reads e
 
   of_flow : (tables : PlanState) (hops : List Hop) (versions : List ℕ) (origin : Label) → BeginsBehind plan doi tables hops versions → IsOrigin tables hops (packet_octets (written p)) versions origin → SaysOrigin plan before origin
   of_flow tables [] versions origin begins has = absurd begins

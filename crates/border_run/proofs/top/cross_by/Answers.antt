@@ -28,3 +28,9 @@ returns-in-None g c before text holds is same stream =
     ends_line task before start after same stream refl no_doi_line c.end-in-None.result
     (undefined_is task before text c.args.script.now holds is (sym c.is_named_twice.ensures ∙ c.if-is_named_twice.false) (ap (λ (d : ℕ). first_definition (last_tables c.args.script.now) d) (sym (c.get-doi.ensures.number ∙ c.doi.ensures)) ∙ ap (λ (n : List TableState). first_definition n c.get-doi.result) (sym c.in-Ok.ensures) ∙ sym (rw c.in-None.is at c.first_definition.ensures)))
     (rw (c.new-in-None.ensures, c.no_doi.ensures) at c.end-in-None.ensures)
+
+pub returns : goal.returns
+returns g c before text holds is same stream =
+    let start : Outside = record { folder = g.D.Depot.state c.args.depot.now; stream = g.S.Sink.state c.args.out.now } in
+    let after : Outside = record { folder = g.D.Depot.state c.protect_read.new.depot; stream = g.S.Sink.state c.args.out.now } in
+    ends_memory c.args.task.now before start after same stream c.protect_read.ensures refl
