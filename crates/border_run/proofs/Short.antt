@@ -1,7 +1,6 @@
 -- What a crossing leaves is short enough for a frame.
-use Rattle.std.proofs.Common.{◌≡◌, ℕ, ◌≤◌, List, [], length, ap, subst, ◌∙◌, arith}
+use Rattle.std.proofs.Common.{ℕ, ◌≤◌, List, length, ap, subst, arith}
 use Rattle.std.specs.Prelude.{Option, Result, Ok, Err}
-use Rattle.packet_label.specs.declared.denial.Denial.{Denial}
 use Rattle.packet_label.specs.declared.denial.Stop.{Stop}
 use Rattle.packet_label.specs.declared.denial.Stop.TheVariants.{Denied, OutOfMemory}
 use Rattle.doi_table.specs.declared.plan.DoiPlan.{DoiPlan}
