@@ -73,7 +73,8 @@ pub fn packets_have_one_verdict()
 
 /// A packet that is written has at most 65,535 octets.
 pub fn written_packets_are_short()
-    ensures { (way : Way) (plan : DoiPlan) (doi : ℕ) (part : Option (List ℕ)) (p : ParsedPacket Wire)
+    ensures { (way : Way) (plan : DoiPlan) (doi : ℕ) (part : Option (List ℕ))
+        (p : ParsedPacket Wire)
         → Crosses way plan doi part (Ok p) → length (packet_octets (written p)) ≤ 65535 }
 {}
 
