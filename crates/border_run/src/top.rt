@@ -104,7 +104,8 @@ fn cross_by<D: Depot, S: Sink>(
         (record { folder = D.state depot.new; stream = S.state out.new })
         (status_number result) [] }
 {
-    if is_named_twice(task) {
+    let twice = is_named_twice(task);
+    if twice {
         return Report::new(alloc).end(out, name_twice(), Status::WrongScript);
     }
     let network = match last_tables(alloc, script) {
