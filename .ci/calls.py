@@ -299,3 +299,56 @@ PCAPNG = [
            report=b"denied 1 BadHeader octet 0\n"),
     forwarding(11, 300),
 ]
+
+# --- captures over a border ---------------------------------------------------------------------------------------------------------------------
+
+BORDER_SCRIPT = (TOP / "examples/ripso-border/border").read_bytes()
+NOTHING_CROSSES = b"packet 1 denied 22 NotIp\nend packets 1 passed 0 denied 1\n"
+
+
+def border(name, output="o.pcap", *, status=0, report=NOTHING_CROSSES, own="s", read="b.pcap", way=b"in", more=lambda folder: None, left=None):
+    """A call of `ripso_border` over a capture of one frame without IP, which leaves an output without a packet, if it ends with 0."""
+
+    def fill(folder):
+        (folder / "s").write_bytes(BORDER_SCRIPT)
+        more(folder)
+
+    made = ({output: EMPTY} if status == 0 else {}) if left is None else left
+    words = [way, own.encode(), b"16", read.encode(), output.encode()]
+    return names(name, [], words=words, status=status, report=report, more=fill, left=made)._replace(program="ripso_border")
+
+
+def of_so_many(count, ends, status):
+    """A call over so many frames without an octet, of which the last line is this one."""
+    lines = b"".join(b"packet %d denied 1 BadHeader octet 0\n" % n for n in range(1, MOST_PACKETS + 1))
+    return border(f"{count} packets at a border", status=status, report=lines + ends, left=MADE,
+                  more=lambda at: (at / "b.pcap").write_bytes(capture([b""] * count, link=101)))
+
+
+NAME_TWICE = b"script line 0 octet 0 NameTwice\n"
+BORDER = [
+    border("a border's output is its input", "b.pcap", status=2, report=NAME_TWICE),
+    border("a border's output is its script", "s", status=2, report=NAME_TWICE),
+    border("a border's input by another spelling", "./b.pcap", status=3, report=b""),
+    border("a border's input by a link", "l", status=3, report=b"", more=lambda at: (at / "l").symlink_to("b.pcap")),
+    border("a border's input by a second name", "h", status=3, report=b"", more=lambda at: os.link(at / "b.pcap", at / "h")),
+    border("a border's script by another spelling", "folder/../s", status=3, report=b""),
+    border("a border's output is a folder", "folder", status=3, report=b""),
+    border("a border's output is a pipe", "pipe", status=3, report=b"", more=lambda at: os.mkfifo(at / "pipe")),
+    border("a border's output in a folder that isn't there", "no/o.pcap", status=3, report=b""),
+    border("a border's input isn't there", status=3, report=b"", read="no.pcap"),
+    border("a border's script isn't there", status=3, report=b"", own="absent"),
+    border("a border's input in pcapng", status=5, report=b"capture 1 octet 0 Magic\n",
+           more=lambda at: ((at / "b.pcap").write_bytes(made_captures.of_two_interfaces()), (at / "o.pcap").write_bytes(b"kept"))),
+    border("a border's input is cut behind its packet", status=5, report=NOTHING_CROSSES.splitlines(True)[0] + b"capture 1 octet 83 Short\n", left=MADE,
+           more=lambda at: ((at / "b.pcap").write_bytes(capture([ARP, b""])[:83]), (at / "o.pcap").write_bytes(b"old"))),
+    border("a new output of a border", way=b"out"),
+    border("an old output of a border, with its second name", left={**MADE, "h": EMPTY},
+           more=lambda at: ((at / "o.pcap").write_bytes(b"old"), os.link(at / "o.pcap", at / "h"))),
+    border("an output of a border in a folder", "folder/o.pcap", read="./b.pcap"),
+    border("no way over a border", status=1, report=None, way=b"over"),
+]
+LONG_BORDER = [
+    of_so_many(MOST_PACKETS, b"end packets %d passed 0 denied %d\n" % (MOST_PACKETS, MOST_PACKETS), 0),
+    of_so_many(MOST_PACKETS + 1, b"limit packets %d\n" % MOST_PACKETS, 7),
+]

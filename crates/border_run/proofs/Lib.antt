@@ -9,3 +9,6 @@ pub mod Planning
 pub mod Beginning
 pub mod Tables
 pub mod Turning
+pub mod Short
+pub mod Origin
+pub mod Law

@@ -4,4 +4,5 @@ pub mod Frames
 pub mod Definition
 pub mod Outcome
 pub mod Says
+pub mod Laws
 pub mod inside

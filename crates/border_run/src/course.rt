@@ -16,9 +16,6 @@ use packet_label::{Denial, Stop};
 use pcap_frames::{FrameHead, ip_part};
 use ripso_border::{Border, cross};
 
-/// The most octets that a frame of a capture has.
-const MOST_OCTETS: usize = 262_144;
-
 /// What becomes of the packet in a frame of this link type; `packet` becomes what is written.
 pub(crate) fn verdict_of(
     border: &Border<'_>,
@@ -34,8 +31,6 @@ pub(crate) fn verdict_of(
     ensures short { OnOk result (length packet.new.items ≤ 262144) }
 {
     match cross(border, ip_part(link, frame), room, packet) {
-        // A packet has at most 65,535 octets: the test is for the proof of `add_kept` alone.
-        Ok(()) if packet.len() > MOST_OCTETS => Err(OutOfMemory),
         Ok(()) => Ok(Ok(())),
         Err(Stop::Denied(why)) => Ok(Err(why)),
         Err(Stop::OutOfMemory) => Err(OutOfMemory),

@@ -4,9 +4,13 @@
 
 mod course;
 mod definition;
+pub mod laws;
 mod lines;
 mod run;
 mod task;
 mod top;
 
 pub use top::border;
+
+#[cfg(test)]
+mod tests;

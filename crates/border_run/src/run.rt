@@ -30,6 +30,9 @@ use std::alloc::Global;
 /// The most packets that one call reads.
 const PACKETS_LIMIT: u64 = 1_048_576;
 
+/// The number of the input among the captures of a call.
+const INPUT: u64 = 1;
+
 /// Writes what becomes of each packet of the input to the output, and prints it.
 pub(crate) fn cross_capture<D: Depot, S: Sink>(
     alloc: Global,
@@ -140,7 +143,7 @@ fn end_refused<S: Sink>(alloc: Global, fault: CaptureFault, out: &mut S) -> Stat
         (S.state out.old) (S.state out.new) }
 {
     let mut line = Vec::new(alloc);
-    match write_capture(1, FileFault::Pcap(fault), &mut line) {
+    match write_capture(INPUT, FileFault::Pcap(fault), &mut line) {
         Ok(()) => Report::new(alloc).end(out, &line, Status::WrongCapture),
         Err(OutOfMemory) => Status::OutOfMemory,
     }
@@ -209,7 +212,7 @@ fn end_broken<D: Depot, S: Sink>(
         (record { folder = D.state depot.new; stream = S.state out.new }) result }
 {
     let mut line = Vec::new(alloc);
-    match write_capture(1, FileFault::Pcap(fault), &mut line) {
+    match write_capture(INPUT, FileFault::Pcap(fault), &mut line) {
         Ok(()) => end_crossed(
             depot,
             output,

@@ -104,7 +104,8 @@ fn cross_by<D: Depot, S: Sink>(
         (record { folder = D.state depot.new; stream = S.state out.new })
         (status_number result) [] }
 {
-    if is_named_twice(task) {
+    let twice = is_named_twice(task);
+    if twice {
         return Report::new(alloc).end(out, name_twice(), Status::WrongScript);
     }
     let network = match last_tables(alloc, script) {
@@ -121,7 +122,18 @@ fn cross_by<D: Depot, S: Sink>(
         doi,
         definition,
     };
-    cross_capture(alloc, &border, task, depot, out)
+    match protect_read(task, depot) {
+        Ok(()) => cross_capture(alloc, &border, task, depot, out),
+        Err(OutOfMemory) => Status::OutOfMemory,
+    }
+}
+
+/// Protects what a call reads: the output can't be the script or the input by another name.
+fn protect_read<D: Depot>(task: &Task<'_>, depot: &mut D) -> Result<(), OutOfMemory>
+    ensures { D.state depot.new ≡ D.state depot.old }
+{
+    depot.protect(task.script.as_str())?;
+    depot.protect(task.input.as_str())
 }
 
 /// Whether the output is the script or the input.

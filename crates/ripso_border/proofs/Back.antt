@@ -217,7 +217,7 @@ led_written p wire version can cats fits =
       label = tt;
     }
 
-front_same : (octets : List ℕ) (h : Headers) (version : Option Version) → read_in packet_of version octets ≡ Ok h → read_in front_of version octets ≡ Ok h
+pub front_same : (octets : List ℕ) (h : Headers) (version : Option Version) → read_in packet_of version octets ≡ Ok h → read_in front_of version octets ≡ Ok h
 front_same octets h None e = e
 front_same octets h (Some version) e = packets_are_fronts version octets h e
 

@@ -7,4 +7,7 @@ pub mod Hop
 pub mod Stands
 pub mod InSteps
 pub mod OutSteps
+pub mod Room
+pub mod Short
+pub mod Roomy
 pub mod Law

@@ -1,11 +1,11 @@
 //! Laws over the definitions of the border.
 
-ghost use Rattle.std.specs.Prelude.{ℕ, ◌≡◌, ◌<◌, ◌^◌, List, false, Option, None, Some, Err, Ok};
+ghost use Rattle.std.specs.Prelude.{ℕ, ◌≡◌, ◌≢◌, ◌<◌, ◌≤◌, ◌^◌, List, length, false, Option, None, Some, Err, Ok};
 ghost use Rattle.octet_grammar.specs.Octets.{IsOctets};
 ghost use Rattle.ip_headers.specs.Packet.{ParsedPacket};
 ghost use Rattle.ip_headers.specs.Written.{packet_octets};
 ghost use Rattle.packet_label.specs.declared.packet.Wire.{Wire};
-ghost use Rattle.packet_label.specs.declared.denial.Denial.TheVariants.{NotIp, AlreadyLabelled};
+ghost use Rattle.packet_label.specs.declared.denial.Denial.TheVariants.{NotIp, AlreadyLabelled, NoRoom, TooLong};
 ghost use Rattle.packet_label.specs.Written.{written};
 ghost use Rattle.doi_table.specs.declared.plan.DoiPlan.{DoiPlan};
 ghost use Rattle.doi_table.specs.Definition.{IsDefinition};
@@ -69,4 +69,18 @@ pub fn first_hop_has_the_local_label()
 pub fn packets_have_one_verdict()
     ensures { (way : Way) (plan : DoiPlan) (doi : ℕ) (part : Option (List ℕ)) (a b : Crossed)
         → Crosses way plan doi part a → Crosses way plan doi part b → a ≡ b }
+{}
+
+/// A packet that is written has at most 65,535 octets.
+pub fn written_packets_are_short()
+    ensures { (way : Way) (plan : DoiPlan) (doi : ℕ) (part : Option (List ℕ))
+        (p : ParsedPacket Wire)
+        → Crosses way plan doi part (Ok p) → length (packet_octets (written p)) ≤ 65535 }
+{}
+
+/// What goes out lacks neither room nor length.
+pub fn what_goes_out_has_room()
+    ensures { (plan : DoiPlan) (doi : ℕ) (octets : List ℕ) (verdict : Crossed)
+        → IsDefinition plan → IsOctets octets → Out plan doi (Some octets) verdict
+        → (verdict ≢ Err NoRoom) × (verdict ≢ Err TooLong) }
 {}
