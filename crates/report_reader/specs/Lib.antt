@@ -1,0 +1,4 @@
+pub mod Asked
+pub mod Course
+pub mod Says
+pub mod inside
