@@ -6,6 +6,7 @@ use Rattle.flow_lines.specs.FileName.{is_file_name}
 use Rattle.call_report.specs.Lines.Parts.{line_of}
 use Rattle.report_telling.specs.declared.way.Way.{Way}
 use Rattle.report_telling.specs.declared.way.Way.TheVariants.{Summary, Denied, Json, Csv}
+use Rattle.report_reader.specs.Names.{reports_named}
 use Rattle.report_reader.specs.declared.question.ReportQuestion.{ReportQuestion}
 
 -- how reports are to be told
@@ -16,11 +17,6 @@ way_of_word word =
     else if bytes_eq word (codes "json") then Some Json
     else if bytes_eq word (codes "csv") then Some Csv
     else None
-
--- where no report is named it is read from the standard input, under the name that the system gives it
-abbrev pub reports_named : List (List ℕ) → List (List ℕ)
-reports_named [] = codes "/dev/stdin" ∷ []
-reports_named (name ∷ names) = name ∷ names
 
 -- the way, and names of files
 abbrev pub question_by : Bool → List ℕ → List (List ℕ) → Option ReportQuestion

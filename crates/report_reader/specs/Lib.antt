@@ -1,3 +1,4 @@
+pub mod Names
 pub mod Asked
 pub mod Course
 pub mod Says

@@ -4,6 +4,7 @@ use Rattle.std.specs.List.{concat, range_with_len}
 use Rattle.call_report.specs.Report.{Folder, Report, late_report}
 use Rattle.call_report.specs.Says.{Says, usage_says}
 use Rattle.call_report.specs.Stages.{Stage, reading_stage}
+use Rattle.report_telling.specs.declared.counts.Progress.{Progress}
 use Rattle.report_telling.specs.declared.way.Way.{Way}
 use Rattle.report_telling.specs.declared.way.Way.TheVariants.{Summary, Denied, Json, Csv}
 use Rattle.report_telling.specs.Counts.{start_progress}
@@ -41,8 +42,8 @@ abbrev pub starts_of_pieces : List (List ℕ) → List (List ℕ)
 starts_of_pieces pieces = map (λ n. concat (take n pieces)) (range_with_len 0 (length pieces + 1))
 
 -- a command was refused, or a packet denied
-abbrev pub has_refused : Standing → Bool
-has_refused s = not (s.progress.refused == 0 && s.progress.denied == 0)
+abbrev pub has_refused : Progress → Bool
+has_refused p = not (p.refused == 0 && p.denied == 0)
 
 -- What is printed: the pieces of the course, and behind them what was added up, or the line that tells where a text is no report.
 abbrev pub course_report : Way → Course → Report
@@ -55,7 +56,7 @@ course_report way course = elim course.end [
 -- the status that is due, none where a report is absent; 8 where it is to be told that something was refused, and something was
 abbrev pub course_status : Bool → Course → Option ℕ
 course_status tells course = elim course.end [
-  | at_end ↦ Some (if tells && has_refused course.standing then 8 else 0)
+  | at_end ↦ Some (if tells && has_refused course.standing.progress then 8 else 0)
   | at_absent ↦ None
   | at_fault octet ↦ Some 2
 ]

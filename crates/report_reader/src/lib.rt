@@ -5,6 +5,7 @@
 
 mod desk;
 mod lines;
+mod names;
 mod question;
 mod reading;
 mod reports;

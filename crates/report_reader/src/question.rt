@@ -6,25 +6,9 @@ ghost use Rattle.flow_lines.specs.FileName.{is_file_name};
 ghost use Rattle.command_words.specs.Words.{texts_of};
 ghost use Rattle.report_reader.specs.Asked.{way_of_word, question_by, question_asked, report_usage_line};
 
+use crate::names::ReportNames;
 use flow_lines::is_file_name;
 use report_telling::Way;
-use std::marker::Model;
-
-/// Names of reports, as the words that are these. Contracts see the names: where there is no word, that of the standard input.
-#[derive(Debug, Drop)]
-pub(crate) struct ReportNames<'a> {
-    pub(crate) words: &'a [String],
-}
-
-impl<'a> Model for ReportNames<'a> {
-    ghost use Rattle.std.specs.Prelude.{List, ℕ};
-    ghost use Rattle.command_words.specs.Words.{texts_of};
-    ghost use Rattle.report_reader.specs.Asked.{reports_named};
-
-    ghost Value = { List (List ℕ) };
-
-    ghost view = { λ n. reports_named (texts_of n.words.now) };
-}
 
 /// Reports that are to be told, and whether the status is to tell that something was refused in them.
 #[derive(Debug, Drop)]

@@ -24,7 +24,7 @@ pub(crate) fn tell_report<D: Depot, S: Sink>(
         (report_course way ((D.state depot.old).held name.now)
         (record { progress = desk.old.progress; tallies = desk.old.tallies.items }))
         (record { progress = desk.new.progress; tallies = desk.new.tallies.items })
-        report.old.waiting.items report.new.waiting.items () result (S.state out.old)
+        report.old.waiting.items report.new.waiting.items result (S.state out.old)
         (S.state out.new) }
     ensures frame { OnlyReads TellStop.ReadFault result name.now (D.state depot.old)
         (D.state depot.new) }

@@ -2,7 +2,7 @@
 
 ghost use Rattle.std.specs.Prelude.{◌≡◌};
 ghost use Rattle.command_words.specs.Words.{texts_of};
-ghost use Rattle.report_reader.specs.Asked.{reports_named};
+ghost use Rattle.report_reader.specs.Names.{reports_named};
 ghost use Rattle.report_reader.specs.Course.{reports_course};
 ghost use Rattle.report_reader.specs.inside.Telling.{Tells, AreRead};
 
@@ -28,7 +28,7 @@ pub(crate) fn tell_reports<D: Depot, S: Sink>(
         (reports_course way (D.state depot.old).held (reports_named (texts_of names.now))
         (record { progress = desk.old.progress; tallies = desk.old.tallies.items }))
         (record { progress = desk.new.progress; tallies = desk.new.tallies.items })
-        report.old.waiting.items report.new.waiting.items () result (S.state out.old)
+        report.old.waiting.items report.new.waiting.items result (S.state out.old)
         (S.state out.new) }
     ensures frame { AreRead (reports_named (texts_of names.now)) result (D.state depot.old)
         (D.state depot.new) }
@@ -52,7 +52,7 @@ fn tell_each<D: Depot, S: Sink>(
         (reports_course way (D.state depot.old).held (texts_of names.now)
         (record { progress = desk.old.progress; tallies = desk.old.tallies.items }))
         (record { progress = desk.new.progress; tallies = desk.new.tallies.items })
-        report.old.waiting.items report.new.waiting.items () result (S.state out.old)
+        report.old.waiting.items report.new.waiting.items result (S.state out.old)
         (S.state out.new) }
     ensures frame { AreRead (texts_of names.now) result (D.state depot.old)
         (D.state depot.new) }

@@ -83,7 +83,7 @@ fn tell_all<D: Depot, S: Sink>(
     ensures told { Tells (D.state depot.old).tells
         (question_course asked.now (D.state depot.old).held)
         (record { progress = desk.new.progress; tallies = desk.new.tallies.items })
-        report.old.waiting.items report.new.waiting.items () result (S.state out.old)
+        report.old.waiting.items report.new.waiting.items result (S.state out.old)
         (S.state out.new) }
     ensures frame { AreRead asked.now.names result (D.state depot.old) (D.state depot.new) }
 {

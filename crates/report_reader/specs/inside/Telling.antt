@@ -1,5 +1,5 @@
 -- How far the telling of reports has come, in words that private clauses share.
-use Rattle.std.specs.Prelude.{◌≡◌, ℕ, ◌+◌, ◌<◌, ◌==◌, ◌&&◌, Bool, true, false, IsTrue, List, [], ◌∷◌, ◌++◌, length, Result, Ok, Err, if◌then◌else◌}
+use Rattle.std.specs.Prelude.{◌≡◌, ℕ, ◌+◌, ◌<◌, ◌≤◌, ◌==◌, nat_lt, ◌&&◌, Bool, true, false, IsTrue, List, [], ◌∷◌, ◌++◌, length, Option, Some, None, Result, Ok, Err, if◌then◌else◌}
 use Rattle.std.specs.List.{All, concat}
 use Rattle.std.specs.Result.{IsErrOf}
 use Rattle.net_io.specs.declared.fault.IoFault.{IoFault}
@@ -28,8 +28,8 @@ use Rattle.report_reader.specs.Course.{Course, at_end, at_fault, most_line, part
 pub record IsGathered (ended : Bool) (at at' : ℕ) (window window' line line' : List ℕ) : Type 0 where
   pub taken : List ℕ
   pub none : All (λ c. (c == 10) ≡ false) taken
-  pub line : line' ≡ line ++ taken
-  pub whole : IsTrue ended → (window ≡ taken ++ 10 ∷ window') × (at' ≡ at + length taken + 1)
+  pub moved : line' ≡ line ++ taken
+  pub all : IsTrue ended → (window ≡ taken ++ 10 ∷ window') × (at' ≡ at + length taken + 1)
   pub part : ended ≡ false → (window ≡ taken) × (window' ≡ []) × (at' ≡ at + length taken)
 
 -- what a text begins with: a line in front of the rest, nothing, or no line from an octet on
@@ -39,10 +39,24 @@ IsNextLine End text line rest = (way : Way) (s : Standing) → lines_course way 
 IsNextLine (Broken octet) text line rest = (way : Way) (s : Standing) → lines_course way (parts_of text) s ≡ ended (at_fault octet) s
 
 -- what stands behind the last end of a line
-abbrev pub IsLastPart : List ℕ → NextLine → Type 0
-IsLastPart line Line = ⊥
-IsLastPart line End = line ≡ []
-IsLastPart line (Broken octet) = (0 < length line) × (octet ≡ length line)
+abbrev pub last_part : List ℕ → NextLine
+last_part [] = End
+last_part (octet ∷ octets) = Broken (length (octet ∷ octets))
+
+-- what stands in front of a place, by whether a line ended there, and by its octets so far
+abbrev pub part_read : Bool → ℕ → Option NextLine
+part_read ended count = if nat_lt most_line count then Some (Broken most_line) else if ended then Some Line else None
+
+-- a line goes on behind these octets, or it is known what the text begins with
+abbrev pub IsReadOn : Option NextLine → List ℕ → List ℕ → List ℕ → Type 0
+IsReadOn None text line rest = text ≡ line ++ rest
+IsReadOn (Some next) text line rest = IsNextLine next text line rest
+
+-- the place is behind where it was, but at the text's end; and a line that goes on has more octets, none of which ends it
+abbrev pub MovesOn : Option NextLine → ℕ → ℕ → List ℕ → List ℕ → Type 0
+MovesOn None at at' line line' = (at < at') × (length line < length line') × (length line' ≤ most_line) × All (λ c. (c == 10) ≡ false) line'
+MovesOn (Some Line) at at' line line' = at < at'
+MovesOn (Some next) at at' line line' = Unit {0}
 
 -- why a read gave nothing
 abbrev pub read_stop : IoFault → TellStop
@@ -74,10 +88,10 @@ IsPassed {T} waits waits' (Err (Unwritten fault)) old new = HandsOn {T = T} [] w
 IsPassed {T} waits waits' (Err stop) old new = ⊥
 
 -- what a stop means for what was handed on
-abbrev pub handed : {T : Type 0} → T → Result T TellStop → Result T IoFault
-handed x (Ok y) = Ok y
-handed x (Err (Unwritten fault)) = Err fault
-handed x (Err stop) = Ok x
+abbrev pub handed : Result (Unit {0}) TellStop → Result (Unit {0}) IoFault
+handed (Ok x) = Ok x
+handed (Err (Unwritten fault)) = Err fault
+handed (Err stop) = Ok tt
 
 -- how a course ends where it was told so
 abbrev pub IsRest : {T : Type 0} → Result T TellStop → Standing → Course → Type 0
@@ -86,13 +100,13 @@ IsRest (Err (NoReport octet)) s rest = rest ≡ ended (at_fault octet) s
 IsRest (Err stop) s rest = Unit {0}
 
 -- A course was told up to an answer: the pieces were handed on behind what waits, but for what waits now, and this is what is left of the course.
-pub record Tells {T : Type 0} (tells : Bool) (course : Course) (s : Standing) (waits waits' : List ℕ) (x : T) (result : Result T TellStop) (old new : SinkState) : Type 0 where
+pub record Tells (tells : Bool) (course : Course) (s : Standing) (waits waits' : List ℕ) (result : Result (Unit {0}) TellStop) (old new : SinkState) : Type 0 where
   pub pieces : List (List ℕ)
   pub rest : Course
   pub still : List ℕ
   pub is : IsTrue tells → course ≡ with_front pieces rest
   pub end : IsTrue tells → IsRest result s rest
-  pub hands : HandsOn (concat pieces) waits still (handed x result) old new
+  pub hands : HandsOn (concat pieces) waits still (handed result) old new
   pub kept : (IsErrOf result OutOfMemory → ⊥) → still ≡ waits'
 
 -- a number of failed reads rose, of the name that comes behind these
@@ -116,7 +130,7 @@ answer_number tells status = status_number status
 
 -- How an answer ends whose reports were told so.
 abbrev pub IsAnswerEnd : {T : Type 0} → ReportQuestion → Result T TellStop → Standing → List ℕ → ℕ → SinkState → SinkState → Type 0
-IsAnswerEnd asked (Ok x) s waits number old new = (status : Status) × (number ≡ answer_number (asked.tells && has_refused s) status) × Printed (waits ++ closing_text asked.way s) [] Done status old new
+IsAnswerEnd asked (Ok x) s waits number old new = (status : Status) × (number ≡ answer_number (asked.tells && has_refused s.progress) status) × Printed (waits ++ closing_text asked.way s) [] Done status old new
 IsAnswerEnd asked (Err (NoReport octet)) s waits number old new = (status : Status) × (number ≡ status_number status) × Printed waits (no_report_text s.progress octet) WrongScript status old new
 IsAnswerEnd asked (Err ReadFault) s waits number old new = (status : Status) × (number ≡ status_number status) × Printed waits [] ReadFaultStatus status old new
 IsAnswerEnd asked (Err (Unwritten fault)) s waits number old new = (number ≡ status_number (write_status fault)) × (new ≡ old)
