@@ -1,0 +1,3 @@
+mod Depots
+mod Cutting
+mod Telling

@@ -79,7 +79,7 @@ fn read_on<D: Depot>(
         return Ok(Some(last_part(line)));
     }
     let ended = gather(place, window, line)?;
-    Ok(part_read(ended, line.len()))
+    Ok(part_read(ended, line))
 }
 
 /// Reads a window where it is empty, and tells whether it has octets then.
@@ -108,10 +108,10 @@ fn has_more<D: Depot>(
 }
 
 /// What stands in front of a place, by whether the line ended there, and by its octets so far; nothing where it goes on.
-fn part_read(ended: bool, count: usize) -> Option<NextLine>
-    ensures { result ≡ part_read ended count }
+fn part_read(ended: bool, line: &[u8]) -> Option<NextLine>
+    ensures { result ≡ part_read ended (length line.now) }
 {
-    if count > MOST_LINE {
+    if line.len() > MOST_LINE {
         return Some(NextLine::Broken { octet: MOST_LINE });
     }
     if ended { Some(NextLine::Line) } else { None }
