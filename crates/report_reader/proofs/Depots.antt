@@ -1,12 +1,16 @@
 -- A folder that is read, from call to call.
-use Rattle.std.proofs.Common.{◌≡◌, ℕ, ◌<◌, List, [], ◌++◌, length, drop, Option, Some, Result, Ok, Err, refl, sym, ap, subst, ◌∙◌, arith}
-use Rattle.std.specs.Prelude.{IsTrue, OnOk}
+use Rattle.std.proofs.Common.{◌≡◌, ℕ, ◌<◌, ◌≤◌, ◌-◌, List, [], ◌∷◌, ◌++◌, length, take, drop, get_or, drop-cons, Option, Some, Result, Ok, Err, refl, sym, ap, subst, ◌∙◌, arith}
+use Rattle.std.specs.Prelude.{IsTrue, OnOk, String, string_bytes}
+use Rattle.std.specs.declared.alloc.Global.{Global}
 use Rattle.std.specs.Result.{IsErrOf}
+use Rattle.std.proofs.lemmas.List.{take_rest}
 use Rattle.net_io.specs.Depot.{DepotState, SameHeld, octets_of, OnlyReads}
 use Rattle.net_io.specs.Faults.{Rose, SameCounts, CountsByName}
 use Rattle.file_window.specs.Window.{IsFrom}
 use Rattle.report_reader.specs.declared.lines.NextLine.{NextLine}
-use Rattle.report_reader.specs.inside.Telling.{IsNextLine}
+use Rattle.report_reader.specs.declared.desk.TellStop.TheVariants.{ReadFault}
+use Rattle.report_reader.specs.inside.Telling.{IsNextLine, AreRead}
+use Rattle.command_words.specs.Words.{texts_of}
 
 module _ {E : Type 0} (failed : E) (name : List ℕ) (a b : DepotState) where
   -- all reads so far have succeeded
@@ -73,3 +77,23 @@ nothing_read failed name a = record {
   creates = λ other. refl;
   appends = λ other. refl;
 }
+
+-- one report more was read
+pub read_more : {T : Type 0} (names : List (List ℕ)) (name : List ℕ) (x : T) (a b c : DepotState) → AreRead {T = Unit {0}} names (Ok tt) a b → OnlyReads {T = T} ReadFault (Ok x) name b c → AreRead {T = Unit {0}} names (Ok tt) a c
+read_more names name x a b c so reads = record {
+  only = record {
+    told = reads.told ∙ so.only.told;
+    kept = λ told other. reads.kept (subst IsTrue (sym so.only.told) told) other ∙ so.only.kept told other;
+    creates = λ other. reads.creates other ∙ so.only.creates other;
+    appends = λ other. reads.appends other ∙ so.only.appends other;
+  };
+  still = λ none other. reads.reads.ok other ∙ so.still (λ e. absurd cc) other;
+  cause = λ e. absurd cc;
+}
+
+-- the first of some words, and the texts of the others
+pub first_word : (words : List (String Global)) (word : String Global) → 1 ≤ length words → word ≡ get_or words 0 word → texts_of words ≡ string_bytes word ∷ texts_of (take (length words - 1) (drop 1 words))
+first_word words word some is =
+    ap texts_of (drop-cons words 0 word (omega (arith, some)))
+    ∙ ap (λ w. string_bytes w ∷ texts_of (drop 1 words)) (sym is)
+    ∙ ap (λ ws. string_bytes word ∷ texts_of ws) (sym (take_rest words 1))

@@ -19,7 +19,7 @@ use Rattle.report_telling.specs.Taking.{Standing, line_kind, line_text, after_li
 use Rattle.report_reader.specs.declared.lines.NextLine.TheVariants.{Line, End}
 use Rattle.report_reader.specs.declared.desk.TellStop.{TellStop}
 use Rattle.report_reader.specs.declared.desk.TellStop.TheVariants.{NoReport, ReadFault, Unwritten, OutOfMemory}
-use Rattle.report_reader.specs.Course.{CourseEnd, at_end, at_absent, at_fault, Course, parts_of, ended, with_front, followed_by, kind_course, lines_course, closed, end_course, report_course}
+use Rattle.report_reader.specs.Course.{CourseEnd, at_end, at_absent, at_fault, Course, parts_of, ended, with_front, followed_by, kind_course, lines_course, closed, end_course, report_course, reports_course}
 use Rattle.report_reader.specs.inside.Telling.{IsNextLine, read_stop, IsTaken, IsEndTaken, handed, IsRest, Tells}
 
 -- ---- courses
@@ -218,3 +218,32 @@ module _ (tells : Bool) where
         comes_told course (end_course way s) waits mid a b
         (comes_as course (followed_by (lines_course way (parts_of text) s) (end_course way)) waits mid a b come (end_course way s) (λ told. ap (λ c. followed_by c (end_course way)) (reads told way s)))
         s' waits' result c (takes_end way s s' mid waits' b c result taken)
+
+-- ---- report for report
+
+-- the same where it is said of a course that is this one
+pub tells_as : (tells told : Bool) (course other : Course) (s : Standing) (waits waits' : List ℕ) (result : Result (Unit {0}) TellStop) (a b : SinkState) → (IsTrue tells → IsTrue told) → (IsTrue tells → course ≡ other)
+    → Tells told other s waits waits' result a b → Tells tells course s waits waits' result a b
+tells_as tells told course other s waits waits' result a b also same t = record {
+  pieces = t.pieces;
+  rest = t.rest;
+  still = t.still;
+  is = λ e. same e ∙ t.is (also e);
+  end = λ e. t.end (also e);
+  hands = t.hands;
+  kept = t.kept;
+}
+
+module _ (tells told : Bool) (course : Course) (way : Way) (held now : List ℕ → Option (List ℕ)) (name : List ℕ) (names : List (List ℕ)) (s s' : Standing) (waits mid waits' : List ℕ) (a b c : SinkState)
+    (come : Comes tells course (reports_course way held (name ∷ names) s) waits mid a b) (also : told ≡ tells) (same : IsTrue tells → now name ≡ held name) where
+  of_report : (result : Result (Unit {0}) TellStop) → Tells told (report_course way (now name) s) s' mid waits' result b c → Tells tells (report_course way (held name) s) s' mid waits' result b c
+  of_report result t =
+      tells_as tells told (report_course way (held name) s) (report_course way (now name) s) s' mid waits' result b c (λ e. subst IsTrue (sym also) e) (λ e. ap (λ file. report_course way file s) (sym (same e))) t
+
+  pub turns_report : (x : Unit {0}) → Tells told (report_course way (now name) s) s' mid waits' (Ok x) b c → Comes tells course (reports_course way held names s') waits waits' a c
+  turns_report x t = comes_on tells course (reports_course way held (name ∷ names) s) waits mid a b come (reports_course way held names s') waits' c
+      (tells_then tells (report_course way (held name) s) (reports_course way held names) s' mid waits' b c x (of_report (Ok x) t))
+
+  pub stops_report : (stop : TellStop) → Tells told (report_course way (now name) s) s' mid waits' (Err stop) b c → Tells tells course s' waits waits' (Err stop) a c
+  stops_report stop t = comes_told tells course (reports_course way held (name ∷ names) s) waits mid a b come s' waits' (Err stop) c
+      (tells_stops tells (report_course way (held name) s) (reports_course way held names) s' mid waits' b c stop (of_report (Err stop) t))

@@ -65,13 +65,9 @@ course_status tells course = elim course.end [
 abbrev pub IsReportStatus : Bool → ℕ → Type 0
 IsReportStatus tells status = (status ≡ 0) ⊎ (status ≡ 2) ⊎ (IsTrue tells) × (status ≡ 8)
 
--- The reports that were begun: the first ones, up to one of them.
-pub record AreBegun (names : List (List ℕ)) (stages : List Stage) : Type 0 where
-  pub front : List (List ℕ)
-  pub name : List ℕ
-  pub behind : List (List ℕ)
-  pub are : names ≡ front ++ name ∷ behind
-  pub is : stages ≡ map reading_stage (front ++ name ∷ [])
+-- the reports that were begun: so many of the first ones
+abbrev pub AreBegun : List (List ℕ) → List Stage → Type 0
+AreBegun names stages = (count : ℕ) × (stages ≡ map reading_stage (take count names))
 
 -- Words that are no form have the usage line. It prints while it reads, makes nothing, and prints no versions of its own.
 abbrev pub report_says : Option ReportQuestion → Says

@@ -53,7 +53,14 @@ fn question_by<'a>(tells: bool, word: &str, names: &'a [String]) -> Option<Repor
 fn are_names(words: &[String]) -> bool
     ensures { result ≡ list_all is_file_name (texts_of words.now) }
 {
-    words.iter().all(|word| is_file_name(word.as_bytes()))
+    let mut rest = words;
+    while let [word, others @ ..] = rest {
+        if !is_file_name(word.as_bytes()) {
+            return false;
+        }
+        rest = others;
+    }
+    true
 }
 
 /// How reports are to be told.
