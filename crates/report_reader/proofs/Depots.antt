@@ -1,15 +1,18 @@
 -- A folder that is read, from call to call.
-use Rattle.std.proofs.Common.{◌≡◌, ℕ, ◌<◌, ◌≤◌, ◌-◌, List, [], ◌∷◌, ◌++◌, length, take, drop, get_or, drop-cons, Option, Some, Result, Ok, Err, refl, sym, ap, subst, ◌∙◌, arith}
-use Rattle.std.specs.Prelude.{IsTrue, OnOk, String, string_bytes}
+use Rattle.std.proofs.Common.{◌≡◌, ℕ, Bool, true, codes, ◌<◌, ◌≤◌, ◌-◌, List, [], ◌∷◌, ◌++◌, length, take, drop, get_or, drop-cons, Option, Some, Result, Ok, Err, refl, sym, ap, subst, ◌∙◌, arith}
+use Rattle.std.specs.Prelude.{◌==◌, IsTrue, OnOk, String, string_bytes}
 use Rattle.std.specs.declared.alloc.Global.{Global}
 use Rattle.std.specs.Result.{IsErrOf}
+use Rattle.std.proofs.lemmas.Bool.Decides.{Decides-eqb}
 use Rattle.std.proofs.lemmas.List.{take_rest}
 use Rattle.net_io.specs.Depot.{DepotState, SameHeld, octets_of, OnlyReads}
 use Rattle.net_io.specs.Faults.{Rose, SameCounts, CountsByName}
 use Rattle.file_window.specs.Window.{IsFrom}
 use Rattle.report_reader.specs.declared.lines.NextLine.{NextLine}
+use Rattle.report_reader.specs.declared.desk.TellStop.{TellStop}
 use Rattle.report_reader.specs.declared.desk.TellStop.TheVariants.{ReadFault}
 use Rattle.report_reader.specs.inside.Telling.{IsNextLine, AreRead}
+use Rattle.report_reader.specs.Names.{reports_named}
 use Rattle.command_words.specs.Words.{texts_of}
 
 module _ {E : Type 0} (failed : E) (name : List ℕ) (a b : DepotState) where
@@ -97,3 +100,15 @@ first_word words word some is =
     ap texts_of (drop-cons words 0 word (omega (arith, some)))
     ∙ ap (λ w. string_bytes w ∷ texts_of (drop 1 words)) (sym is)
     ∙ ap (λ ws. string_bytes word ∷ texts_of ws) (sym (take_rest words 1))
+
+-- the one report of a name was read
+pub one_read : (name : List ℕ) (result : Result (Unit {0}) TellStop) (a b : DepotState) → OnlyReads {T = Unit {0}} ReadFault result name a b → AreRead {T = Unit {0}} (name ∷ []) result a b
+one_read name result a b reads = record {
+  only = record { told = reads.told; kept = reads.kept; creates = reads.creates; appends = reads.appends };
+  still = reads.reads.still;
+  cause = λ e. record { front = []; name = name; behind = []; are = refl; rose = reads.reads.cause e };
+}
+
+pub none_named : (words : List (String Global)) (b : Bool) → b ≡ (length words == 0) → b ≡ true → reports_named (texts_of words) ≡ codes "/dev/stdin" ∷ []
+none_named [] b is e = refl
+none_named (word ∷ words) b is e = absurd (let none = (Decides-eqb (length (word ∷ words)) 0).0 (sym is ∙ e) in omega (arith, none))

@@ -79,20 +79,16 @@ first_names names front behind name are =
 -- ---- the call
 
 module _ (asked : ReportQuestion) (before after : Outside) where
-  abbrev says : _
-  says = report_says (Some asked)
-
   abbrev course : Course
   course = question_course asked before.folder.held
 
   has_form : ◌≢◌ {A = Option ReportQuestion} (Some asked) None
   has_form e = absurd cc
 
-  stages_of : ℕ → List Stage
+  abbrev stages_of : ℕ → List Stage
   stages_of count = map reading_stage (take count asked.names)
 
   knows : (count : ℕ) → IsOnlyRead before.folder after.folder → after.stream.tells ≡ before.stream.tells → Knows (report_says (Some asked)) before after (stages_of count)
-  unfolding stages_of
   knows count only told = knows_reading (report_says (Some asked)) (stages_of count) before after (refl, (count, refl)) refl refl tt tt only told
 
   begins : (text : List ℕ) → HasFront asked.way course text → Begins (report_says (Some asked)) before.folder.held text
@@ -102,15 +98,159 @@ module _ (asked : ReportQuestion) (before after : Outside) where
 
   module _ (s : Standing) (waits : List ℕ) (result : Result (Unit {0}) TellStop) (mid : SinkState) (told : Tells before.folder.tells course s [] waits result before.stream mid)
       (read : AreRead {T = Unit {0}} asked.names result before.folder after.folder) where
-    text : List ℕ
+    abbrev text : List ℕ
     text = concat told.pieces
 
     front : IsTrue before.folder.tells → HasFront asked.way course text
-    unfolding text
     front t = told_front asked.way course told.rest told.pieces (told.is t)
 
     way_of : (x : Unit {0}) → handed result ≡ Ok x → IsUnderWay text told.still before.stream mid
-    unfolding text
     way_of x is =
         let hands = subst (λ (r : Result (Unit {0}) IoFault). HandsOn {T = Unit {0}} (concat told.pieces) [] told.still r before.stream mid) is told.hands in
         record { goes = hands.ok; told = hands.told; faults = hands.counts.ok }
+
+    -- the report's end behind what was told
+    printed_on : (x : Unit {0}) → handed result ≡ Ok x → (IsErrOf result stop.OutOfMemory → ⊥) → (more last : List ℕ) (due status : Status) (out : SinkState) → Printed (waits ++ more) last due status mid out
+        → Printed (text ++ more) last due status before.stream out
+    printed_on x is other more last due status out printed =
+        a_report_is_printed (text ++ more) (told.still ++ more) before.stream mid (a_report_takes_a_text text told.still before.stream mid (way_of x is) more) last due status out
+        (subst (λ (w : List ℕ). Printed (w ++ more) last due status mid out) (sym (told.kept other)) printed)
+
+-- ---- numbers that are due
+
+no_number : (flag : Bool) (n : ℕ) → n ≢ 0 → n ≢ 8 → (if flag then 8 else 0) ≢ n
+no_number true n zero eight e = eight (sym e)
+no_number false n zero eight e = zero (sym e)
+
+may_be : (tells refused : Bool) → IsReportStatus tells (if tells && refused then 8 else 0)
+may_be true true = inr (inr (refl, refl))
+may_be true false = inl refl
+may_be false refused = inl refl
+
+-- ---- how a call ends
+
+module _ (asked : ReportQuestion) (before after : Outside) (s : Standing) (waits : List ℕ) (mid : SinkState) where
+  abbrev Ended : ℕ → Type 0
+  Ended number = CallEnds report_says (Some asked) before after number []
+
+  abbrev Told : Result (Unit {0}) TellStop → Type 0
+  Told result = Tells before.folder.tells (question_course asked before.folder.held) s [] waits result before.stream mid
+
+  abbrev Read : Result (Unit {0}) TellStop → Type 0
+  Read result = AreRead {T = Unit {0}} asked.names result before.folder after.folder
+
+  -- all reports were told
+  ends_whole : (x : Unit {0}) (status : Status) → Told (Ok x) → Read (Ok x) → Printed (waits ++ closing_text asked.way s) [] Done status mid after.stream
+      → Ended (answer_number (asked.tells && has_refused s.progress) status)
+  ends_whole x status told read printed =
+      let flag : Bool = asked.tells && has_refused s.progress in
+      let due : ℕ = if flag then 8 else 0 in
+      let closing = closing_text asked.way s in
+      let whole = concat told.pieces ++ closing in
+      let is : IsTrue before.folder.tells → question_course asked before.folder.held ≡ with_front told.pieces (ended at_end s) = λ t. told.is t ∙ ap (with_front told.pieces) (told.end t) in
+      let p = printed_on asked before after s waits (Ok x) mid told read x refl (λ e. absurd cc) closing [] Done status after.stream printed in
+      ends_printed_as report_says (Some asked) before after (stages_of asked before after 0) (knows asked before after 0 read.only p.told) due whole []
+      (asks (Some asked) due whole (has_form asked before after) (no_number flag 1 (λ e. omega (arith, e)) (λ e. omega (arith, e))))
+      (record {
+        event = (no_number flag 3 (λ e. omega (arith, e)) (λ e. omega (arith, e)), no_number flag 4 (λ e. omega (arith, e)) (λ e. omega (arith, e)), no_number flag 6 (λ e. omega (arith, e)) (λ e. omega (arith, e)));
+        has = λ t. ap (course_status asked.tells) (is t);
+        may = may_be asked.tells (has_refused s.progress);
+        parts = λ t. record {
+          report = course_report asked.way (question_course asked before.folder.held);
+          has = refl;
+          body = ap (λ (c : Course). (course_report asked.way c).body) (is t) ∙ ap (λ ps. concat ps ++ closing) (append-nil told.pieces);
+          last = ap (λ (c : Course). (course_report asked.way c).last) (is t);
+        };
+        last = λ e. refl;
+        whole = λ t. refl;
+      })
+      Done status (answer_number flag status)
+      (record { event = λ e. ap (answer_number flag) e; write = λ e. ap (answer_number flag) e; memory = λ e. ap (answer_number flag) e })
+      (read.still (λ e. absurd cc)) p
+
+  -- what waits is the end of what was told
+  printed_all : (result : Result (Unit {0}) TellStop) (told : Told result) (read : Read result) (x : Unit {0}) → handed result ≡ Ok x → (IsErrOf result stop.OutOfMemory → ⊥)
+      → (last : List ℕ) (due status : Status) → Printed waits last due status mid after.stream → Printed (concat told.pieces) last due status before.stream after.stream
+  printed_all result told read x is other last due status printed =
+      subst (λ (t : List ℕ). Printed t last due status before.stream after.stream) (append-nil (concat told.pieces))
+      (printed_on asked before after s waits result mid told read x is other [] last due status after.stream (subst (λ (w : List ℕ). Printed w last due status mid after.stream) (sym (append-nil waits)) printed))
+
+  -- a text is no report
+  ends_broken : (octet : ℕ) (status : Status) → Told (Err (stop.NoReport octet)) → Read (Err (stop.NoReport octet)) → Printed waits (no_report_text s.progress octet) WrongScript status mid after.stream → Ended (status_number status)
+  ends_broken octet status told read printed =
+      let line = no_report_text s.progress octet in
+      let body = concat told.pieces in
+      let is : IsTrue before.folder.tells → question_course asked before.folder.held ≡ with_front told.pieces (ended (at_fault octet) s) = λ t. told.is t ∙ ap (with_front told.pieces) (told.end t) in
+      let p = printed_all (Err (stop.NoReport octet)) told read tt refl (λ e. absurd cc) line WrongScript status printed in
+      ends_printed report_says (Some asked) before after (stages_of asked before after 0) (knows asked before after 0 read.only p.told) WrongScript body line
+      (asks (Some asked) 2 body (has_form asked before after) (λ e. omega (arith, e)))
+      (record {
+        event = (λ e. omega (arith, e), λ e. omega (arith, e), λ e. omega (arith, e));
+        has = λ t. ap (course_status asked.tells) (is t);
+        may = inr (inl refl);
+        parts = λ t. record {
+          report = course_report asked.way (question_course asked before.folder.held);
+          has = refl;
+          body = ap (λ (c : Course). (course_report asked.way c).body) (is t) ∙ ap concat (append-nil told.pieces);
+          last = ap (λ (c : Course). (course_report asked.way c).last) (is t);
+        };
+        last = λ e. elim e [ inl zero ↦ absurd (omega (arith, zero)) | inr eight ↦ absurd (omega (arith, eight)) ];
+        whole = λ t. refl;
+      })
+      status (read.still (λ e. absurd cc)) p
+
+  begun : (result : Result (Unit {0}) TellStop) (told : Told result) → IsTrue before.folder.tells → Begins (report_says (Some asked)) before.folder.held (concat told.pieces)
+  begun result told t = begins asked before after (concat told.pieces) (told_front asked.way (question_course asked before.folder.held) told.rest told.pieces (told.is t))
+
+  -- a report couldn't be read
+  ends_unread : (status : Status) → Told (Err stop.ReadFault) → Read (Err stop.ReadFault) → Printed waits [] ReadFault status mid after.stream → Ended (status_number status)
+  ends_unread status told read printed =
+      let cause = read.cause refl in
+      let count = length cause.front + 1 in
+      let first = first_names asked.names cause.front cause.behind cause.name cause.are in
+      let p = printed_all (Err stop.ReadFault) told read tt refl (λ e. absurd cc) [] ReadFault status printed in
+      ends_stopped_unread report_says (Some asked) before after (map reading_stage (take count asked.names)) (knows asked before after count read.only p.told) (concat told.pieces) (has_form asked before after)
+      (begun (Err stop.ReadFault) told) status
+      (record { name = cause.name; counted = inr (ap (λ names. input_in_hand (map reading_stage names)) first ∙ last_in_hand cause.front cause.name); rose = cause.rose })
+      (λ t report has. subst (λ (r : Report). Contains r.pauses (concat told.pieces)) (sym has) (told_front asked.way (question_course asked before.folder.held) told.rest told.pieces (told.is t)).paused)
+      (λ e. e) p
+
+  -- what was told couldn't be written
+  ends_unhanded : (fault : IoFault) → Told (Err (stop.Unwritten fault)) → Read (Err (stop.Unwritten fault)) → after.stream ≡ mid → Ended (status_number (write_status fault))
+  ends_unhanded Failed told read same =
+      let hands = subst (λ (x : SinkState). HandsOn {T = Unit {0}} (concat told.pieces) [] told.still (Err Failed) before.stream x) (sym same) told.hands in
+      ends_unwritten report_says (Some asked) before after (stages_of asked before after 0) (knows asked before after 0 read.only hands.told) (concat told.pieces) (has_form asked before after) (hands.counts.cause refl) hands.err
+      (begun (Err (stop.Unwritten Failed)) told)
+  ends_unhanded IoOutOfMemory told read same =
+      let hands = subst (λ (x : SinkState). HandsOn {T = Unit {0}} (concat told.pieces) [] told.still (Err IoOutOfMemory) before.stream x) (sym same) told.hands in
+      ends_short report_says (Some asked) before after (stages_of asked before after 0) (knows asked before after 0 read.only hands.told) (concat told.pieces) (inl (read.still (λ e. absurd cc))) (hands.counts.still (λ e. absurd cc))
+      (begun (Err (stop.Unwritten IoOutOfMemory)) told)
+      (λ out. let less = hands.err.written out in record { count = less.count; within = omega (arith, less.within); written = less.written })
+
+  -- there was no memory
+  ends_unkept : Told (Err stop.OutOfMemory) → Read (Err stop.OutOfMemory) → after.stream ≡ mid → Ended 6
+  ends_unkept told read same =
+      let way = subst (λ (x : SinkState). IsUnderWay (concat told.pieces) told.still before.stream x) (sym same) (way_of asked before after s waits (Err stop.OutOfMemory) mid told read tt refl) in
+      let sent = way.goes.sent in
+      ends_short report_says (Some asked) before after (stages_of asked before after 0) (knows asked before after 0 read.only way.told) (concat told.pieces) (inl (read.still (λ e. absurd cc))) way.faults
+      (begun (Err stop.OutOfMemory) told)
+      (λ out. record {
+        count = length sent;
+        within = omega (arith, ap length way.goes.all, length-append sent told.still);
+        written = way.goes.written out ∙ ap (λ t. before.stream.written ++ t) (sym (ap (take (length sent)) (sym way.goes.all) ∙ take_at sent told.still (length sent) refl));
+      })
+
+  pub ends_answer : (result : Result (Unit {0}) TellStop) (number : ℕ) → Told result → Read result → IsAnswerEnd asked result s waits number mid after.stream → Ended number
+  ends_answer (Ok x) number told read end = subst Ended (sym end.1) (ends_whole x end.0 told read end.2)
+  ends_answer (Err (stop.NoReport octet)) number told read end = subst Ended (sym end.1) (ends_broken octet end.0 told read end.2)
+  ends_answer (Err stop.ReadFault) number told read end = subst Ended (sym end.1) (ends_unread end.0 told read end.2)
+  ends_answer (Err (stop.Unwritten fault)) number told read end = subst Ended (sym end.0) (ends_unhanded fault told read end.1)
+  ends_answer (Err stop.OutOfMemory) number told read end = subst Ended (sym end.0) (ends_unkept told read end.1)
+
+unmoved : (folder : DepotState) → IsOnlyRead folder folder
+unmoved folder = record { told = refl; kept = λ told name. refl; creates = λ name. refl; appends = λ name. refl }
+
+-- there was no memory to begin
+pub ends_unbegun : (asked : ReportQuestion) (before : Outside) → CallEnds report_says (Some asked) before before 6 []
+ends_unbegun asked before =
+    ends_unprinted report_says (Some asked) before before (stages_of asked before before 0) (knows asked before before 0 (unmoved before.folder) refl) (λ name. refl) refl

@@ -247,3 +247,19 @@ module _ (tells told : Bool) (course : Course) (way : Way) (held now : List ℕ 
   pub stops_report : (stop : TellStop) → Tells told (report_course way (now name) s) s' mid waits' (Err stop) b c → Tells tells course s' waits waits' (Err stop) a c
   stops_report stop t = comes_told tells course (reports_course way held (name ∷ names) s) waits mid a b come s' waits' (Err stop) c
       (tells_stops tells (report_course way (held name) s) (reports_course way held names) s' mid waits' b c stop (of_report (Err stop) t))
+
+-- one report alone
+pub told_alone : (tells : Bool) (course : Course) (s : Standing) (waits waits' : List ℕ) (result : Result (Unit {0}) TellStop) (a b : SinkState) → Tells tells course s waits waits' result a b
+    → Tells tells (followed_by course (ended at_end)) s waits waits' result a b
+told_alone tells course s waits waits' (Ok x) a b t =
+    comes_told tells (followed_by course (ended at_end)) (ended at_end s) waits waits' a b (tells_then tells course (ended at_end) s waits waits' a b x t) s waits' (Ok tt) b (told_nothing tells s waits' b)
+told_alone tells course s waits waits' (Err stop) a b t = tells_stops tells course (ended at_end) s waits waits' a b stop t
+
+-- a text in front of a course was appended to what waits
+pub opens : (tells : Bool) (course : Course) (text waits : List ℕ) (a : SinkState) → Comes tells (with_front (text ∷ []) course) course waits (waits ++ text) a a
+opens tells course text waits a = record { pieces = text ∷ []; is = λ told. refl; hands = one_piece text waits (waits ++ text) (Ok tt) a a (nothing_is_handed_on text waits tt a) }
+
+pub opens_told : (tells : Bool) (course : Course) (text waits mid waits' : List ℕ) (a b : SinkState) (s : Standing) (result : Result (Unit {0}) TellStop) → mid ≡ waits ++ text → Tells tells course s mid waits' result a b
+    → Tells tells (with_front (text ∷ []) course) s waits waits' result a b
+opens_told tells course text waits mid waits' a b s result is t =
+    comes_told tells (with_front (text ∷ []) course) course waits mid a a (subst (λ (w : List ℕ). Comes tells (with_front (text ∷ []) course) course waits w a a) (sym is) (opens tells course text waits a)) s waits' result b t
