@@ -34,11 +34,11 @@ module _ (next : Standing → Course) where
 
   pub followed_kind : (way : Way) (line : List ℕ) (s : Standing) (more : Standing → Course) → followed_by (kind_course way line s more) next ≡ kind_course way line s (λ s'. followed_by (more s') next)
   followed_kind way line s more = elim (line_kind s.progress line) as (λ (read : Result LineKind ℕ).
-      followed_by (elim read [ | Err octet ↦ ended (at_fault octet) s | Ok kind ↦ with_front (line_text way (risen s.progress.reports) kind line ∷ []) (more (after_line kind line s)) ]) next
-      ≡ elim read [ | Err octet ↦ ended (at_fault octet) s | Ok kind ↦ with_front (line_text way (risen s.progress.reports) kind line ∷ []) (followed_by (more (after_line kind line s)) next) ]) [
-    | Err octet ↦ refl
-    | Ok kind ↦ followed_front (line_text way (risen s.progress.reports) kind line ∷ []) (more (after_line kind line s))
-  ]
+      followed_by (elim read [ Err octet ↦ ended (at_fault octet) s | Ok kind ↦ with_front (line_text way (risen s.progress.reports) kind line ∷ []) (more (after_line kind line s)) ]) next
+      ≡ elim read [ Err octet ↦ ended (at_fault octet) s | Ok kind ↦ with_front (line_text way (risen s.progress.reports) kind line ∷ []) (followed_by (more (after_line kind line s)) next) ]) [
+        | Err octet ↦ refl
+        | Ok kind ↦ followed_front (line_text way (risen s.progress.reports) kind line ∷ []) (more (after_line kind line s))
+      ]
 
 front_front : (one two : List (List ℕ)) (course : Course) → with_front one (with_front two course) ≡ with_front (one ++ two) course
 front_front one two course = ap (λ ps. let c : Course = record { pieces = ps; standing = course.standing; end = course.end } in c) (sym (append_assoc one two course.pieces))
@@ -108,10 +108,10 @@ module _ (tells : Bool) where
 
   module _ (way : Way) (line : List ℕ) (s s' : Standing) (next : Standing → Course) (waits waits' : List ℕ) (a b : SinkState) where
     kind_ok : (kind : LineKind) → line_kind s.progress line ≡ Ok kind → kind_course way line s next ≡ with_front (line_text way (risen s.progress.reports) kind line ∷ []) (next (after_line kind line s))
-    kind_ok kind is = ap (λ (read : Result LineKind ℕ). elim read [ | Err octet ↦ ended (at_fault octet) s | Ok kind ↦ with_front (line_text way (risen s.progress.reports) kind line ∷ []) (next (after_line kind line s)) ]) is
+    kind_ok kind is = ap (λ (read : Result LineKind ℕ). elim read [ Err octet ↦ ended (at_fault octet) s | Ok kind ↦ with_front (line_text way (risen s.progress.reports) kind line ∷ []) (next (after_line kind line s)) ]) is
 
     kind_err : (octet : ℕ) → line_kind s.progress line ≡ Err octet → kind_course way line s next ≡ ended (at_fault octet) s
-    kind_err octet is = ap (λ (read : Result LineKind ℕ). elim read [ | Err octet ↦ ended (at_fault octet) s | Ok kind ↦ with_front (line_text way (risen s.progress.reports) kind line ∷ []) (next (after_line kind line s)) ]) is
+    kind_err octet is = ap (λ (read : Result LineKind ℕ). elim read [ Err octet ↦ ended (at_fault octet) s | Ok kind ↦ with_front (line_text way (risen s.progress.reports) kind line ∷ []) (next (after_line kind line s)) ]) is
 
     pub takes_line : (x : Unit {0}) → IsTaken {T = Unit {0}} way line s s' waits waits' (Ok x) a b → Comes tells (kind_course way line s next) (next s') waits waits' a b
     takes_line x taken = record {

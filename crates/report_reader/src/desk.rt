@@ -12,16 +12,7 @@ use file_window::Window;
 use mls_label::{Label, OutOfMemory};
 use net_io::{IoFault, Sink};
 use report_telling::{
-    Progress,
-    Tally,
-    Way,
-    count_end,
-    count_line,
-    line_kind,
-    risen,
-    start,
-    tell_end,
-    tell_line,
+    Progress, Tally, Way, count_end, count_line, line_kind, risen, start, tell_end, tell_line,
 };
 use std::alloc::{AllocError, Global};
 
