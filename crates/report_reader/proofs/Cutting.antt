@@ -1,7 +1,7 @@
 -- A text that is cut at the ends of its lines, read from its front on.
-use Rattle.std.proofs.Common.{◌≡◌, ℕ, ◌+◌, ◌<◌, ◌≤◌, Bool, true, false, nat_lt, List, [], ◌∷◌, ◌++◌, length, take, drop, Option, Some, None, refl, sym, ap, subst, ◌∙◌, arith, append_assoc, length-append}
-use Rattle.std.specs.Prelude.{◌==◌, IsTrue}
-use Rattle.std.specs.List.{All, slice_split, onto_first, count_by}
+use Rattle.std.proofs.Common.{◌≡◌, ℕ, ◌+◌, ◌<◌, ◌≤◌, Bool, true, false, nat_lt, List, [], ◌∷◌, ◌++◌, length, take, drop, Some, refl, sym, ap, subst, ◌∙◌, arith, append_assoc, length-append}
+use Rattle.std.specs.Prelude.{◌==◌}
+use Rattle.std.specs.List.{All, onto_first}
 use Rattle.std.proofs.lemmas.Bool.{lt-ltb, le-ltb, ltb-true, ltb-false}
 use Rattle.std.proofs.Math.Seq.{take-append_seam, drop-append_seam}
 use Rattle.std.proofs.lemmas.List.{append-nil, take-append-drop, drop-drop}
@@ -10,9 +10,7 @@ use Rattle.std.proofs.lemmas.List.Splits.{slice_split_none, slice_split_at, slic
 use Rattle.file_window.specs.Window.{IsFrom}
 use Rattle.report_telling.specs.declared.way.Way.{Way}
 use Rattle.report_telling.specs.Taking.{Standing}
-use Rattle.report_reader.specs.declared.lines.NextLine.{NextLine}
-use Rattle.report_reader.specs.declared.lines.NextLine.TheVariants.{Line, End, Broken}
-use Rattle.report_reader.specs.Course.{Course, at_end, at_fault, most_line, parts_of, ended, kind_course, line_course, last_course, lines_course}
+use Rattle.report_reader.specs.Course.{Course, at_fault, most_line, parts_of, ended, kind_course, line_course, last_course, lines_course}
 use Rattle.report_reader.specs.inside.Telling.{IsGathered, IsNextLine, IsReadOn, MovesOn, last_part, part_read}
 
 -- octets that end no line

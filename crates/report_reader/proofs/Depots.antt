@@ -1,12 +1,11 @@
 -- A folder that is read, from call to call.
-use Rattle.std.proofs.Common.{◌≡◌, ℕ, Bool, true, codes, ◌<◌, ◌≤◌, ◌-◌, List, [], ◌∷◌, ◌++◌, length, take, drop, get_or, drop-cons, Option, Some, Result, Ok, Err, refl, sym, ap, subst, ◌∙◌, arith}
-use Rattle.std.specs.Prelude.{◌==◌, IsTrue, OnOk, String, string_bytes}
+use Rattle.std.proofs.Common.{◌≡◌, ℕ, Bool, true, codes, ◌≤◌, ◌-◌, List, [], ◌∷◌, length, take, drop, get_or, drop-cons, Result, Ok, Err, refl, sym, ap, subst, ◌∙◌, arith}
+use Rattle.std.specs.Prelude.{◌==◌, IsTrue, String, string_bytes}
 use Rattle.std.specs.declared.alloc.Global.{Global}
-use Rattle.std.specs.Result.{IsErrOf}
 use Rattle.std.proofs.lemmas.Bool.Decides.{Decides-eqb}
 use Rattle.std.proofs.lemmas.List.{take_rest}
-use Rattle.net_io.specs.Depot.{DepotState, SameHeld, octets_of, OnlyReads}
-use Rattle.net_io.specs.Faults.{Rose, SameCounts, CountsByName}
+use Rattle.net_io.specs.Depot.{DepotState, octets_of, OnlyReads}
+use Rattle.net_io.specs.Faults.{Rose, CountsByName}
 use Rattle.file_window.specs.Window.{IsFrom}
 use Rattle.report_reader.specs.declared.lines.NextLine.{NextLine}
 use Rattle.report_reader.specs.declared.desk.TellStop.{TellStop}

@@ -1,5 +1,5 @@
 -- How a call ends that has told reports, over plain values.
-use Rattle.std.proofs.Common.{◌≡◌, ◌≢◌, ◌⊎◌, inl, inr, ◌<◌, ◌≤◌, ℕ, ◌+◌, Bool, true, false, List, [], ◌∷◌, ◌++◌, length, take, map, Option, Some, None, Result, Ok, Err, refl, sym, ap, subst, ◌∙◌, arith, append_assoc, length-append, if◌then◌else◌}
+use Rattle.std.proofs.Common.{◌≡◌, ◌≢◌, inl, inr, ◌<◌, ℕ, ◌+◌, Bool, true, false, List, [], ◌∷◌, ◌++◌, length, take, map, Option, Some, None, Result, Ok, Err, refl, sym, ap, subst, ◌∙◌, arith, append_assoc, length-append, if◌then◌else◌}
 use Rattle.std.specs.Prelude.{IsTrue, Contains, ◌&&◌}
 use Rattle.std.specs.List.{concat, range_with_len}
 use Rattle.std.specs.Result.{IsErrOf}
@@ -7,28 +7,27 @@ use Rattle.std.proofs.lemmas.List.{append-nil, take_at}
 use Rattle.std.proofs.lemmas.List.Folds.{concat-append}
 use Rattle.std.proofs.lemmas.List.FromFn.{get_or-map-range_with_len, length-map-range_with_len}
 use Rattle.net_io.specs.Depot.{DepotState}
-use Rattle.net_io.specs.Faults.{Rose, SameCounts}
-use Rattle.net_io.specs.Sink.{SinkState, WritesPrefix}
+use Rattle.net_io.specs.Sink.{SinkState}
 use Rattle.net_io.specs.declared.fault.IoFault.{IoFault}
 use Rattle.net_io.specs.declared.fault.IoFault.TheVariants.{Failed, OutOfMemory as IoOutOfMemory}
 use Rattle.call_report.specs.declared.status.Status.{Status}
-use Rattle.call_report.specs.declared.status.Status.TheVariants.{Done, NoForm, WrongScript, ReadFault, WriteFault, WrongCapture, OutOfMemory, Limit}
+use Rattle.call_report.specs.declared.status.Status.TheVariants.{Done, WrongScript, ReadFault}
 use Rattle.call_report.specs.CallEnds.{CallEnds}
-use Rattle.call_report.specs.Outside.{Outside, IsOnlyRead, ReadRose}
+use Rattle.call_report.specs.Outside.{Outside, IsOnlyRead}
 use Rattle.call_report.specs.Printing.{HandsOn, IsUnderWay, Printed}
-use Rattle.call_report.specs.Report.{Folder, Report}
+use Rattle.call_report.specs.Report.{Report}
 use Rattle.call_report.specs.Stages.{Stage, reading_stage, input_in_hand}
 use Rattle.call_report.specs.Status.{status_number, write_status}
 use Rattle.call_report.proofs.Law.{a_report_takes_a_text, a_report_is_printed}
-use Rattle.call_report.proofs.Law.{Knows, Begins, HasParts, IsDue, IsNumberOf, asks, none_when_done, own_number, knows_reading, ends_printed, ends_printed_as, ends_short, ends_unwritten, ends_unprinted, ends_stopped_unread}
+use Rattle.call_report.proofs.Law.{Knows, Begins, asks, knows_reading, ends_printed, ends_printed_as, ends_short, ends_unwritten, ends_unprinted, ends_stopped_unread}
 use Rattle.report_telling.specs.declared.way.Way.{Way}
 use Rattle.report_telling.specs.Taking.{Standing, no_report_text}
 use Rattle.report_reader.specs.declared.desk.TellStop.{TellStop}
 use Rattle.report_reader.specs.declared.desk.TellStop.TheVariants as stop
 use Rattle.report_reader.specs.declared.question.ReportQuestion.{ReportQuestion}
-use Rattle.report_reader.specs.Course.{CourseEnd, at_end, at_absent, at_fault, Course, ended, with_front}
+use Rattle.report_reader.specs.Course.{at_end, at_absent, at_fault, Course, ended, with_front}
 use Rattle.report_reader.specs.Says.{closing_text, question_course, starts_of_pieces, has_refused, course_report, course_status, IsReportStatus, report_says}
-use Rattle.report_reader.specs.inside.Telling.{handed, Tells, IsRiseIn, AreRead, answer_number, IsAnswerEnd}
+use Rattle.report_reader.specs.inside.Telling.{handed, Tells, AreRead, answer_number, IsAnswerEnd}
 
 -- ---- the report of a course that was told so far
 

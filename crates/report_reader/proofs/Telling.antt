@@ -1,8 +1,7 @@
 -- How far a course was told.
-use Rattle.std.proofs.Common.{◌≡◌, ℕ, Bool, List, [], ◌∷◌, ◌++◌, length, Option, Some, None, Result, Ok, Err, refl, sym, ap, subst, ◌∙◌, arith, append_assoc}
+use Rattle.std.proofs.Common.{◌≡◌, ℕ, Bool, List, [], ◌∷◌, ◌++◌, Option, Some, None, Result, Ok, Err, refl, sym, ap, subst, ◌∙◌, append_assoc}
 use Rattle.std.specs.Prelude.{IsTrue, IsSome}
 use Rattle.std.specs.List.{concat}
-use Rattle.std.specs.Result.{IsErrOf}
 use Rattle.std.proofs.lemmas.Bool.{false≢true}
 use Rattle.std.proofs.lemmas.List.{append-nil}
 use Rattle.std.proofs.lemmas.List.Folds.{concat-append}
@@ -19,7 +18,7 @@ use Rattle.report_telling.specs.Taking.{Standing, line_kind, line_text, after_li
 use Rattle.report_reader.specs.declared.lines.NextLine.TheVariants.{Line, End}
 use Rattle.report_reader.specs.declared.desk.TellStop.{TellStop}
 use Rattle.report_reader.specs.declared.desk.TellStop.TheVariants.{NoReport, ReadFault, Unwritten, OutOfMemory}
-use Rattle.report_reader.specs.Course.{CourseEnd, at_end, at_absent, at_fault, Course, parts_of, ended, with_front, followed_by, kind_course, lines_course, closed, end_course, report_course, reports_course}
+use Rattle.report_reader.specs.Course.{at_end, at_absent, at_fault, Course, parts_of, ended, with_front, followed_by, kind_course, lines_course, closed, end_course, report_course, reports_course}
 use Rattle.report_reader.specs.inside.Telling.{IsNextLine, read_stop, IsTaken, IsEndTaken, handed, IsRest, Tells}
 
 -- ---- courses

@@ -1,5 +1,5 @@
 -- What reports come to, line by line: what is printed of each line, what was counted, and where they end.
-use Rattle.std.specs.Prelude.{ℕ, nat_lt, List, [], ◌∷◌, ◌++◌, length, Option, Some, None, Result, Ok, Err, ◌==◌, if◌then◌else◌}
+use Rattle.std.specs.Prelude.{ℕ, nat_lt, List, [], ◌∷◌, ◌++◌, length, Option, Some, None, Ok, Err, ◌==◌, if◌then◌else◌}
 use Rattle.std.specs.List.{slice_split}
 use Rattle.report_telling.specs.declared.way.Way.{Way}
 use Rattle.report_telling.specs.Counts.{risen}

@@ -1,7 +1,7 @@
 -- What the program says of what was asked for.
-use Rattle.std.specs.Prelude.{◌≡◌, ◌⊎◌, ℕ, ◌+◌, ◌==◌, ◌&&◌, ◌||◌, not, Bool, true, IsTrue, List, [], ◌∷◌, ◌++◌, length, take, map, Option, Some, None, if◌then◌else◌}
+use Rattle.std.specs.Prelude.{◌≡◌, ◌⊎◌, ℕ, ◌+◌, ◌==◌, ◌&&◌, not, Bool, IsTrue, List, [], ◌∷◌, ◌++◌, length, take, map, Option, Some, None, if◌then◌else◌}
 use Rattle.std.specs.List.{concat, range_with_len}
-use Rattle.call_report.specs.Report.{Folder, Report, late_report}
+use Rattle.call_report.specs.Report.{Folder, Report}
 use Rattle.call_report.specs.Says.{Says, usage_says}
 use Rattle.call_report.specs.Stages.{Stage, reading_stage}
 use Rattle.report_telling.specs.declared.counts.Progress.{Progress}
@@ -13,7 +13,7 @@ use Rattle.report_telling.specs.Summary.{summary_text}
 use Rattle.report_telling.specs.Taking.{Standing, no_report_text}
 use Rattle.report_reader.specs.declared.question.ReportQuestion.{ReportQuestion}
 use Rattle.report_reader.specs.Asked.{report_usage_line}
-use Rattle.report_reader.specs.Course.{CourseEnd, at_end, at_absent, at_fault, Course, with_front, reports_course}
+use Rattle.report_reader.specs.Course.{at_end, at_absent, at_fault, Course, with_front, reports_course}
 
 -- nothing was read yet
 abbrev pub start_standing : Standing

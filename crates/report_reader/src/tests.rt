@@ -108,6 +108,7 @@ fn words_in(rt: &impl Abort, alloc: Global, line: &str) -> Vec<String> {
 
 /// A folder with these files, of which a read gives so many octets at the most, and fails where its number is planned to.
 fn folder(rt: &impl Abort, alloc: Global, failing: &[u32], piece: usize) -> MemoryDepot {
+    assert!(rt; piece > 0);
     let mut depot = MemoryDepot::new(alloc, failing, piece).expect(rt, "memory");
     for (name, text) in FILES {
         depot.put(name, text.as_bytes()).expect(rt, "memory");

@@ -1,4 +1,4 @@
-use Rattle.std.proofs.Common.{rules, Ok, Err, drop}
+use Rattle.std.proofs.Common.{rules, Ok, drop}
 use Rattle.net_io.specs.Depot.{octets_of}
 use Rattle.net_io.specs.declared.fault.IoFault.TheVariants.{Failed}
 use Rattle.report_telling.specs.Taking.{Standing}

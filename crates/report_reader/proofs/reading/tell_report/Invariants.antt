@@ -1,4 +1,4 @@
-use Rattle.std.proofs.Common.{◌≡◌, ◌+◌, ◌-◌, ◌<◌, ◌^◌, length, drop}
+use Rattle.std.proofs.Common.{◌+◌, ◌-◌, ◌<◌, ◌^◌, length, drop}
 use Rattle.std.specs.Prelude.{IsTrue}
 use Rattle.net_io.specs.Depot.{octets_of}
 use Rattle.file_window.specs.Window.{IsFrom}

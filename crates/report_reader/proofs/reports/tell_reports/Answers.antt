@@ -1,4 +1,4 @@
-use Rattle.std.proofs.Common.{[], ◌∷◌, codes}
+use Rattle.std.proofs.Common.{codes}
 use Rattle.report_telling.specs.Taking.{Standing}
 use Rattle.report_reader.specs.Course.{report_course}
 use Rattle.report_reader.proofs.Depots.{one_read, none_named}

@@ -1,4 +1,3 @@
-use Rattle.std.proofs.Common.{refl}
 use Rattle.call_report.specs.Outside.{Outside}
 use Rattle.report_telling.specs.Taking.{Standing}
 use Rattle.report_reader.proofs.Ending.{ends_answer, ends_unbegun}
