@@ -66,8 +66,8 @@ abbrev pub IsReportStatus : Bool → ℕ → Type 0
 IsReportStatus tells status = (status ≡ 0) ⊎ (status ≡ 2) ⊎ (IsTrue tells) × (status ≡ 8)
 
 -- the reports that were begun: so many of the first ones
-abbrev pub AreBegun : List (List ℕ) → List Stage → Type 0
-AreBegun names stages = (count : ℕ) × (stages ≡ map reading_stage (take count names))
+abbrev pub AreFirstReports : List (List ℕ) → List Stage → Type 0
+AreFirstReports names stages = (count : ℕ) × (stages ≡ map reading_stage (take count names))
 
 -- Words that are no form have the usage line. It prints while it reads, makes nothing, and prints no versions of its own.
 abbrev pub report_says : Option ReportQuestion → Says
@@ -76,7 +76,7 @@ report_says (Some asked) = record {
   report = λ held seen report. report ≡ course_report asked.way (question_course asked held);
   status = λ held status. course_status asked.tells (question_course asked held) ≡ Some status;
   possible = IsReportStatus asked.tells;
-  stages = λ held seen stages. (seen ≡ []) × AreBegun asked.names stages;
+  stages = λ held seen stages. (seen ≡ []) × AreFirstReports asked.names stages;
   outputs = λ held seen outputs. outputs ≡ [];
   lawful = λ held seen. seen ≡ [];
   whole = λ held seen. seen ≡ [];
