@@ -9,6 +9,7 @@ is a plain reader of the same report, which counts words of lines and tests none
 import argparse
 import os
 import pathlib
+import re
 import subprocess
 import sys
 import tempfile
@@ -53,7 +54,7 @@ def write_report(path, packets):
 
 
 def once(command, stdin):
-    """Seconds, and the most memory in octets, of one run."""
+    """Seconds on the clock and of the processor, of one run."""
     with open(stdin, "rb") as source, open(os.devnull, "wb") as nothing:
         begun = time.perf_counter()
         process = subprocess.Popen(command, stdin=source, stdout=nothing)
@@ -62,7 +63,24 @@ def once(command, stdin):
     process.returncode = os.waitstatus_to_exitcode(status)
     if process.returncode:
         raise SystemExit(f"{command} ended with {process.returncode}")
-    return took, used.ru_maxrss * 1024
+    return took, used.ru_utime + used.ru_stime
+
+
+def memory(command, stdin):
+    """The most octets that a run held. What the system tells at its end would count this process too, as which it began: so it is asked again and again."""
+    most = 0
+    with open(stdin, "rb") as source, open(os.devnull, "wb") as nothing:
+        with subprocess.Popen(command, stdin=source, stdout=nothing) as process:
+            while process.poll() is None:
+                try:
+                    status = pathlib.Path(f"/proc/{process.pid}/status").read_text()
+                    own = os.readlink(f"/proc/{process.pid}/exe") == os.path.realpath(command[0])
+                except OSError:
+                    continue
+                found = re.search(r"^VmHWM:\s+(\d+) kB", status, re.M)
+                most = max(most, int(found[1]) * 1024 if found and own else 0)
+                time.sleep(0.001)
+    return most
 
 
 def main():
@@ -79,13 +97,13 @@ def main():
         write_report(report, asked.packets)
         plain.write_text(PLAIN)
         print(f"{asked.packets:,} packets, {report.stat().st_size / 1e6:.0f} MB; the least of {asked.runs} runs; {scratch.load()}\n")
-        print("| Call | Seconds | Memory, MB |\n|---|---|---|")
+        print("| Call | Seconds | of the processor | Memory, MB |\n|---|---|---|---|")
         rows = {way: [program, way, report] for way in ("summary", "denied", "json", "csv")}
         rows["summary, by standard input"] = [program, "summary"]
         rows["`python3`"] = [sys.executable, plain, report]
         for name, command in rows.items():
             runs = [once(command, report) for _ in range(asked.runs)]
-            print(f"| {name} | {min(took for took, _ in runs):.2f} | {max(memory for _, memory in runs) / 1e6:.1f} |")
+            print(f"| {name} | {min(took for took, _ in runs):.2f} | {min(cpu for _, cpu in runs):.2f} | {memory(command, report) / 1e6:.1f} |")
     print(f"\nat the end: {scratch.load()}")
 
 
