@@ -32,6 +32,7 @@ SCRIPTS = {
     "rules on signatures": ["signatures_test.py"],
     "installing": ["install_test.py"],
     "netlabel and prove with a stand-in for rt": ["scripts_test.py"],
+    "reports of the examples as JSON and as CSV": ["report_test.py"],
 }
 SECONDS = 600
 

@@ -401,6 +401,35 @@ def asking_audit(trial, folder, words, form):
     return finish
 
 
+def lend_report(folder, own, name):
+    """The same of a report, which may come through a pipe: what comes is kept in a file."""
+    try:
+        is_piped = not stat.S_ISREG(os.stat(name).st_mode) and not os.path.isdir(name)
+        if is_piped:
+            with open(name, "rb") as pipe, open(folder / own, "wb") as file:
+                shutil.copyfileobj(pipe, file)
+            return os.fsencode(folder / own)
+    except OSError:
+        pass
+    return lend(folder, own, name)
+
+
+def asking_reports(trial, folder, words, form):
+    """Of reports: each is read once, in the order of the words. No name of a file is printed."""
+    reports = [words[place] for place in form.reads] or [b"/dev/stdin"]
+    way = len(words) - len(form.reads)
+    names = [lend_report(folder, f"report-{number}", name) for number, name in enumerate(reports, 1)]
+    asked = trial.ask([*words[:way], *names])
+
+    def finish():
+        answer = asked()
+        for name in reports if answer.status == 3 else []:
+            say_unread(name)
+        return answer
+
+    return finish
+
+
 def asking_run(trial, folder, words, form):
     script = Script(words[form.script])
     refusals = script.refusals()
@@ -445,14 +474,25 @@ FORMS = {
     "netlabel_cover": {2: {ANY: Form(script=0)}, 3: {ANY: Form(script=0)}},
     "netlabel_audit": {3: {ANY: Form(script=0, reads=(1,), ask=asking_audit)}},
     "ripso_border": {5: {b"in": Form(script=1, reads=(3,), makes=4), b"out": Form(script=1, reads=(3,), makes=4)}},
+    "netlabel_report": {},
 }
+# How reports are told.
+WAYS = (b"summary", b"denied", b"json", b"csv")
+
+
+def form_of_reports(words):
+    """Of `netlabel_report`: any number of reports, behind the way in which they are told and `-e` in front of it."""
+    way = 1 if words[:1] == [b"-e"] else 0
+    if way >= len(words) or words[way] not in WAYS:
+        return None
+    return Form(reads=tuple(range(way + 1, len(words))), ask=asking_reports)
 
 
 def asking(trial, folder, words):
     """What gives the answer to the words of a call, once the trial was run. `folder` is empty, and the call's own. Words that name no file are handed on
     as they are: the program says that they are in no form."""
     forms = FORMS[trial.program].get(len(words), {})
-    form = forms.get(words[0] if words else ANY, forms.get(ANY))
+    form = form_of_reports(words) if trial.program == "netlabel_report" else forms.get(words[0] if words else ANY, forms.get(ANY))
     if form and all(FILE_NAME.fullmatch(words[place]) for place in form.places()):
         return form.ask(trial, folder, words, form)
     return trial.ask(words)

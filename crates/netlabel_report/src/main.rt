@@ -1,0 +1,47 @@
+//! The program: tells the reports of runs, added up, packet by packet that was denied, or as records. All that it does is the one call
+//! `report`, over the real folder and the real stream out.
+#![tactic(auto)]
+
+ghost use Rattle.std.specs.Prelude.{◌≡◌, ◌⊎◌, IfOk};
+ghost use Rattle.std.specs.Process.{exit_status};
+ghost use Rattle.call_report.specs.CallEnds.{MayEnd};
+ghost use Rattle.report_reader.specs.Says.{report_says};
+
+use command_words::words_of;
+use net_io::{RealDepot, RealSink};
+use report_reader::report;
+use std::alloc::AllocError;
+use std::io;
+use std::process::ExitCode;
+
+/// The status where memory ran out before the call.
+const OUT_OF_MEMORY: u8 = 6;
+
+/// Makes the real folder and the real stream out, makes the call, and ends with its status.
+fn main(rt: HostRuntime) -> ExitCode {
+    end(rt.clone())
+}
+
+/// The same, with what it ends with.
+fn end(own: Result<HostRuntime, AllocError>) -> ExitCode
+    ensures { MayEnd report_says (exit_status result) ⊎ (exit_status result ≡ 6) }
+{
+    match call(own) {
+        Ok(status) => ExitCode::from(status),
+        Err(_) => ExitCode::from(OUT_OF_MEMORY),
+    }
+}
+
+/// Calls the program with the words of the command line.
+fn call(own: Result<HostRuntime, AllocError>) -> io::Result<u8>
+    ensures { IfOk result (λ status. MayEnd report_says status ⊎ (status ≡ 6)) }
+{
+    let rt = own?;
+    let alloc = rt.alloc();
+    let words = words_of(&rt)?;
+    let Ok(mut depot) = RealDepot::new(rt.clone()?, alloc) else {
+        return Ok(OUT_OF_MEMORY);
+    };
+    let mut sink = RealSink::new(rt);
+    Ok(report(alloc, &words, &mut depot, &mut sink))
+}

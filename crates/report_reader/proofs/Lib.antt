@@ -1,0 +1,4 @@
+mod Depots
+mod Cutting
+mod Telling
+mod Ending

@@ -1,0 +1,5 @@
+pub mod Names
+pub mod Asked
+pub mod Course
+pub mod Says
+pub mod inside
