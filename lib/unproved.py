@@ -523,7 +523,7 @@ def main(program, words):
     global PROGRAM
     PROGRAM = program
     say("this answer is unproved: the program is compiled with checks first, which takes about a minute")
-    say(f"{TOP}/prove proves and builds it, once; from nothing that took 36 minutes on four processors")
+    say(f"{TOP}/prove proves and builds it, once; from nothing that takes about an hour on four processors")
     for number in (signal.SIGTERM, signal.SIGHUP):
         signal.signal(number, lambda number, _frame: sys.exit(128 + number))
     try:
