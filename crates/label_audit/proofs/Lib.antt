@@ -1,4 +1,13 @@
 pub mod Fronts
+pub mod Reading
+pub mod Rows
+pub mod Packets
+pub mod Flows
+pub mod Verdicts
+pub mod Steps
 pub mod NoEnd
 pub mod PacketLines
+pub mod Wholes
+pub mod Frames
+pub mod Places
 pub mod Law

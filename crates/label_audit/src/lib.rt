@@ -3,4 +3,15 @@
 //! judged. No program reads a report back by them yet.
 #![tactic(auto)]
 
+mod audited;
+mod flow;
+mod judging;
 pub mod laws;
+mod place;
+mod replies;
+mod walker;
+
+#[cfg(test)]
+mod tests;
+
+pub use audited::Audited;

@@ -11,5 +11,5 @@ mod tests;
 mod window;
 mod word;
 
-pub use meeting::Met;
+pub use meeting::{Met, ends_of_lines};
 pub use report::ReportFile;

@@ -106,7 +106,7 @@ fn same_front(one: &[u8], other: &[u8]) -> usize
 }
 
 /// How many lines end in octets.
-fn ends_of_lines(octets: &[u8]) -> u64
+pub fn ends_of_lines(octets: &[u8]) -> u64
     ensures { result ≡ lines_in octets.now }
 {
     octets.iter().filter(|octet| **octet == b'\n').count() as u64

@@ -1,4 +1,9 @@
 use Rattle.label_audit.proofs.Law.{lines_of_a_whole_report_are_good as law}
+use Rattle.label_audit.proofs.Verdicts.{first_bad}
+use Rattle.label_audit.proofs.Steps.{flows_some}
+use Rattle.label_audit.proofs.Wholes.{packet_line, replies_whole}
+use Rattle.label_audit.proofs.Frames.{read_capture}
+use Rattle.label_audit.proofs.Places.{met_there}
 use Rattle.label_audit.proofs.laws.lines_of_a_whole_report_are_good.Goals as goal
 
 pub returns : goal.returns
