@@ -10,4 +10,8 @@ pub mod PacketLines
 pub mod Wholes
 pub mod Frames
 pub mod Places
+pub mod Replying
+pub mod Naming
+pub mod Nexts
+pub mod Judgings
 pub mod Law

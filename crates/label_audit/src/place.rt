@@ -1,6 +1,6 @@
 //! Where the reading of a report stands.
 
-ghost use Rattle.std.specs.Prelude.{◌≡◌, ◌<◌, ◌^◌, ℕ, List, IsTrue, IfOk, length};
+ghost use Rattle.std.specs.Prelude.{◌≡◌, ◌+◌, ◌<◌, ◌^◌, ℕ, List, IsTrue, IfOk, length};
 ghost use Rattle.net_io.specs.Depot.{octets_of};
 ghost use Rattle.report_file.specs.File.{KeepsPart};
 ghost use Rattle.report_file.specs.Meeting.{lines_in};

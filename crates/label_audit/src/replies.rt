@@ -1,6 +1,6 @@
 //! Replies to the steps of a script.
 
-ghost use Rattle.std.specs.Prelude.{◌≡◌, ◌+◌, ◌-◌, ◌<◌, ◌≤◌, ℕ, List, All, IsTrue, IfOk, OnOk, length};
+ghost use Rattle.std.specs.Prelude.{◌≡◌, ◌+◌, ◌-◌, ◌<◌, ◌≤◌, ◌^◌, ℕ, List, All, IsTrue, IfOk, OnOk, length};
 ghost use Rattle.script_lines.specs.declared.command.Step.{Step as StepValue};
 ghost use Rattle.node_tables.specs.Steps.{tables_after};
 ghost use Rattle.call_report.specs.Lines.Reply.{reply_line_at, replies_text};
@@ -44,6 +44,7 @@ fn write_next(script: &Script, replies: &mut Replies) -> Result<(), OutOfMemory>
     requires nodes { All (λ (step : StepValue). step.node < length script.now.nodes)
         script.now.steps }
     requires within { replies.old.done < length script.now.steps }
+    requires few { length script.now.steps < 2 ^ 32 }
     requires tables { replies.old.network
         ≡ tables_after (length script.now.nodes) script.now.steps replies.old.done }
     ensures line { OnOk result (replies.new.line.items
@@ -73,6 +74,7 @@ pub(crate) fn expect_replies<D: Depot>(
     requires nodes { All (λ (step : StepValue). step.node < length script.now.nodes)
         script.now.steps }
     requires within { (replies.old.done ≤ upto) × (upto ≤ length script.now.steps) }
+    requires few { length script.now.steps < 2 ^ 32 }
     requires tables { replies.old.network
         ≡ tables_after (length script.now.nodes) script.now.steps replies.old.done }
     requires keeps { KeepsPart (D.state depot.old) report.old }

@@ -116,7 +116,8 @@ fn write_walk(
             write_line(place, walker)?;
             Ok(true)
         }
-        Err(VersionsStop::TooFew | VersionsStop::TooMany) => Ok(false),
+        Err(VersionsStop::TooFew) => Ok(false),
+        Err(VersionsStop::TooMany) => Ok(false),
         Err(VersionsStop::OutOfMemory) => Err(OutOfMemory),
     }
 }

@@ -4,6 +4,10 @@ use Rattle.label_audit.proofs.Steps.{flows_some}
 use Rattle.label_audit.proofs.Wholes.{packet_line, replies_whole}
 use Rattle.label_audit.proofs.Frames.{read_capture}
 use Rattle.label_audit.proofs.Places.{met_there}
+use Rattle.label_audit.proofs.Replying.{replies_to}
+use Rattle.label_audit.proofs.Naming.{too_few}
+use Rattle.label_audit.proofs.Nexts.{next_stands}
+use Rattle.label_audit.proofs.Judgings.{judged_on}
 use Rattle.label_audit.proofs.laws.lines_of_a_whole_report_are_good.Goals as goal
 
 pub returns : goal.returns
