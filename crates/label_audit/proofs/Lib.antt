@@ -14,4 +14,6 @@ pub mod Replying
 pub mod Naming
 pub mod Nexts
 pub mod Judgings
+pub mod ExpectedReplies
+pub mod PacketReads
 pub mod Law

@@ -1,6 +1,7 @@
 -- A packet's line, by the versions that it names.
 use Rattle.std.proofs.Common.{◌≡◌, ◌≢◌, ◌<◌, ◌≤◌, ℕ, zero, suc, ◌+◌, Bool, true, false, List, [], ◌∷◌, ◌++◌, length, take, drop, Result, Ok, Err, refl, sym, ap, ◌∙◌, subst, arith, le_trans, le_refl}
 use Rattle.std.specs.Prelude.{All, ◌^◌, MatchBool, slice_get}
+use Rattle.std.proofs.lemmas.Bool.{false≢true}
 use Rattle.std.proofs.lemmas.List.{append-nil, take_all}
 use Rattle.std.proofs.lemmas.List.Elements.{All-nil, All-cons}
 use Rattle.address_text.specs.Name.{IsNameText}
@@ -98,11 +99,11 @@ module _ (plan : PlanState) (place : PacketPlace) (packet : PacketIn) (left : Li
     all_within place.low place.high pair.walked.versions few fits.rises,
   )
 
-  abbrev Each : Bool → List ℕ → Type 0
+  abbrev pub Each : Bool → List ℕ → Type 0
   Each named versions = (others : List ℕ) → AreVersions others → EndsWithVersions left others → (named ≡ true) × (versions ≡ others)
 
-  pub none_named : (versions : List ℕ) → Each false versions → (other : PairState) → Fits plan place packet left other → ⊥
-  none_named versions each other fits = absurd (let e = (each other.walked.versions (fit_versions other fits) (fit_ends other fits)).0 in cc)
+  pub none_named : (named : Bool) (versions : List ℕ) → named ≡ false → Each named versions → (other : PairState) → Fits plan place packet left other → ⊥
+  none_named named versions is each other fits = false≢true (sym is ∙ (each other.walked.versions (fit_versions other fits) (fit_ends other fits)).0)
 
   pub no_walk_named : (named : Bool) (versions : List ℕ) → Each named versions → IsNoWalk plan place packet versions → (other : PairState) → Fits plan place packet left other → ⊥
   no_walk_named named versions each none other fits =

@@ -90,3 +90,6 @@ expected_fails file text more a b one = (one.0, differs_more one.0 (drop a.at fi
 
 pub nothing_expected : (file : List ℕ) (a : Place) → StandsIn file a → IsExpected file [] a a true
 nothing_expected file a stands = (refl, omega arith, stands)
+
+pub stands_on : (file text : List ℕ) (a b : Place) → IsExpected file text a b true → StandsIn file b
+stands_on file text a b e = e.2

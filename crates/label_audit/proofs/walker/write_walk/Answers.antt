@@ -1,5 +1,5 @@
 use Rattle.std.proofs.Common.{◌≡◌, ◌≤◌, ℕ, length, sym, ap, ◌∙◌, subst, le_refl, Err}
-use Rattle.packet_walk.specs.declared.stop.VersionsStop.{VersionsStop}
+use Rattle.packet_walk.specs.declared.stop.VersionsStop.TheVariants.{TooFew, TooMany}
 use Rattle.packet_walk.specs.Walk.{Rises}
 use Rattle.label_audit.proofs.Naming.{rises_all, met_last, too_few, too_many}
 use Rattle.label_audit.proofs.walker.write_walk.Goals as goal
@@ -44,7 +44,7 @@ returns-in-Err-TooFew c =
     let named = c.args.walker.now.versions.items in
     let rises = rises_all c.args.place.now.low high c.args.tables.now.version high c.deref.result.now c.requires.low (le_refl high) (c.rise.ensures.0 c.if-not-rise.false) in
     record {
-      written = too_few c.args.tables.now.plan c.args.place.now c.args.packet.now named (rw c.deref-2.ensures.value at (c.walk_named-walked.ensures.few (subst (λ (s : VersionsStop). c.walk_named-walked.result ≡ Err s) c.in-Err-TooFew.field-0-is c.in-Err-TooFew.is)));
+      written = too_few c.args.tables.now.plan c.args.place.now c.args.packet.now named (rw c.deref-2.ensures.value at (c.walk_named-walked.ensures.few (let stop : c.in-Err-TooFew.field-0 ≡ TooFew = rw c.in-Err-TooFew.is at c.in-Err-TooFew.field-0-is in c.in-Err-TooFew.is ∙ ap Err stop)));
       plan = c.walk_named-walked.ensures.plan;
       most = λ within. c.walk_named-walked.ensures.no_later high (subst (Rises c.args.tables.now.version high) (c.deref.ensures.value ∙ sym c.deref-2.ensures.value) rises);
     }
@@ -54,7 +54,7 @@ returns-in-Err-TooMany c =
     let high = c.args.place.now.high in
     let named = c.args.walker.now.versions.items in
     let rises = rises_all c.args.place.now.low high c.args.tables.now.version high c.deref.result.now c.requires.low (le_refl high) (c.rise.ensures.0 c.if-not-rise.false) in
-    let many = rw c.deref-2.ensures.value at (c.walk_named-walked.ensures.many (subst (λ (s : VersionsStop). c.walk_named-walked.result ≡ Err s) c.in-Err-TooMany.field-0-is c.in-Err-TooMany.is)) in
+    let many = rw c.deref-2.ensures.value at (c.walk_named-walked.ensures.many (let stop : c.in-Err-TooMany.field-0 ≡ TooMany = rw c.in-Err-TooMany.is at c.in-Err-TooMany.field-0-is in c.in-Err-TooMany.is ∙ ap Err stop)) in
     record {
       written = too_many c.args.tables.now.plan c.args.place.now c.args.packet.now named many.0 many.1 many.2 many.3 many.4;
       plan = c.walk_named-walked.ensures.plan;
