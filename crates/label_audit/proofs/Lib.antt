@@ -16,4 +16,7 @@ pub mod Nexts
 pub mod Judgings
 pub mod ExpectedReplies
 pub mod PacketReads
+pub mod Captures
+pub mod JudgedNext
+pub mod PacketsJudged
 pub mod Law

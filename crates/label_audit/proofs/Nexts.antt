@@ -77,6 +77,20 @@ module _ (low : ℕ) (tables tables' : List TablesAt) (worker high : ℕ) (t t' 
   pub met_then : (k : ℕ) → meets_now (met_by low tables) worker (last_met (met_by low tables worker) versions) k ≡ met_by low tables' k
   met_then k = met_by_case k (nat_eq worker k) refl
 
+-- ---- one place of a list
+
+pub set_here : {X : Type 0} (xs : List X) (i : ℕ) (x : X) → i < length xs → slice_get (slice_set xs i x) i ≡ Some x
+set_here [] i x within = absurd (omega (arith, within))
+set_here (y ∷ xs) zero x within = refl
+set_here (y ∷ xs) (suc i) x within = set_here xs i x (omega (arith, within))
+
+pub set_there : {X : Type 0} (xs : List X) (i k : ℕ) (x : X) → i ≢ k → slice_get (slice_set xs i x) k ≡ slice_get xs k
+set_there [] i k x other = refl
+set_there (y ∷ xs) zero zero x other = absurd (other refl)
+set_there (y ∷ xs) zero (suc k) x other = refl
+set_there (y ∷ xs) (suc i) zero x other = refl
+set_there (y ∷ xs) (suc i) (suc k) x other = set_there xs i k x (λ same. other (ap suc same))
+
 -- ---- one packet
 
 module _ (script : Script) (w : ℕ) (held : Folder) (flow most : ℕ) (line : FlowLine) (flows : List FlowLine) (count : Counted) (tables : List TablesAt) (packet : PacketIn) (packets : List PacketIn) (names : All IsNameText script.nodes)

@@ -93,3 +93,7 @@ nothing_expected file a stands = (refl, omega arith, stands)
 
 pub stands_on : (file text : List ℕ) (a b : Place) → IsExpected file text a b true → StandsIn file b
 stands_on file text a b e = e.2
+
+-- the line at a place is the one that differs
+pub differ_one : (old new : Place) (file : List ℕ) → StandsIn file old → (old.lines + 0 + 1 < 2 ^ 64 → new.lines ≡ old.lines + 0 + 1) → new.lines ≡ old.lines + 1
+differ_one old new file stands is = omega (arith, is (omega (arith, stands.0, stands.1, stands.2)))

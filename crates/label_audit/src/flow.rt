@@ -1,6 +1,7 @@
 //! The lines of a flow.
 
 ghost use Rattle.std.specs.Prelude.{◌≡◌, ◌+◌, ◌<◌, ◌≤◌, ◌^◌, ℕ, List, [], ◌∷◌, All, Contains, IsTrue, IfOk, IfSome, None, Some, OnOk, length, map, replicate, slice_get, if◌then◌else◌};
+ghost use Rattle.address_text.specs.Name.{IsNameText};
 ghost use Rattle.net_io.specs.Depot.{SameHeld, OnlyReads};
 ghost use Rattle.label_commands.specs.Script.{before};
 ghost use Rattle.label_commands.specs.Sound.{IsSoundScript};
@@ -22,6 +23,7 @@ ghost use Rattle.label_audit.specs.inside.Flow.{Ready, behind_flow, packets_awai
 use crate::place::{Place, differ, expect};
 use crate::replies::{Replies, expect_replies};
 use crate::walker::{PacketPlace, Walker, judge_packet};
+use address_text::Name;
 use call_report::{write_flow, write_flow_end};
 use capture_reader::{CaptureReader, ReadStop};
 use flow_lines::FileName;
@@ -60,6 +62,17 @@ pub enum Read {
     End,
     /// The file is no capture.
     Broken,
+}
+
+/// Names of nodes are in their form.
+pub(crate) fn know_names(names: &[Name])
+    ensures { All IsNameText names.now }
+{
+    let mut known = 0;
+    while known < names.len() {
+        let _text = names[known].text();
+        known += 1;
+    }
 }
 
 /// How many steps stand above a flow, counted from 0; behind the last flow, all.
@@ -180,6 +193,7 @@ fn judge_next<D: Depot>(
     judge: &mut Judge<'_>,
 ) -> Result<bool, IoFault>
     requires sound { (own : List ℕ) × IsSoundScript own script.now }
+    requires names { All IsNameText script.now.nodes }
     requires flow { flow < length script.now.flows }
     requires tables { (0 < length judge.old.tables.items) × Ready script.now
         (length judge.old.tables.items) (before script.now (flow + 1)) judge.old.tables.items }
@@ -236,6 +250,7 @@ fn judge_packets<D: Depot>(
     reader: &mut CaptureReader,
 ) -> Result<bool, IoFault>
     requires sound { (own : List ℕ) × IsSoundScript own script.now }
+    requires names { All IsNameText script.now.nodes }
     requires flow { flow < length script.now.flows }
     requires tables { (0 < length judge.old.tables.items) × Ready script.now
         (length judge.old.tables.items) (before script.now (flow + 1)) judge.old.tables.items }
@@ -289,6 +304,7 @@ fn judge_own<D: Depot>(
     judge: &mut Judge<'_>,
 ) -> Result<bool, IoFault>
     requires sound { (own : List ℕ) × IsSoundScript own script.now }
+    requires names { All IsNameText script.now.nodes }
     requires flow { flow < length script.now.flows }
     requires tables { (0 < length judge.old.tables.items) × Ready script.now
         (length judge.old.tables.items) (before script.now flow) judge.old.tables.items }
@@ -339,6 +355,7 @@ pub(crate) fn judge_flows<D: Depot>(
     judge: &mut Judge<'_>,
 ) -> Result<bool, IoFault>
     requires sound { (own : List ℕ) × IsSoundScript own script.now }
+    requires names { All IsNameText script.now.nodes }
     requires tables { (0 < length judge.old.tables.items) × Ready script.now
         (length judge.old.tables.items) 0 judge.old.tables.items }
     requires done { replies.old.done ≡ before script.now 0 }

@@ -13,7 +13,7 @@ ghost use Rattle.label_audit.specs.inside.Reading.{HasRead, StandsIn, IsJudgedTo
 ghost use Rattle.label_audit.specs.inside.Flow.{ended_awaited, inputs_of};
 
 use crate::audited::Audited;
-use crate::flow::{Judge, judge_flows, steps_above};
+use crate::flow::{Judge, judge_flows, know_names, steps_above};
 use crate::place::{Place, expect};
 use crate::replies::{Replies, expect_replies};
 use call_report::done;
@@ -44,6 +44,7 @@ fn judge_lines<D: Depot>(
         (ScriptFrom script.now workers (D.state depot.old).held) ended_awaited
         (file_of (D.state depot.old) report.old) at.old at.new met) }
 {
+    know_names(script.nodes.as_slice());
     let mut replies = Replies::none(alloc, script)?;
     let upto = steps_above(script, 0);
     if !expect_replies(depot, report, at, script, upto, &mut replies)? {
