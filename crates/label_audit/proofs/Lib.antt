@@ -19,4 +19,5 @@ pub mod PacketReads
 pub mod Captures
 pub mod JudgedNext
 pub mod PacketsJudged
+pub mod CaptureJudged
 pub mod Law

@@ -16,9 +16,10 @@ ghost use Rattle.call_report.specs.Event.{packets_limit};
 ghost use Rattle.report_file.specs.File.{KeepsPart};
 ghost use Rattle.flow_access.specs.Valid.{plan_of};
 ghost use Rattle.script_run.specs.Runs.{FlowsStatus};
-ghost use Rattle.label_audit.specs.inside.Grammar.{FlowsFrom};
-ghost use Rattle.label_audit.specs.inside.Reading.{HasRead, StandsIn, IsJudgedTo, file_of};
-ghost use Rattle.label_audit.specs.inside.Flow.{Ready, behind_flow, packets_awaited, end_awaited, done_awaited, left_by, IsReadOn, HasBegunReading, IsFew, inputs_of};
+ghost use Rattle.label_audit.specs.inside.Grammar.{FlowsFrom, nothing_counted, end_text_of};
+ghost use Rattle.call_report.specs.Lines.Flow.{flow_line};
+ghost use Rattle.label_audit.specs.inside.Reading.{HasRead, StandsIn, IsExpected, IsJudgedTo, file_of};
+ghost use Rattle.label_audit.specs.inside.Flow.{Ready, behind_flow, packets_awaited, end_awaited, done_awaited, left_by, IsReadOn, HasBegunReading, IsFew, inputs_of, HasWholeCapture, capture_packets, flows_behind};
 
 use crate::place::{Place, differ, expect};
 use crate::replies::{Replies, expect_replies};
@@ -294,8 +295,57 @@ fn judge_packets<D: Depot>(
     Ok(false)
 }
 
-/// Whether a flow's first line, its packets' lines and its last one stand at the place, which goes behind them then.
-fn judge_own<D: Depot>(
+/// Whether a flow's first line stands at the place, which goes behind it then.
+fn expect_flow<D: Depot>(
+    depot: &mut D,
+    report: &mut ReportFile,
+    at: &mut Place,
+    script: &Script,
+    flow: usize,
+    text: &mut Vec<u8>,
+) -> Result<bool, IoFault>
+    requires flow { (flow < length script.now.flows) × (length script.now.flows ≤ 256) }
+    requires keeps { KeepsPart (D.state depot.old) report.old }
+    requires stands { IsTrue (D.state depot.old).tells
+        → StandsIn (file_of (D.state depot.old) report.old) at.old }
+    ensures read { (names : List (List ℕ)) → HasRead names result report.old report.new
+        (D.state depot.old) (D.state depot.new) }
+    ensures expected { IfOk result (λ met. IsTrue (D.state depot.old).tells
+        → (line : LineValue) → slice_get script.now.flows flow ≡ Some line
+        → IsExpected (file_of (D.state depot.old) report.old) (flow_line (flow + 1) line.input)
+        at.old at.new met) }
+{
+    text.clear();
+    write_flow(flow as u64 + 1, &script.flows.as_slice()[flow].input, text)?;
+    expect(depot, report, at, text)
+}
+
+/// Whether a flow's last line stands at the place, which goes behind it then.
+fn expect_end<D: Depot>(
+    depot: &mut D,
+    report: &mut ReportFile,
+    at: &mut Place,
+    flow: usize,
+    counts: Counted,
+    text: &mut Vec<u8>,
+) -> Result<bool, IoFault>
+    requires flow { flow < 256 }
+    requires keeps { KeepsPart (D.state depot.old) report.old }
+    requires stands { IsTrue (D.state depot.old).tells
+        → StandsIn (file_of (D.state depot.old) report.old) at.old }
+    ensures read { (names : List (List ℕ)) → HasRead names result report.old report.new
+        (D.state depot.old) (D.state depot.new) }
+    ensures expected { IfOk result (λ met. IsTrue (D.state depot.old).tells
+        → IsExpected (file_of (D.state depot.old) report.old) (end_text_of (flow + 1) counts)
+        at.old at.new met) }
+{
+    text.clear();
+    write_flow_end(flow as u64 + 1, counts.packets, counts.passed, counts.denied, text)?;
+    expect(depot, report, at, text)
+}
+
+/// Whether the lines of all packets of a flow's capture stand at the place, which goes behind them then.
+fn judge_capture<D: Depot>(
     depot: &mut D,
     report: &mut ReportFile,
     at: &mut Place,
@@ -308,6 +358,67 @@ fn judge_own<D: Depot>(
     requires flow { flow < length script.now.flows }
     requires tables { (0 < length judge.old.tables.items) × Ready script.now
         (length judge.old.tables.items) (before script.now flow) judge.old.tables.items }
+    requires whole { IsTrue (D.state depot.old).tells
+        → HasWholeCapture script.now flow (D.state depot.old).held }
+    requires keeps { KeepsPart (D.state depot.old) report.old }
+    requires stands { IsTrue (D.state depot.old).tells
+        → StandsIn (file_of (D.state depot.old) report.old) at.old }
+    ensures read { HasRead (inputs_of script.now) result report.old report.new
+        (D.state depot.old) (D.state depot.new) }
+    ensures judged { IfOk result (λ met. IsTrue (D.state depot.old).tells
+        → (held : Folder) (most : ℕ) (line : LineValue) (flows : List LineValue)
+        → slice_get script.now.flows flow ≡ Some line
+        → IsJudgedTo
+        (packets_awaited script.now (length judge.old.tables.items) held flow most line flows
+        nothing_counted judge.old.tables.items
+        (capture_packets (D.state depot.old).held line))
+        (behind_flow script.now (length judge.old.tables.items) held flow most line flows
+        judge.new.counts)
+        (file_of (D.state depot.old) report.old) at.old at.new met) }
+    ensures counts { IfOk result (λ met. IsTrue met → IsTrue (D.state depot.old).tells
+        → (line : LineValue) → slice_get script.now.flows flow ≡ Some line
+        → judge.new.counts.packets ≡ length (capture_packets (D.state depot.old).held line)) }
+    ensures tables { Ready script.now (length judge.old.tables.items)
+        (before script.now (flow + 1)) judge.new.tables.items }
+{
+    let line = &script.flows.as_slice()[flow];
+    match begin_capture(judge.alloc, depot, &line.input)? {
+        None => {
+            differ(at, 0);
+            Ok(false)
+        }
+        Some(reader) => {
+            judge.counts = Counted {
+                packets: 0,
+                passed: 0,
+                denied: 0,
+            };
+            let mut reader = reader;
+            judge_packets(depot, report, at, script, flow, judge, &mut reader)
+        }
+    }
+}
+
+/// Whether the lines of a flow stand at the place, with the replies behind it, which goes behind them then.
+fn judge_flow<D: Depot>(
+    depot: &mut D,
+    report: &mut ReportFile,
+    at: &mut Place,
+    script: &Script,
+    flow: usize,
+    replies: &mut Replies,
+    judge: &mut Judge<'_>,
+) -> Result<bool, IoFault>
+    requires sound { (own : List ℕ) × IsSoundScript own script.now }
+    requires names { All IsNameText script.now.nodes }
+    requires flow { flow < length script.now.flows }
+    requires tables { (0 < length judge.old.tables.items) × Ready script.now
+        (length judge.old.tables.items) (before script.now flow) judge.old.tables.items }
+    requires done { replies.old.done ≡ before script.now flow }
+    requires network { replies.old.network
+        ≡ tables_after (length script.now.nodes) script.now.steps (before script.now flow) }
+    requires whole { IsTrue (D.state depot.old).tells
+        → HasWholeCapture script.now flow (D.state depot.old).held }
     requires keeps { KeepsPart (D.state depot.old) report.old }
     requires stands { IsTrue (D.state depot.old).tells
         → StandsIn (file_of (D.state depot.old) report.old) at.old }
@@ -316,73 +427,27 @@ fn judge_own<D: Depot>(
     ensures judged { IfOk result (λ met. IsTrue (D.state depot.old).tells
         → (held : Folder) (most : ℕ) (line : LineValue) (flows : List LineValue)
         → SameHeld held (D.state depot.old).held → slice_get script.now.flows flow ≡ Some line
-        → FlowsStatus held (flow + 1) most (line ∷ flows) 0 → most ≤ 1048576
+        → FlowsStatus held (flow + 1) most (line ∷ flows) 0
         → IsJudgedTo
         (FlowsFrom script.now (length judge.old.tables.items) held (flow + 1) most (line ∷ flows))
-        (end_awaited script.now (length judge.old.tables.items) held flow most line flows)
+        (flows_behind script.now (length judge.old.tables.items) held flow most line flows)
         (file_of (D.state depot.old) report.old) at.old at.new met) }
-    ensures tables { Ready script.now (length judge.old.tables.items)
-        (before script.now (flow + 1)) judge.new.tables.items }
+    ensures done { IfOk result (λ met. IsTrue met
+        → replies.new.done ≡ before script.now (flow + 1)) }
+    ensures network { IfOk result (λ met. IsTrue met → replies.new.network
+        ≡ tables_after (length script.now.nodes) script.now.steps (before script.now (flow + 1))) }
+    ensures tables { IfOk result (λ met. IsTrue met → Ready script.now
+        (length judge.old.tables.items) (before script.now (flow + 1)) judge.new.tables.items) }
 {
-    let line = &script.flows.as_slice()[flow];
-    let number = flow as u64 + 1;
-    let mut text = Vec::new(judge.alloc);
-    write_flow(number, &line.input, &mut text)?;
-    if !expect(depot, report, at, &text)? {
+    if !expect_flow(depot, report, at, script, flow, &mut replies.line)? {
         return Ok(false);
     }
-    let Some(mut reader) = begin_capture(judge.alloc, depot, &line.input)? else {
-        differ(at, 0);
-        return Ok(false);
-    };
-    judge.counts = Counted { packets: 0, passed: 0, denied: 0 };
-    if !judge_packets(depot, report, at, script, flow, judge, &mut reader)? {
+    if !judge_capture(depot, report, at, script, flow, judge)? {
         return Ok(false);
     }
-    text.clear();
-    let counts = judge.counts;
-    write_flow_end(number, counts.packets, counts.passed, counts.denied, &mut text)?;
-    expect(depot, report, at, &text)
-}
-
-/// Whether the lines of all flows stand at the place, each with the replies behind it, which goes behind them then.
-pub(crate) fn judge_flows<D: Depot>(
-    depot: &mut D,
-    report: &mut ReportFile,
-    at: &mut Place,
-    script: &Script,
-    replies: &mut Replies,
-    judge: &mut Judge<'_>,
-) -> Result<bool, IoFault>
-    requires sound { (own : List ℕ) × IsSoundScript own script.now }
-    requires names { All IsNameText script.now.nodes }
-    requires tables { (0 < length judge.old.tables.items) × Ready script.now
-        (length judge.old.tables.items) 0 judge.old.tables.items }
-    requires done { replies.old.done ≡ before script.now 0 }
-    requires network { replies.old.network
-        ≡ tables_after (length script.now.nodes) script.now.steps (before script.now 0) }
-    requires keeps { KeepsPart (D.state depot.old) report.old }
-    requires stands { IsTrue (D.state depot.old).tells
-        → StandsIn (file_of (D.state depot.old) report.old) at.old }
-    requires whole { IsTrue (D.state depot.old).tells
-        → FlowsStatus (D.state depot.old).held 1 packets_limit script.now.flows 0 }
-    ensures read { HasRead (inputs_of script.now) result report.old report.new
-        (D.state depot.old) (D.state depot.new) }
-    ensures judged { IfOk result (λ met. IsTrue (D.state depot.old).tells → IsJudgedTo
-        (FlowsFrom script.now (length judge.old.tables.items) (D.state depot.old).held
-        1 packets_limit script.now.flows)
-        done_awaited (file_of (D.state depot.old) report.old) at.old at.new met) }
-{
-    let mut flow = 0;
-    while flow < script.flows.as_slice().len() {
-        if !judge_own(depot, report, at, script, flow, judge)? {
-            return Ok(false);
-        }
-        flow += 1;
-        let upto = steps_above(script, flow);
-        if !expect_replies(depot, report, at, script, upto, replies)? {
-            return Ok(false);
-        }
+    if !expect_end(depot, report, at, flow, judge.counts, &mut replies.line)? {
+        return Ok(false);
     }
-    Ok(true)
+    let upto = steps_above(script, flow + 1);
+    expect_replies(depot, report, at, script, upto, replies)
 }

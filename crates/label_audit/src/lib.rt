@@ -5,13 +5,10 @@
 
 mod audited;
 mod flow;
-mod judging;
 pub mod laws;
 mod place;
 mod replies;
 mod walker;
 
-#[cfg(test)]
-mod tests;
 
 pub use audited::Audited;

@@ -10,7 +10,7 @@ use Rattle.packet_walk.specs.Stepping.{TablesAt}
 use Rattle.capture_reader.specs.declared.reader.AnyFrames.{AnyFrames}
 use Rattle.capture_reader.specs.Frame.{packet_in}
 use Rattle.capture_reader.specs.Reader.{FramesLeft, file_name_of, left_of, begun_file}
-use Rattle.capture_reader.specs.CaptureFile.{capture_file}
+use Rattle.capture_reader.specs.CaptureFile.{CaptureFile, capture_file}
 use Rattle.capture_reader.specs.declared.fault.FileFault.{FileFault}
 use Rattle.call_report.specs.Report.{Folder}
 use Rattle.call_report.specs.Lines.Fixed.{done_line}
@@ -77,3 +77,21 @@ IsFew counts = (counts.packets ≤ 1048577) × (counts.passed ≤ counts.packets
 -- the names of all inputs
 abbrev pub inputs_of : Script → List (List ℕ)
 inputs_of script = map (λ flow. flow.input) script.flows
+
+-- the packets of a flow's capture; none where it isn't one
+abbrev pub packets_of : Result CaptureFile FileFault → List PacketIn
+packets_of (Ok capture) = map packet_in capture.frames
+packets_of (Err fault) = []
+
+abbrev pub capture_packets : Folder → FlowLine → List PacketIn
+capture_packets held line = option_map_or (λ file. packets_of (capture_file file)) (held line.input) []
+
+-- the capture of a flow is there, whole, and within the limit
+abbrev pub HasWholeCapture : Script → ℕ → Folder → Type 0
+HasWholeCapture script flow held = (line : FlowLine) → slice_get script.flows flow ≡ Some line
+    → (file : List ℕ) × (capture : CaptureFile) × (held line.input ≡ Some file) × (capture_file file ≡ Ok capture) × (capture.fault ≡ None) × (length capture.frames ≤ 1048576)
+
+-- what is awaited behind a flow and the replies behind it
+abbrev pub flows_behind : Script → ℕ → Folder → ℕ → ℕ → FlowLine → List FlowLine → Bool → List ℕ → Type 0
+flows_behind script workers held flow most line flows =
+    λ b u. FlowsFrom script workers held (flow + 1 + 1) (most - length (flow_input (flow + 1) most (held line.input)).frames) flows b u
