@@ -103,7 +103,7 @@ module _ (script : Script) (w : ℕ) (held : Folder) (flow most : ℕ) (line : F
   abbrev Behind : Counted → Awaited
   Behind = behind_flow script w held flow most line flows
 
-  abbrev FirstPackets : Bool → List ℕ → Type 0
+  abbrev pub FirstPackets : Bool → List ℕ → Type 0
   FirstPackets = PacketsFrom (site_of script w (flow + 1) line) Behind nothing_counted (λ k. line.before) (packets_in input)
 
   some_behind : (count : Counted) → Inhabits (Behind count)

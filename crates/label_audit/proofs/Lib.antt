@@ -20,4 +20,5 @@ pub mod Captures
 pub mod JudgedNext
 pub mod PacketsJudged
 pub mod CaptureJudged
+pub mod FlowJudged
 pub mod Law
