@@ -21,4 +21,5 @@ pub mod JudgedNext
 pub mod PacketsJudged
 pub mod CaptureJudged
 pub mod FlowJudged
+pub mod AllFlows
 pub mod Law

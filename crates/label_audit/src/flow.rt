@@ -451,3 +451,41 @@ fn judge_flow<D: Depot>(
     let upto = steps_above(script, flow + 1);
     expect_replies(depot, report, at, script, upto, replies)
 }
+
+/// Whether the lines of all flows stand at the place, each with the replies behind it, which goes behind them then.
+pub(crate) fn judge_flows<D: Depot>(
+    depot: &mut D,
+    report: &mut ReportFile,
+    at: &mut Place,
+    script: &Script,
+    replies: &mut Replies,
+    judge: &mut Judge<'_>,
+) -> Result<bool, IoFault>
+    requires sound { (own : List ℕ) × IsSoundScript own script.now }
+    requires names { All IsNameText script.now.nodes }
+    requires tables { (0 < length judge.old.tables.items) × Ready script.now
+        (length judge.old.tables.items) 0 judge.old.tables.items }
+    requires done { replies.old.done ≡ before script.now 0 }
+    requires network { replies.old.network
+        ≡ tables_after (length script.now.nodes) script.now.steps (before script.now 0) }
+    requires keeps { KeepsPart (D.state depot.old) report.old }
+    requires stands { IsTrue (D.state depot.old).tells
+        → StandsIn (file_of (D.state depot.old) report.old) at.old }
+    requires whole { IsTrue (D.state depot.old).tells
+        → FlowsStatus (D.state depot.old).held 1 packets_limit script.now.flows 0 }
+    ensures read { HasRead (inputs_of script.now) result report.old report.new
+        (D.state depot.old) (D.state depot.new) }
+    ensures judged { IfOk result (λ met. IsTrue (D.state depot.old).tells → IsJudgedTo
+        (FlowsFrom script.now (length judge.old.tables.items) (D.state depot.old).held
+        1 packets_limit script.now.flows)
+        done_awaited (file_of (D.state depot.old) report.old) at.old at.new met) }
+{
+    let mut flow = 0;
+    while flow < script.flows.as_slice().len() {
+        if !judge_flow(depot, report, at, script, flow, replies, judge)? {
+            return Ok(false);
+        }
+        flow += 1;
+    }
+    Ok(true)
+}

@@ -5,10 +5,10 @@
 
 mod audited;
 mod flow;
+mod judging;
 pub mod laws;
 mod place;
 mod replies;
 mod walker;
-
 
 pub use audited::Audited;
