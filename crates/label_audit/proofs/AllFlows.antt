@@ -63,7 +63,7 @@ module _ (script : Script) (w : ℕ) (held : Folder) (file : List ℕ) (a0 : Pla
   first_flows status stands = record { most = packets_limit; few = omega arith; status = status; judged = judged_same Start Start file a0 stands (λ all text t. t) (λ all text t. t) }
 
   module _ (flow : ℕ) (at : Place) (j : JudgedFlows flow at) (line : FlowLine) (at_line : slice_get script.flows flow ≡ Some line) where
-    pub rest : List FlowLine
+    abbrev pub rest : List FlowLine
     rest = drop (flow + 1) script.flows
 
     pub next_status : FlowsStatus held (flow + 1) j.most (line ∷ rest) 0

@@ -22,4 +22,5 @@ pub mod PacketsJudged
 pub mod CaptureJudged
 pub mod FlowJudged
 pub mod AllFlows
+pub mod WholeReport
 pub mod Law

@@ -8,6 +8,7 @@ use Rattle.label_audit.proofs.Replying.{replies_to}
 use Rattle.label_audit.proofs.Naming.{too_few}
 use Rattle.label_audit.proofs.Nexts.{next_stands}
 use Rattle.label_audit.proofs.Judgings.{judged_on}
+use Rattle.label_audit.proofs.WholeReport.{audited_yes}
 use Rattle.label_audit.proofs.laws.lines_of_a_whole_report_are_good.Goals as goal
 
 pub returns : goal.returns
