@@ -119,14 +119,14 @@ module _ (script : Script) (w : ℕ) (held : Folder) where
     audited_bad at j = bad_is at.lines j
 
     pub audited_longer : (at : Place) (longer : Bool) (line : ℕ) → IsJudgedTo (ScriptFrom script w held) ended_awaited file start at true → longer ≡ nat_lt at.at (length file) → longer ≡ true → line ≡ at.lines + 1 → IsFirstBad script w held file line
-    audited_longer at longer line j is yes line_is =
-        let more : at.at < length file = ltb-true at.at (length file) (sym is ∙ yes) in
+    audited_longer at longer line j is longer_is line_is =
+        let more : at.at < length file = ltb-true at.at (length file) (sym is ∙ longer_is) in
         let left : drop at.at file ≢ [] = λ none. absurd (omega (arith, more, length-drop at.at file, ap length none)) in
         subst (IsFirstBad script w held file) (sym line_is) (bad_is (at.lines + 1) (j.0.no (at.lines + 1) (more_left (drop at.at file) at.lines left)))
 
     pub audited_yes : (at : Place) (longer : Bool) → IsJudgedTo (ScriptFrom script w held) ended_awaited file start at true → longer ≡ nat_lt at.at (length file) → longer ≡ false → IsReport script w held file
-    audited_yes at longer j is no =
-        let all : length file ≤ at.at = ltb-false at.at (length file) (sym is ∙ no) in
+    audited_yes at longer j is longer_is =
+        let all : length file ≤ at.at = ltb-false at.at (length file) (sym is ∙ longer_is) in
         may_be_all script w held some whole (ordered_of own sound) file (j.0.yes (nothing (drop at.at file) (let few = all in omega (arith, few, length-drop at.at file))))
       where
         nothing : (xs : List ℕ) → length xs ≡ 0 → xs ≡ []
