@@ -14,7 +14,7 @@ ghost use Rattle.label_audit.specs.inside.Flow.{ended_awaited, inputs_of};
 
 use crate::audited::Audited;
 use crate::flow::{Judge, judge_flows, know_names, steps_above};
-use crate::place::{Place, expect};
+use crate::place::{Place, differ, expect};
 use crate::replies::{Replies, expect_replies};
 use call_report::done;
 use label_commands::Script;
@@ -85,8 +85,8 @@ pub(crate) fn judge_report<D: Depot>(
         return Ok(Audited::NoLine { line: at.lines });
     }
     if report.is_longer(depot, at.at)? {
-        let line = at.lines.saturating_add(1);
-        return Ok(Audited::NoLine { line });
+        differ(&mut at, 0);
+        return Ok(Audited::NoLine { line: at.lines });
     }
     Ok(Audited::Yes)
 }
