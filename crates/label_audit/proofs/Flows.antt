@@ -203,10 +203,10 @@ module _ (script : Script) (w : ℕ) (held : Folder) (some : 0 < w) where
           let few = not_eq (length run.pairs) (length run.input.frames) (sym (on_when run event format) ∙ off) (as_many run lists is) in
           let none : turns runs ++ done_if (are_done (run.flow ∷ flows) (run ∷ runs)) ≡ [] = ap (λ (b : Bool). turns runs ++ done_if b) (done_off off) ∙ ap (λ (rs : List FlowRun). turns rs ++ []) (last refl) in
           run_printed [] (tail_off (turns runs ++ done_if (are_done (run.flow ∷ flows) (run ∷ runs))) off ∙ none) (inl (omega (arith, few, length-map run.input.frames packet_in), not_all all done, refl))
-          where
-            not_all : (all : Bool) → (all ≡ true → are_done (run.flow ∷ flows) (run ∷ runs) ≡ true) → all ≡ false
-            not_all true done = absurd (false≢true (sym (done_off off) ∙ done refl))
-            not_all false done = refl
+        where
+          not_all : (all : Bool) → (all ≡ true → are_done (run.flow ∷ flows) (run ∷ runs) ≡ true) → all ≡ false
+          not_all true done = absurd (false≢true (sym (done_off off) ∙ done refl))
+          not_all false done = refl
 
   not_done_yet : (flow : FlowLine) (flows : List FlowLine) → are_done (flow ∷ flows) [] ≡ false
   not_done_yet flow flows = ap (λ (b : Bool). b && true) (let no : (0 == suc (length flows)) ≡ false = grind (arith, nat_tests) in no)
@@ -355,9 +355,9 @@ module _ (script : Script) (w : ℕ) (held : Folder) (some : 0 < w) where
       let have : HaveRun number most (flow ∷ flows) all (flow_line number flow.input ++ more) = elim p.behind [
         | inl few ↦ stopped number most flow flows all p.pairs told p.walked p.rises more p.tail p.is few.0 few.1 few.2
         | inr next ↦
-          let many : (counted nothing_counted p.pairs).packets ≡ length input.frames = ap (λ (c : Counted). c.packets) (counted_all (run_of number most flow flows all p.pairs told p.walked p.rises)) ∙ next.0 ∙ length-map input.frames packet_in in
-          let status = subst (λ (n : ℕ). FlowsStatus held (number + 1) (most - n) flows 0) (sym many) told.rest in
-          let rest = printed_flows (number + 1) (most - (counted nothing_counted p.pairs).packets) flows all next.1.2.0 status later next.1.2.2 in
-          went_on number most flow flows all p.pairs told p.walked p.rises more next.1.0 next.1.2.0 (p.is ∙ ap (λ t. walked_lines number 1 script.nodes flow.hops p.pairs ++ t) next.1.1) next.1.2.1 next.0 rest
+            let many : (counted nothing_counted p.pairs).packets ≡ length input.frames = ap (λ (c : Counted). c.packets) (counted_all (run_of number most flow flows all p.pairs told p.walked p.rises)) ∙ next.0 ∙ length-map input.frames packet_in in
+            let status = subst (λ (n : ℕ). FlowsStatus held (number + 1) (most - n) flows 0) (sym many) told.rest in
+            let rest = printed_flows (number + 1) (most - (counted nothing_counted p.pairs).packets) flows all next.1.2.0 status later next.1.2.2 in
+            went_on number most flow flows all p.pairs told p.walked p.rises more next.1.0 next.1.2.0 (p.is ∙ ap (λ t. walked_lines number 1 script.nodes flow.hops p.pairs ++ t) next.1.1) next.1.2.1 next.0 rest
       ] in
       subst (HaveRun number most (flow ∷ flows) all) (sym is) have

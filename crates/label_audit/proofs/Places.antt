@@ -31,8 +31,7 @@ met_there file text rest old new stands is at lines =
     let room = room_for file text rest old.at stands.1 is in
     let at_is = at (omega (arith, room, stands.2)) in
     let few = few_lines text in
-    let lines_is = lines (omega (arith, room, stands.0, stands.2, few)) in
-    (
+    let lines_is = lines (omega (arith, room, stands.0, stands.2, few)) in (
       is ∙ ap (λ t. text ++ t) (sym (ap (λ n. drop n file) at_is ∙ rest_at file text rest old.at is)),
       lines_is,
       (omega (arith, lines_is, at_is, few, stands.0), omega (arith, at_is, room), stands.2),

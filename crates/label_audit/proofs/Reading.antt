@@ -128,8 +128,8 @@ module _ (may may' : Awaited) (left left' text : List ℕ) (is : left ≡ text +
     before = λ j less. elim (cases_lt j (lines_in text)) [
       | inl within ↦ good_within j (omega (arith, within)) (let g = b.before 0 b.some in (g.front ++ g.more, g.printed))
       | inr behind ↦
-        let same : lines_in text + (j - lines_in text) ≡ j = omega (arith, behind) in
-        subst (GoodFrom may left) same (good_behind (j - lines_in text) (b.before (j - lines_in text) (omega (arith, less, behind))))
+          let same : lines_in text + (j - lines_in text) ≡ j = omega (arith, behind) in
+          subst (GoodFrom may left) same (good_behind (j - lines_in text) (b.before (j - lines_in text) (omega (arith, less, behind))))
     ];
     bad = λ g. b.bad (good_back k b.some g);
     other = λ all. b.other (down true left' (subst (may true) is all));
@@ -177,10 +177,10 @@ module _ (may : Awaited) (left text : List ℕ) (lines : ℕ) (d : DiffersBehind
   bad_by : (g : GoodFrom may left (lines + 1)) → (more : List ℕ) → g.front ++ g.more ≡ text ++ more → ⊥
   bad_by g more is = elim (split d.front g.front d.behind g.first.rest (sym d.of_left ∙ g.first.is)) [
     | inl b ↦
-      let there : b.more ++ g.more ≡ d.octet ∷ (d.more ++ more) =
-      rest_of d.front (b.more ++ g.more) (d.octet ∷ (d.more ++ more)) (sym (append_assoc d.front b.more g.more) ∙ ap (λ t. t ++ g.more) (sym b.is) ∙ is ∙ behind_is more) in
-      let count : lines_in b.more ≡ 1 = omega (arith, g.first.count, ap lines_in b.is, lines-append d.front b.more, d.count) in
-      d.other (ap (λ t. slice_get t 0) b.left ∙ first_of b.more count there)
+        let there : b.more ++ g.more ≡ d.octet ∷ (d.more ++ more) =
+        rest_of d.front (b.more ++ g.more) (d.octet ∷ (d.more ++ more)) (sym (append_assoc d.front b.more g.more) ∙ ap (λ t. t ++ g.more) (sym b.is) ∙ is ∙ behind_is more) in
+        let count : lines_in b.more ≡ 1 = omega (arith, g.first.count, ap lines_in b.is, lines-append d.front b.more, d.count) in
+        d.other (ap (λ t. slice_get t 0) b.left ∙ first_of b.more count there)
     | inr b ↦ absurd (omega (arith, g.first.count, ap lines_in b.is, lines-append g.front b.more, d.count))
   ] where
     first_of : (z : List ℕ) → lines_in z ≡ 1 → z ++ g.more ≡ d.octet ∷ (d.more ++ more) → slice_get (z ++ g.first.rest) 0 ≡ Some d.octet
@@ -218,11 +218,11 @@ pub record OneLine (line : List ℕ) : Type 0 where
 pub same_line : (a b x y : List ℕ) → OneLine a → OneLine b → a ++ x ≡ b ++ y → (a ≡ b) × (x ≡ y)
 same_line a b x y one other is = elim (split a b x y is) [
   | inl g ↦
-    let none = none_whole g.more (whole_behind a g.more (subst Whole g.is other.whole)) (omega (arith, one.one, other.one, ap lines_in g.is, lines-append a g.more)) in
-    (sym (g.is ∙ ap (λ t. a ++ t) none ∙ append-nil a), g.left ∙ ap (λ t. t ++ y) none)
+      let none = none_whole g.more (whole_behind a g.more (subst Whole g.is other.whole)) (omega (arith, one.one, other.one, ap lines_in g.is, lines-append a g.more)) in
+      (sym (g.is ∙ ap (λ t. a ++ t) none ∙ append-nil a), g.left ∙ ap (λ t. t ++ y) none)
   | inr g ↦
-    let none = none_whole g.more (whole_behind b g.more (subst Whole g.is one.whole)) (omega (arith, one.one, other.one, ap lines_in g.is, lines-append b g.more)) in
-    (g.is ∙ ap (λ t. b ++ t) none ∙ append-nil b, sym (g.left ∙ ap (λ t. t ++ x) none))
+      let none = none_whole g.more (whole_behind b g.more (subst Whole g.is one.whole)) (omega (arith, one.one, other.one, ap lines_in g.is, lines-append b g.more)) in
+      (g.is ∙ ap (λ t. b ++ t) none ∙ append-nil b, sym (g.left ∙ ap (λ t. t ++ x) none))
 ]
 
 -- nothing, or a line of this kind and what may stand behind it
@@ -242,9 +242,9 @@ module _ (may : Awaited) (left : List ℕ) (Line : List ℕ → Type 0) (nothing
     bad = λ g. elim (opens false (g.front ++ g.more) g.printed) [
       | inl empty ↦ absurd (no_front g.front g.more empty.1 g.first.count)
       | inr there ↦
-        let one : OneLine g.front = record { whole = g.first.ends; one = g.first.count } in
-        let same = same_line g.front there.0 g.more there.1 one there.2 there.4 in
-        none g.front g.first.rest one (subst Line (sym same.0) there.3) g.first.is
+          let one : OneLine g.front = record { whole = g.first.ends; one = g.first.count } in
+          let same = same_line g.front there.0 g.more there.1 one there.2 there.4 in
+          none g.front g.first.rest one (subst Line (sym same.0) there.3) g.first.is
     ];
     other = λ all. elim (opens true left all) [
       | inl empty ↦ absurd (false≢true (sym empty.0))

@@ -71,8 +71,11 @@ unfolding reply_text
 reply_whole number node reply =
     let last = answer_ends reply in
     let front : List ℕ = codes "command " ++ decimal number ++ codes " " ++ node ++ codes " " in
-    inr (front ++ last.0, (let is : codes "command " ++ decimal number ++ codes " " ++ node ++ codes " " ++ answer_text reply ≡ (codes "command " ++ decimal number ++ codes " " ++ node ++ codes " ") ++ answer_text reply = simp append_assoc in
-    is ∙ ap (λ t. front ++ t) last.1 ∙ sym (append_assoc front last.0 (10 ∷ []))))
+    inr (
+      front ++ last.0,
+      (let is : codes "command " ++ decimal number ++ codes " " ++ node ++ codes " " ++ answer_text reply ≡ (codes "command " ++ decimal number ++ codes " " ++ node ++ codes " ") ++ answer_text reply = simp append_assoc in
+          is ∙ ap (λ t. front ++ t) last.1 ∙ sym (append_assoc front last.0 (10 ∷ []))),
+    )
 
 line_at_whole : (names : List (List ℕ)) (steps : List Step) (k : ℕ) → Whole (reply_line_at names steps k)
 line_at_whole names steps k = by_step (slice_get steps k) where

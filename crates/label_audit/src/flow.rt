@@ -232,7 +232,15 @@ fn judge_next<D: Depot>(
         low: line.before.max(tables.version()),
         high: steps_above(script, flow + 1),
     };
-    if !judge_packet(depot, report, at, &place, tables, &judge.packet, &mut judge.walker)? {
+    if !judge_packet(
+        depot,
+        report,
+        at,
+        &place,
+        tables,
+        &judge.packet,
+        &mut judge.walker,
+    )? {
         differ(at, 0);
         return Ok(false);
     }
@@ -340,7 +348,13 @@ fn expect_end<D: Depot>(
         at.old at.new met) }
 {
     text.clear();
-    write_flow_end(flow as u64 + 1, counts.packets, counts.passed, counts.denied, text)?;
+    write_flow_end(
+        flow as u64 + 1,
+        counts.packets,
+        counts.passed,
+        counts.denied,
+        text,
+    )?;
     expect(depot, report, at, text)
 }
 

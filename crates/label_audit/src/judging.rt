@@ -59,7 +59,7 @@ fn judge_lines<D: Depot>(
 
 /// Whether a report is a whole one of a run of this script with so many workers, or the first of its lines that isn't good. All captures that
 /// the script reads are whole. Nothing changes; `Failed` comes only where the count of failed reads of the report or of a capture rose.
-pub(crate) fn judge_report<D: Depot>(
+pub fn judge_report<D: Depot>(
     alloc: Global,
     script: &Script,
     workers: usize,

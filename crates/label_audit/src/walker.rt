@@ -14,7 +14,10 @@ use call_report::WalkLines;
 use flow_lines::FlowLine;
 use mls_label::OutOfMemory;
 use net_io::{Depot, IoFault};
-use packet_walk::{End, PacketIn, ShownWalks, StepTables, VersionsStop, WalkRoom, Walked, WalkedSlot, rise, walk_named};
+use packet_walk::{
+    End, PacketIn, ShownWalks, StepTables, VersionsStop, WalkRoom, Walked, WalkedSlot, rise,
+    walk_named,
+};
 use report_file::{Met, ReportFile};
 use std::alloc::Global;
 
@@ -80,7 +83,14 @@ fn write_line(place: &PacketPlace<'_>, walker: &mut Walker) -> Result<(), OutOfM
     let walked = walker.shown.show(&walker.walked);
     walker.is_denied = is_denied(walked);
     walker.line.clear();
-    walker.lines.write(flow, place.number, place.names, hops, walked, &mut walker.line)
+    walker.lines.write(
+        flow,
+        place.number,
+        place.names,
+        hops,
+        walked,
+        &mut walker.line,
+    )
 }
 
 /// Walks a packet under the versions that were read, and writes its line; or tells that they are not those of a walk that may be here.

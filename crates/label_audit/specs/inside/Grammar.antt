@@ -54,7 +54,7 @@ PacketsFrom site Behind count met (packet ∷ packets) all text =
     × Rises (met (count.packets % site.workers)) site.after pair.walked.versions
     × (text ≡ walked_line site.number (count.packets + 1) site.names site.hops pair.walked ++ more)
     × PacketsFrom site Behind (counted_more count pair)
-        (meets_now met (count.packets % site.workers) (last_met (met (count.packets % site.workers)) pair.walked.versions)) packets all more)
+    (meets_now met (count.packets % site.workers) (last_met (met (count.packets % site.workers)) pair.walked.versions)) packets all more)
 
 -- a text, and what may stand behind it
 abbrev pub Then : List ℕ → Awaited → Bool → List ℕ → Type 0
@@ -90,8 +90,8 @@ FlowsFrom script workers held number most (flow ∷ flows) all text =
     ((all ≡ false) × (text ≡ []))
     ⊎ Then (flow_line number flow.input)
     (λ every rest. PacketsFrom (site_of script workers number flow)
-        (BehindPackets script number flow (λ packets b u. FlowsFrom script workers held (number + 1) (most - packets) flows b u))
-        nothing_counted (λ k. flow.before) (packets_in (flow_input number most (held flow.input))) every rest)
+    (BehindPackets script number flow (λ packets b u. FlowsFrom script workers held (number + 1) (most - packets) flows b u))
+    nothing_counted (λ k. flow.before) (packets_in (flow_input number most (held flow.input))) every rest)
     all text
 
 -- what may be printed of a script

@@ -96,9 +96,9 @@ returns-in-Some-clause-judged g c =
     ap (capture_packets start.held) (sym same) ∙ packets_left (start.held fl.input) reader (c.requires.whole tells fl here) begun mid fl.input named (c.in_ok-begin_capture.ensures.frame.kept tells fl.input) in
     let file_is = read_file (inputs_of script) c.args.report.now c.args.report.now start mid c.in_ok-begin_capture.field-0 first tells in
     subst (λ (ps : List PacketIn). IsJudgedTo (packets_awaited script w held c.args.flow most line flows nothing_counted c.args.judge.now.tables.items ps)
-        (behind_flow script w held c.args.flow most line flows c.judge_packets.new.judge.counts) (file_of start c.args.report.now) c.args.at.now c.judge_packets.new.at met) (sym packets)
+    (behind_flow script w held c.args.flow most line flows c.judge_packets.new.judge.counts) (file_of start c.args.report.now) c.args.at.now c.judge_packets.new.at met) (sym packets)
     (subst (λ (f : List ℕ). IsJudgedTo (packets_awaited script w held c.args.flow most line flows nothing_counted c.args.judge.now.tables.items (map packet_in (left_by mid reader).frames))
-        (behind_flow script w held c.args.flow most line flows c.judge_packets.new.judge.counts) f c.args.at.now c.judge_packets.new.at met) file_is
+    (behind_flow script w held c.args.flow most line flows c.judge_packets.new.judge.counts) f c.args.at.now c.judge_packets.new.at met) file_is
     (judged (read_told (inputs_of script) c.args.report.now c.args.report.now start mid c.in_ok-begin_capture.field-0 first tells) held most line flows at_line)))
     c.judge_packets.ensures.judged
 

@@ -36,7 +36,7 @@ returns-in-End-clause-judged g c = λ tells held most line flows at_line.
     let told = subst IsTrue (sym inv.same.told) tells in
     let none = subst (IsReadOn (left_by now c.loop-judge.reader) c.next_packet.new.packet (left_by mid c.next_packet.new.reader)) c.in-End.is (c.in_ok-next_packet.ensures.answer told) in
     subst (λ (fs : List CapturedFrame). IsJudgedTo (packets_awaited script w held c.args.flow most line flows c.args.judge.now.counts c.args.judge.now.tables.items (map packet_in (left_by start c.args.reader.now).frames))
-        (packets_awaited script w held c.args.flow most line flows c.loop-judge.judge.counts c.loop-judge.judge.tables.items (map packet_in fs)) (file_of start c.args.report.now) c.args.at.now c.loop-judge.at true) none (inv.judged tells held most line flows at_line)
+    (packets_awaited script w held c.args.flow most line flows c.loop-judge.judge.counts c.loop-judge.judge.tables.items (map packet_in fs)) (file_of start c.args.report.now) c.args.at.now c.loop-judge.at true) none (inv.judged tells held most line flows at_line)
 
 pub returns-in_err-judge_next-clause-read : goal.returns-in_err-judge_next-clause-read
 returns-in_err-judge_next-clause-read g c = λ names one.
@@ -129,7 +129,7 @@ loop-judge-preserved g c =
       count = λ tells. omega (arith, more, inv.count tells, one_frame (left_by now c.loop-judge.reader).frames (left_by mid reader).frames c.next_packet.new.packet (one tells).0, ap (λ (l : FramesLeft). length l.frames) (left tells));
       judged = λ tells held most line flows at_line.
           subst (λ (l : FramesLeft). IsJudgedTo (packets_awaited script w held c.args.flow most line flows c.args.judge.now.counts c.args.judge.now.tables.items (map packet_in (left_by start c.args.reader.now).frames))
-              (packets_awaited script w held c.args.flow most line flows c.judge_next.new.judge.counts c.judge_next.new.judge.tables.items (map packet_in l.frames)) (file_of start r0) c.args.at.now c.judge_next.new.at true) (sym (left tells))
+          (packets_awaited script w held c.args.flow most line flows c.judge_next.new.judge.counts c.judge_next.new.judge.tables.items (map packet_in l.frames)) (file_of start r0) c.args.at.now c.judge_next.new.at true) (sym (left tells))
           (step_judged script w held c.args.flow most line flows c.args.judge.now.counts c.loop-judge.judge.counts c.judge_next.new.judge.counts c.args.judge.now.tables.items c.loop-judge.judge.tables.items c.judge_next.new.judge.tables.items
           (map packet_in (left_by start c.args.reader.now).frames) (map packet_in (left_by now c.loop-judge.reader).frames) packets c.next_packet.new.packet (length c.loop-judge.judge.tables.items) (file_of start r0) (file_of mid r1)
           c.args.at.now c.loop-judge.at c.judge_next.new.at true c.in_ok-judge_next.field-0 inv.tables.many (file_is tells) (one tells).0 c.if-not-branch.false (inv.judged tells held most line flows at_line)
@@ -138,7 +138,7 @@ loop-judge-preserved g c =
           let found = there_is script.flows c.args.flow c.requires.flow in
           let none = found.0 ∷ [] in
           let there = subst (λ (m : Bool). IsJudgedTo (packets_awaited script (length c.loop-judge.judge.tables.items) mid.held c.args.flow 0 found.0 none c.loop-judge.judge.counts c.loop-judge.judge.tables.items (c.next_packet.new.packet ∷ packets))
-              (packets_awaited script (length c.loop-judge.judge.tables.items) mid.held c.args.flow 0 found.0 none c.judge_next.new.judge.counts c.judge_next.new.judge.tables.items packets) (file_of mid r1) c.loop-judge.at c.judge_next.new.at m) c.if-not-branch.false
+          (packets_awaited script (length c.loop-judge.judge.tables.items) mid.held c.args.flow 0 found.0 none c.judge_next.new.judge.counts c.judge_next.new.judge.tables.items packets) (file_of mid r1) c.loop-judge.at c.judge_next.new.at m) c.if-not-branch.false
           (c.in_ok-judge_next.ensures.judged (told_mid tells) mid.held 0 found.0 none packets found.1) in
           subst (λ (f : List ℕ). StandsIn f c.judge_next.new.at) (file_is tells) there.1;
     }

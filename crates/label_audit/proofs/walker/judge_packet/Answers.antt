@@ -13,8 +13,7 @@ pub returns-then-not-branch-clause-judged : goal.returns-then-not-branch-clause-
 returns-then-not-branch-clause-judged g c = λ tells.
     let place = c.args.place.now in
     let file = file_of (g.D.Depot.state c.args.depot.now) c.args.report.now in
-    let few : place.high < 2 ^ 32 = omega (arith, c.requires.high, c.requires.steps) in
-    (
+    let few : place.high < 2 ^ 32 = omega (arith, c.requires.high, c.requires.steps) in (
       refl,
       none_named c.args.tables.now.plan place c.args.packet.now (drop c.args.at.now.at file) c.requires.hops c.requires.names few c.in_ok-versions_at.field-0 c.versions_at.new.versions.items c.if-not-branch.true (c.in_ok-versions_at.ensures.each tells),
     )
