@@ -24,7 +24,7 @@ returns-then-not-branch-clause-audited g c = λ tells.
     let names = inputs_of script in
     let s1 = g.D.Depot.state c.judge_lines.new.depot in
     let r1 = c.judge_lines.new.report in
-    let R1 = c.in_ok-judge_lines.ensures.read in
+    let first_read = c.in_ok-judge_lines.ensures.read in
     let judged = subst (λ (m : Bool). IsJudgedTo (ScriptFrom script w s0.held) ended_awaited file begin at m) c.if-not-branch.true (c.in_ok-judge_lines.ensures.judged tells) in
     audited_bad script w s0.held c.requires.workers.0 own sound (c.requires.whole tells) file at judged
 
@@ -43,9 +43,9 @@ returns-then-branch-clause-audited g c = λ tells.
     let names = inputs_of script in
     let s1 = g.D.Depot.state c.judge_lines.new.depot in
     let r1 = c.judge_lines.new.report in
-    let R1 = c.in_ok-judge_lines.ensures.read in
+    let first_read = c.in_ok-judge_lines.ensures.read in
     let judged = subst (λ (m : Bool). IsJudgedTo (ScriptFrom script w s0.held) ended_awaited file begin at m) c.if-not-branch.false (c.in_ok-judge_lines.ensures.judged tells) in
-    let longer_is : c.in_ok-is_longer.field-0 ≡ nat_lt at.at (length file) = c.in_ok-is_longer.ensures.longer (read_told names r0 r1 s0 s1 met R1 tells) ∙ ap (λ (f : List ℕ). nat_lt at.at (length f)) (read_file names r0 r1 s0 s1 met R1 tells) in
+    let longer_is : c.in_ok-is_longer.field-0 ≡ nat_lt at.at (length file) = c.in_ok-is_longer.ensures.longer (read_told names r0 r1 s0 s1 met first_read tells) ∙ ap (λ (f : List ℕ). nat_lt at.at (length f)) (read_file names r0 r1 s0 s1 met first_read tells) in
     audited_longer script w s0.held c.requires.workers.0 own sound (c.requires.whole tells) file at c.in_ok-is_longer.field-0 c.differ.new.place.lines judged longer_is c.if-branch.true (differ_one at c.differ.new.place file judged.1 c.differ.ensures)
 
 pub returns-clause-audited : goal.returns-clause-audited
@@ -63,7 +63,7 @@ returns-clause-audited g c = λ tells.
     let names = inputs_of script in
     let s1 = g.D.Depot.state c.judge_lines.new.depot in
     let r1 = c.judge_lines.new.report in
-    let R1 = c.in_ok-judge_lines.ensures.read in
+    let first_read = c.in_ok-judge_lines.ensures.read in
     let judged = subst (λ (m : Bool). IsJudgedTo (ScriptFrom script w s0.held) ended_awaited file begin at m) c.if-not-branch.false (c.in_ok-judge_lines.ensures.judged tells) in
-    let longer_is : c.in_ok-is_longer.field-0 ≡ nat_lt at.at (length file) = c.in_ok-is_longer.ensures.longer (read_told names r0 r1 s0 s1 met R1 tells) ∙ ap (λ (f : List ℕ). nat_lt at.at (length f)) (read_file names r0 r1 s0 s1 met R1 tells) in
+    let longer_is : c.in_ok-is_longer.field-0 ≡ nat_lt at.at (length file) = c.in_ok-is_longer.ensures.longer (read_told names r0 r1 s0 s1 met first_read tells) ∙ ap (λ (f : List ℕ). nat_lt at.at (length f)) (read_file names r0 r1 s0 s1 met first_read tells) in
     audited_yes script w s0.held c.requires.workers.0 own sound (c.requires.whole tells) file at c.in_ok-is_longer.field-0 judged longer_is c.if-branch.false
