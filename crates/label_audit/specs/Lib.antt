@@ -1,1 +1,4 @@
 pub mod Good
+pub mod Audited
+pub mod Reads
+pub mod inside

@@ -1,0 +1,26 @@
+-- The reading of a flow's capture beside its report.
+use Rattle.std.proofs.Common.{◌≡◌, ◌<◌, ◌≤◌, ℕ, ◌+◌, ◌-◌, Bool, true, false, List, [], ◌∷◌, ◌++◌, map, length, None, Result, Ok, Err, refl, sym, ap, ◌∙◌, subst, arith}
+use Rattle.std.specs.Prelude.{IsTrue, Contains}
+use Rattle.net_io.specs.declared.fault.IoFault.{IoFault}
+use Rattle.net_io.specs.declared.fault.IoFault.TheVariants.{Failed}
+use Rattle.net_io.specs.Depot.{DepotState, SameHeld, OnlyReads, octets_of}
+use Rattle.packet_walk.specs.declared.packet.PacketIn.{PacketIn}
+use Rattle.capture_reader.specs.declared.reader.AnyFrames.{AnyFrames}
+use Rattle.capture_reader.specs.Frame.{packet_in}
+use Rattle.capture_reader.specs.Reader.{FramesLeft, file_name_of, left_of, IsReadable}
+use Rattle.capture_reader.proofs.Law.{a_reader_goes_on_in_a_kept_file}
+use Rattle.report_file.specs.File.{ReportPart}
+use Rattle.label_audit.specs.inside.Reading.{HasRead}
+use Rattle.label_audit.specs.inside.Flow.{left_by}
+use Rattle.label_audit.proofs.Frames.{Unmoved, read_same}
+
+-- a capture stays as it is while something else is read
+pub reader_on : (a b : DepotState) (reader : AnyFrames) → Unmoved a b → IsReadable a reader → IsReadable b reader
+reader_on a b reader same ready = a_reader_goes_on_in_a_kept_file a b reader same.told (λ tells. same.kept tells (file_name_of reader)) ready
+
+pub left_same : (a b : DepotState) (reader : AnyFrames) → Unmoved a b → IsTrue a.tells → left_by b reader ≡ left_by a reader
+left_same a b reader same tells = ap (λ h. left_of reader (octets_of h)) (same.kept tells (file_name_of reader))
+
+-- the frames that are left
+pub left_named : (folder : DepotState) (reader : AnyFrames) (name : List ℕ) → file_name_of reader ≡ name → left_by folder reader ≡ left_of reader (octets_of (folder.held name))
+left_named folder reader name is = ap (λ n. left_of reader (octets_of (folder.held n))) is

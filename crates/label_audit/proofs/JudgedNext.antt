@@ -1,0 +1,36 @@
+-- One packet more, by what was read of it.
+use Rattle.std.proofs.Common.{◌≡◌, ◌≢◌, ℕ, ◌+◌, ◌%◌, Bool, true, false, List, ◌∷◌, drop, Some, subst, max}
+use Rattle.std.specs.Prelude.{All, slice_get, if◌then◌else◌}
+use Rattle.address_text.specs.Name.{IsNameText}
+use Rattle.flow_lines.specs.declared.flow.FlowLine.{FlowLine}
+use Rattle.label_commands.specs.declared.script.Script.{Script}
+use Rattle.label_commands.specs.Script.{before}
+use Rattle.packet_walk.specs.declared.packet.PacketIn.{PacketIn}
+use Rattle.packet_walk.specs.Stepping.{TablesAt}
+use Rattle.call_report.specs.Report.{Folder}
+use Rattle.flow_access.specs.Valid.{plan_of}
+use Rattle.label_audit.specs.declared.flow.Counted.{Counted}
+use Rattle.label_audit.specs.declared.place.Place.{Place}
+use Rattle.label_audit.specs.declared.walker.PacketPlace.{PacketPlace}
+use Rattle.label_audit.specs.inside.Awaited.{BadBehind}
+use Rattle.label_audit.specs.inside.Reading.{IsJudgedTo}
+use Rattle.label_audit.specs.inside.Packet.{IsPacketRead}
+use Rattle.label_audit.specs.inside.Flow.{packets_awaited}
+use Rattle.label_audit.proofs.Nexts.{next_fails, next_stands}
+
+module _ (script : Script) (w : ℕ) (held : Folder) (flow most : ℕ) (line : FlowLine) (flows : List FlowLine) (count : Counted) (tables : List TablesAt) (packet : PacketIn) (packets : List PacketIn) (names : All IsNameText script.nodes) where
+  pub next_not : (place : PacketPlace) (t : TablesAt) (file : List ℕ) (old new new' : Place) (met' : ℕ) (denied result : Bool) → IsPacketRead t.plan place packet file old new t.version met' denied result → result ≡ false → slice_get tables (count.packets % w) ≡ Some t
+      → t.plan ≡ plan_of script → place.names.now ≡ script.nodes → place.flow.now ≡ line → place.flow_number ≡ flow + 1 → place.number ≡ count.packets + 1 → place.low ≡ max line.before t.version → place.high ≡ before script (flow + 1)
+      → (new ≡ old → new'.lines ≡ new.lines + 1) → BadBehind (packets_awaited script w held flow most line flows count tables (packet ∷ packets)) (drop old.at file) old.lines new'.lines
+  next_not place t file old new new' met' denied result read is at plan named of numbered number low high one =
+      let none = subst (IsPacketRead t.plan place packet file old new t.version met' denied) is read in
+      next_fails script w held flow most line flows count tables packet packets names place t at plan named of numbered number low high file old new new' none.0 none.1 (one none.0)
+
+  pub next_is : (place : PacketPlace) (t t' : TablesAt) (file : List ℕ) (old new : Place) (denied result : Bool) (tables' : List TablesAt) (count' : Counted) → IsPacketRead t.plan place packet file old new t.version t'.version denied result → result ≡ true
+      → slice_get tables (count.packets % w) ≡ Some t → t.plan ≡ plan_of script → place.names.now ≡ script.nodes → place.flow.now ≡ line → place.flow_number ≡ flow + 1 → place.number ≡ count.packets + 1 → place.low ≡ max line.before t.version
+      → place.high ≡ before script (flow + 1) → slice_get tables' (count.packets % w) ≡ Some t' → ((k : ℕ) → (count.packets % w) ≢ k → slice_get tables' k ≡ slice_get tables k)
+      → count'.packets ≡ count.packets + 1 → count'.passed ≡ count.passed + (if denied then 0 else 1) → count'.denied ≡ count.denied + (if denied then 1 else 0)
+      → IsJudgedTo (packets_awaited script w held flow most line flows count tables (packet ∷ packets)) (packets_awaited script w held flow most line flows count' tables' packets) file old new true
+  next_is place t t' file old new denied result tables' count' read is at plan named of numbered number low high at' others a b c =
+      let there = subst (IsPacketRead t.plan place packet file old new t.version t'.version denied) is read in
+      next_stands script w held flow most line flows count tables packet packets names place t at plan named of numbered number low high file old new t' denied tables' count' there at' others a b c

@@ -1,0 +1,5 @@
+pub mod Awaited
+pub mod Grammar
+pub mod Reading
+pub mod Packet
+pub mod Flow
