@@ -12,10 +12,12 @@ TOP = pathlib.Path(__file__).resolve().parent.parent
 PARTS = ["install.sh", "lib", "include", "completions", "docs", "examples", "VERSION", "LICENSE", "LICENSE-MIT", "LICENSE-APACHE", "README.md", "CHANGELOG.md", "CONTRIBUTING.md"]
 INSTALLED = ["bin/netlabel", "share/man/man1/netlabel.1", "share/bash-completion/completions/netlabel", "share/zsh/site-functions/_netlabel",
              "bin/netlabel_cover", "share/man/man1/netlabel_cover.1", "share/bash-completion/completions/netlabel_cover",
-             "share/zsh/site-functions/_netlabel_cover", "lib/libnetlabel_codec.a", "lib/pkgconfig/netlabel.pc", "include/netlabel.h",
+             "share/zsh/site-functions/_netlabel_cover",
+             "bin/netlabel_audit", "share/man/man1/netlabel_audit.1", "share/bash-completion/completions/netlabel_audit",
+             "share/zsh/site-functions/_netlabel_audit", "lib/libnetlabel_codec.a", "lib/pkgconfig/netlabel.pc", "include/netlabel.h",
              "share/man/man3/netlabel.3", "share/doc/netlabel/docs/guide.md", "share/doc/netlabel/LICENSE-MIT", "share/doc/netlabel/examples/site/site"]
 # The crates of the programs, with the names that these are called by.
-PROGRAMS = {"netlabel_cmd": "netlabel", "netlabel_cover": "netlabel_cover", "ripso_border": "ripso_border"}
+PROGRAMS = {"netlabel_cmd": "netlabel", "netlabel_cover": "netlabel_cover", "netlabel_audit": "netlabel_audit", "ripso_border": "ripso_border"}
 LIBRARY = "netlabel_codec"
 # What stands on the line, and the words that complete it, in a folder with the files below.
 FILES = ["site", "site.pcap", "with blank", "-dash", "sub/one.pcap"]
@@ -24,6 +26,7 @@ COMPLETED = {
     "netlabel run site ": "-w", "netlabel run site -w 1": "1 10 11 12 13 14 15 16", "netlabel judge ": "", "netlabel judge 16 s2:c0.c5 si": "site site.pcap",
     "netlabel make 7 ": "", "netlabel make 7 3 si": "site site.pcap", "netlabel agree si": "site site.pcap", "netlabel agree site ": "", "netlabel show sub/": "sub/one.pcap", "netlabel show w": "", "netlabel show site ": "", "netlabel frob s": "",
     "netlabel_cover si": "site site.pcap", "netlabel_cover sub/": "sub/one.pcap", "netlabel_cover -": "", "netlabel_cover site ": "",
+    "netlabel_audit si": "site site.pcap", "netlabel_audit site si": "site site.pcap", "netlabel_audit site site 1": "1 10 11 12 13 14 15 16", "netlabel_audit site site 1 ": "",
 }
 BASH = r"""
 . "$1"; complete -p "$3" >/dev/null || exit 9
@@ -134,7 +137,7 @@ def test_install(tree, made):
         tell(f"{name} runs", run(prefix / "usr/bin" / name).stdout == f"{crate}\n")
     tell("no other program is there", len(list((prefix / "usr/bin").iterdir())) == len(PROGRAMS))
     version = (TOP / "VERSION").read_text().strip()
-    for page in ("man1/netlabel.1", "man1/netlabel_cover.1", "man3/netlabel.3"):
+    for page in ("man1/netlabel.1", "man1/netlabel_cover.1", "man1/netlabel_audit.1", "man3/netlabel.3"):
         tell(f"{page} has the version", f'"netlabel {version}"' in (prefix / "usr/share/man" / page).read_text())
     tell("pkg-config's file has the prefix without DESTDIR", (prefix / "usr/lib/pkgconfig/netlabel.pc").read_text().startswith("prefix=/usr\n"))
     run(tree / "install.sh", "--uninstall", "/usr", env={**os.environ, "DESTDIR": str(prefix)})

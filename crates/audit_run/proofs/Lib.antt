@@ -1,0 +1,5 @@
+pub mod Reading
+pub mod Captures
+pub mod Among
+pub mod Found
+pub mod Ending
