@@ -1,5 +1,5 @@
 -- Reads of several names, one behind another.
-use Rattle.std.proofs.Common.{◌≡◌, ℕ, suc, List, ◌∷◌, Result, Ok, Err, refl, sym, subst, ◌∙◌, arith}
+use Rattle.std.proofs.Common.{◌≡◌, ℕ, suc, List, ◌∷◌, Result, Ok, Err, refl, sym, ap, subst, ◌∙◌, arith}
 use Rattle.std.specs.Prelude.{IsTrue, Contains, IsErrOf, OnOk}
 use Rattle.net_io.specs.declared.fault.IoFault.{IoFault}
 use Rattle.net_io.specs.declared.fault.IoFault.TheVariants as io
@@ -97,9 +97,9 @@ among_answer given answer names old new r = record {
 }
 
 -- of one name
-pub named_reads : {T : Type 0} (failed : IoFault) (result : Result T IoFault) (name : List ℕ) (names : List (List ℕ)) (old new : DepotState) → Contains names name
-    → OnlyReads failed result name old new → OnlyReadsAmong failed result names old new
-named_reads failed result name names old new among r = record {
+pub named_reads : {T : Type 0} (result : Result T IoFault) (name : List ℕ) (names : List (List ℕ)) (old new : DepotState) → Contains names name
+    → OnlyReads io.Failed result name old new → OnlyReadsAmong io.Failed result names old new
+named_reads result name names old new among r = record {
   told = r.told;
   kept = r.kept;
   reads = record { no_less = r.reads.no_less; ok = r.reads.ok; still = r.reads.still; cause = λ e. (name, among, r.reads.cause e) };
@@ -114,3 +114,19 @@ is_first name names = (0, omega arith, refl)
 
 pub is_behind : (first name : List ℕ) (names : List (List ℕ)) → Contains names name → Contains (first ∷ names) name
 is_behind first name names among = (suc among.0, omega (arith, among.1), among.2)
+
+-- the same stop of another call
+pub among_err : {T U : Type 0} (why : AuditStop) (names : List (List ℕ)) (old new : DepotState)
+    → OnlyReadsAmong {T = T} stop.Unread (Err why) names old new → OnlyReadsAmong {T = U} stop.Unread (Err why) names old new
+among_err {T} {U} why names old new r = record {
+  told = r.told;
+  kept = r.kept;
+  reads = record {
+    no_less = r.reads.no_less;
+    ok = tt;
+    still = λ other. r.reads.still (λ e. other (let same : why ≡ stop.Unread = cc in ap Err same));
+    cause = λ e. r.reads.cause (let same : why ≡ stop.Unread = cc in ap Err same);
+  };
+  creates = r.creates;
+  appends = r.appends;
+}

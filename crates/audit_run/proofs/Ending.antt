@@ -21,19 +21,19 @@ use Rattle.call_report.specs.Report.{Folder, Report, late_report}
 use Rattle.call_report.specs.Says.{Says}
 use Rattle.call_report.specs.Stages.{Stage, reading_stage}
 use Rattle.call_report.specs.Status.{status_number}
-use Rattle.call_report.proofs.Law.{Knows, IsDue, IsNumberOf, asks, makes_nothing, knows_reading, ends_printed, ends_printed_as, ends_unread, ends_unprinted}
+use Rattle.call_report.proofs.Law.{Knows, IsDue, IsNumberOf, IsOfForm, asks, makes_nothing, knows_reading, ends_printed, ends_printed_as, ends_unread, ends_unprinted}
 use Rattle.script_input.specs.Ends.{HasScript}
 use Rattle.script_input.specs.ScriptFile.{script_read, ByAnswer, ByScript, script_stop_status}
 use Rattle.script_input.proofs.Law.{ReadsScript, in_file}
 use Rattle.label_audit.specs.Reads.{OnlyReadsAmong}
-use Rattle.label_audit.specs.declared.verdict.Verdict.{Verdict}
-use Rattle.label_audit.specs.declared.verdict.Verdict.TheVariants.{Yes, NoLine}
+use Rattle.label_audit.specs.declared.audited.Audited.{Audited}
+use Rattle.label_audit.specs.declared.audited.Audited.TheVariants.{Yes, NoLine}
 use Rattle.audit_run.specs.declared.asked.Audit.{Audit}
 use Rattle.audit_run.specs.declared.stop.AuditStop.{AuditStop}
 use Rattle.audit_run.specs.declared.stop.AuditStop.TheVariants as stop
 use Rattle.audit_run.specs.Inputs.{InputsEnd, one_absent, ended_by, all_whole, inputs_end}
 use Rattle.audit_run.specs.Lines.{yes_line, no_line, report_limit_line}
-use Rattle.audit_run.specs.Outcome.{AuditOutcome, decided_by, nothing_due, answered_with, ByLines, all_good, first_bad, ByInputs, ByReport, IsAuditOutcome, report_limit}
+use Rattle.audit_run.specs.Outcome.{AuditOutcome, decided_by, nothing_due, answer_told, ByLines, all_good, first_bad, ByInputs, ByReport, IsAuditOutcome, report_limit}
 use Rattle.audit_run.specs.Says.{audit_says, AuditMay, AuditStages, audit_files, IsReadBehind}
 use Rattle.audit_run.specs.inside.Finding.{event_of, outcome_of, IsFound, verdict_line, verdict_number, number_as, IsToldStop, IsToldVerdict, IsTold}
 use Rattle.audit_run.proofs.Found.{held_same}
@@ -60,6 +60,11 @@ length_quiet false script workers held octets outcome is = inputs_quiet script w
 report_quiet : (script : Script) (workers : ℕ) (held : Folder) (report : Option (List ℕ)) (outcome : AuditOutcome) → ByReport script workers held report outcome → Quiet outcome
 report_quiet script workers held None outcome is = ap (λ (o : AuditOutcome). o.report.pauses) is
 report_quiet script workers held (Some octets) outcome is = length_quiet (nat_lt report_limit (length octets)) script workers held octets outcome is
+
+-- a number that is one of two is no other
+neither : (number a b n : ℕ) → (number ≡ a) ⊎ (number ≡ b) → n ≢ a → n ≢ b → number ≢ n
+neither number a b n (inl is) not_a not_b same = not_a (sym same ∙ is)
+neither number a b n (inr is) not_a not_b same = not_b (sym same ∙ is)
 
 module _ (asked : Audit) where
   answer_quiet : (held : Folder) (read : Result Script ScriptStop) (outcome : AuditOutcome)
@@ -125,7 +130,7 @@ module _ (asked : Audit) where
     abbrev in_hand : List ℕ → List Stage
     in_hand file = reading_stage asked.script ∷ reading_stage file ∷ []
 
-    module _ (found : Result Verdict AuditStop) (reads : OnlyReadsAmong stop.Unread found (audit_files asked script) mid.folder after.folder) where
+    module _ (found : Result Audited AuditStop) (reads : OnlyReadsAmong stop.Unread found (audit_files asked script) mid.folder after.folder) where
       told_mid : IsTrue before.folder.tells → IsTrue mid.folder.tells
       told_mid told = subst IsTrue (sym has.reads.told) told
 
@@ -176,7 +181,7 @@ module _ (asked : Audit) where
           outcome_of_script before.folder.held has.text (Ok script) outcome (has.holds told) has.is
           (subst (λ (held : Folder). ByReport script asked.workers held (held asked.report) outcome) same (due (told_mid told)))
 
-      form : (number : ℕ) (body : List ℕ) → number ≢ 1 → _
+      form : (number : ℕ) (body : List ℕ) → number ≢ 1 → IsOfForm (Some asked) number body
       form number body other = asks (Some asked) number body (λ e. absurd cc) other
 
       -- ---- the event that decides
@@ -187,7 +192,7 @@ module _ (asked : Audit) where
       by_event due status line number is may same printed =
           let outcome = decided_by (status_number due) line in
           let printed_here = subst (λ (s : SinkState). Printed [] line due status s after.stream) has.stream printed in
-          let other = λ (n : ℕ) (five : n ≢ 5) (seven : n ≢ 7). λ (e : status_number due ≡ n). elim number [ inl f ↦ absurd (five (sym e ∙ f)) | inr s ↦ absurd (seven (sym e ∙ s)) ] in
+          let other : (n : ℕ) → n ≢ 5 → n ≢ 7 → status_number due ≢ n = λ n. neither (status_number due) 5 7 n number in
           ends_printed audit_says (Some asked) before after (in_hand asked.report) (knows asked.report report_among printed_here.told) due [] line
           (form (status_number due) [] (other 1 (λ e. omega (arith, e)) (λ e. omega (arith, e))))
           (record {
@@ -206,12 +211,12 @@ module _ (asked : Audit) where
       -- ---- the lines decide
 
       by_lines : (status : Status) (number answer : ℕ) (line : List ℕ) → (number ≡ 0) ⊎ (number ≡ 8) → IsNumberOf Done status number answer
-          → (IsTrue mid.folder.tells → ByReport script asked.workers mid.folder.held (mid.folder.held asked.report) (answered_with number line))
+          → (IsTrue mid.folder.tells → ByReport script asked.workers mid.folder.held (mid.folder.held asked.report) (answer_told number line))
           → SameCounts mid.folder.reads after.folder.reads → Printed line [] Done status mid.stream after.stream → ended answer
       by_lines status number answer line which numbered is same printed =
-          let outcome = answered_with number line in
+          let outcome = answer_told number line in
           let printed_here = subst (λ (s : SinkState). Printed line [] Done status s after.stream) has.stream printed in
-          let other = λ (n : ℕ) (zero : n ≢ 0) (eight : n ≢ 8). λ (e : number ≡ n). elim which [ inl z ↦ absurd (zero (sym e ∙ z)) | inr g ↦ absurd (eight (sym e ∙ g)) ] in
+          let other : (n : ℕ) → n ≢ 0 → n ≢ 8 → number ≢ n = λ n. neither number 0 8 n which in
           ends_printed_as audit_says (Some asked) before after (in_hand asked.report) (knows asked.report report_among printed_here.told) number line []
           (form number line (other 1 (λ e. omega (arith, e)) (λ e. omega (arith, e))))
           (record {
@@ -258,17 +263,17 @@ module _ (asked : Audit) where
     numbers done OutOfMemory = record { event = λ e. absurd cc; write = λ e. absurd cc; memory = λ e. refl }
     numbers done Limit = record { event = λ e. absurd cc; write = λ e. absurd cc; memory = λ e. absurd cc }
 
-    abbrev Found : Result Verdict AuditStop → Type 0
+    abbrev Found : Result Audited AuditStop → Type 0
     Found found = IsTrue mid.folder.tells → IsFound asked script mid.folder.held found
 
-    by_verdict : (verdict : Verdict) (number : ℕ) → OnlyReadsAmong stop.Unread (Ok verdict) (audit_files asked script) mid.folder after.folder → Found (Ok verdict)
+    by_verdict : (verdict : Audited) (number : ℕ) → OnlyReadsAmong stop.Unread (Ok verdict) (audit_files asked script) mid.folder after.folder → Found (Ok verdict)
         → IsToldVerdict verdict mid.stream after.stream number → ended number
     by_verdict Yes number reads is told =
         subst ended (sym told.1) (by_lines (Ok Yes) reads told.0 0 (number_as 0 told.0) yes_line (inl refl) (numbers 0 told.0) is reads.reads.ok told.2)
     by_verdict (NoLine line) number reads is told =
         subst ended (sym told.1) (by_lines (Ok (NoLine line)) reads told.0 8 (number_as 8 told.0) (no_line line) (inr refl) (numbers 8 told.0) is reads.reads.ok told.2)
 
-    by_stop : (why : AuditStop) (status : Status) → OnlyReadsAmong stop.Unread {T = Verdict} (Err why) (audit_files asked script) mid.folder after.folder → Found (Err why)
+    by_stop : (why : AuditStop) (status : Status) → OnlyReadsAmong {T = Audited} stop.Unread (Err why) (audit_files asked script) mid.folder after.folder → Found (Err why)
         → ((event : Event) → event_of why ≡ Some event → AuditMay (Ok script) event.status) → IsToldStop why mid.stream after.stream status → ended (status_number status)
     by_stop stop.LongReport status reads is may told =
         by_event (Err stop.LongReport) reads Limit status report_limit_line (inr refl) (λ tells. is tells _ refl) (may _ refl) (reads.reads.still (λ e. absurd cc)) told
@@ -282,7 +287,7 @@ module _ (asked : Audit) where
     by_stop stop.OutOfMemory status reads is may told =
         by_memory (Err stop.OutOfMemory) reads status told.0 (reads.reads.still (λ e. absurd cc)) told.1
 
-    pub ends_told : (found : Result Verdict AuditStop) (number : ℕ) → OnlyReadsAmong stop.Unread found (audit_files asked script) mid.folder after.folder → Found found
+    pub ends_told : (found : Result Audited AuditStop) (number : ℕ) → OnlyReadsAmong stop.Unread found (audit_files asked script) mid.folder after.folder → Found found
         → IfErr found (λ why. (event : Event) → event_of why ≡ Some event → AuditMay (Ok script) event.status) → IsTold found mid.stream after.stream number → ended number
     ends_told (Ok verdict) number reads is may told = by_verdict verdict number reads is told
     ends_told (Err why) number reads is may told = subst ended (sym told.1) (by_stop why told.0 reads is may told.2)

@@ -1,16 +1,18 @@
 -- What is found of a report, by the tests that come one behind another.
 use Rattle.std.proofs.Common.{◌≡◌, ◌⊎◌, ◌≤◌, ◌<◌, ℕ, Bool, true, false, nat_lt, List, [], ◌∷◌, length, Option, Some, None, Result, Ok, Err, refl, sym, ap, subst, ◌∙◌, inl, inr, arith}
 use Rattle.std.specs.Prelude.{IsTrue, IsSome, MatchBool, unwrap_or}
-use Rattle.std.proofs.lemmas.Bool.{lt-ltb, le-ltb}
+use Rattle.std.proofs.lemmas.Bool.{cases_lt, lt-ltb}
 use Rattle.net_io.specs.Depot.{octets_of, SameHeld}
 use Rattle.net_io.specs.declared.fault.IoFault.{IoFault}
 use Rattle.net_io.specs.declared.fault.IoFault.TheVariants as io
+use Rattle.flow_lines.specs.declared.flow.FlowLine.{FlowLine}
 use Rattle.label_commands.specs.declared.script.Script.{Script}
 use Rattle.call_report.specs.Event.{Event, packets_limit}
 use Rattle.call_report.specs.Report.{Folder}
-use Rattle.label_audit.specs.Verdict.{IsVerdict}
-use Rattle.label_audit.specs.declared.verdict.Verdict.{Verdict}
-use Rattle.label_audit.specs.declared.verdict.Verdict.TheVariants.{Yes, NoLine}
+use Rattle.script_run.specs.Runs.{FlowsStatus}
+use Rattle.label_audit.specs.Audited.{IsAudited}
+use Rattle.label_audit.specs.declared.audited.Audited.{Audited}
+use Rattle.label_audit.specs.declared.audited.Audited.TheVariants.{Yes, NoLine}
 use Rattle.audit_run.specs.declared.asked.Audit.{Audit}
 use Rattle.audit_run.specs.declared.stop.AuditStop.{AuditStop}
 use Rattle.audit_run.specs.declared.stop.AuditStop.TheVariants as stop
@@ -19,6 +21,7 @@ use Rattle.audit_run.specs.Lines.{report_limit_line}
 use Rattle.audit_run.specs.Outcome.{AuditOutcome, decided_by, ByLines, all_good, first_bad, ByInputs, ByReport, report_limit}
 use Rattle.audit_run.specs.Says.{AuditMay}
 use Rattle.audit_run.specs.inside.Finding.{event_of, stop_of_fault, outcome_of, IsFound}
+use Rattle.audit_run.proofs.Law.{whole_captures_end_no_run}
 
 -- each name holds what it held
 pub held_same : (old new : Folder) → SameHeld old new → new ≡ old
@@ -75,12 +78,12 @@ module _ (asked : Audit) (script : Script) (held : Folder) where
       pub is_ended : (event : Event) → inputs_end held 1 packets_limit script.flows ≡ ended_by event → Due (decided_by event.status event.line)
       is_ended event is = behind_length (ended_by event) (decided_by event.status event.line) is refl
 
-      by_verdict : (verdict : Verdict) → IsVerdict script asked.workers held octets verdict → ByLines script asked.workers held octets (outcome_of verdict)
+      by_verdict : (verdict : Audited) → IsAudited script asked.workers held octets verdict → ByLines script asked.workers held octets (outcome_of verdict)
       by_verdict Yes is = all_good is
       by_verdict (NoLine line) is = first_bad line is
 
       -- all captures are whole, and the lines decide
-      pub is_judged : inputs_end held 1 packets_limit script.flows ≡ all_whole → (verdict : Verdict) → IsVerdict script asked.workers held octets verdict → Due (outcome_of verdict)
+      pub is_judged : inputs_end held 1 packets_limit script.flows ≡ all_whole → (verdict : Audited) → IsAudited script asked.workers held octets verdict → Due (outcome_of verdict)
       is_judged whole verdict is = behind_length all_whole (outcome_of verdict) whole (by_verdict verdict is)
 
 status_is : (event : Event) (number : ℕ) (line : List ℕ) → Some (record { status = number; line = line }) ≡ Some event → event.status ≡ number
@@ -96,3 +99,33 @@ capture_may script (stop.Broken flow fault) some event told = inr (inr (inr (som
 capture_may script stop.TooMany some event told = inr (inl (status_is event 7 _ told))
 capture_may script stop.Unread some event told = absurd (let no : None ≡ Some event = told in cc)
 capture_may script stop.OutOfMemory some event told = absurd (let no : None ≡ Some event = told in cc)
+
+-- ---- test by test: a folder is read, which holds what it held
+
+module _ (asked : Audit) (script : Script) (start : Folder) (name : List ℕ) (named : name ≡ asked.report) (present : IsSome (start name)) (longer : Bool)
+    (is : longer ≡ nat_lt 268435456 (length (octets_of (start name)))) (no : longer ≡ false) where
+  here : IsSome (start asked.report)
+  here = subst (λ (n : List ℕ). IsSome (start n)) named present
+
+  short : false ≡ nat_lt 268435456 (length (octets_of (start asked.report)))
+  short = sym no ∙ is ∙ ap (λ (n : List ℕ). nat_lt 268435456 (length (octets_of (start n)))) named
+
+  -- a capture isn't whole
+  pub inputs_decide : (mid : Folder) → SameHeld start mid → (event : Event) → inputs_end mid 1 packets_limit script.flows ≡ ended_by event
+      → ByReport script asked.workers start (start asked.report) (decided_by event.status event.line)
+  inputs_decide mid same event ended =
+      is_ended asked script start here short event (ap (λ (held : Folder). inputs_end held 1 packets_limit script.flows) (sym (held_same start mid same)) ∙ ended)
+
+  -- all are, and the lines decide
+  pub lines_decide : (mid late : Folder) → SameHeld start mid → SameHeld mid late → inputs_end mid 1 packets_limit script.flows ≡ all_whole
+      → (verdict : Audited) → IsAudited script asked.workers late (octets_of (late name)) verdict → ByReport script asked.workers start (start asked.report) (outcome_of verdict)
+  lines_decide mid late same still whole verdict judged =
+      let back : late ≡ start = held_same mid late still ∙ held_same start mid same in
+      let now = subst (λ (n : List ℕ). IsAudited script asked.workers start (octets_of (start n)) verdict) named
+      (subst (λ (held : Folder). IsAudited script asked.workers held (octets_of (held name)) verdict) back judged) in
+      is_judged asked script start here short (ap (λ (held : Folder). inputs_end held 1 packets_limit script.flows) (sym (held_same start mid same)) ∙ whole) verdict now
+
+-- what the judging of lines asks for
+pub flows_are_whole : (flows : List FlowLine) (mid late : Folder) → SameHeld mid late → inputs_end mid 1 packets_limit flows ≡ all_whole → FlowsStatus late 1 packets_limit flows 0
+flows_are_whole flows mid late same whole =
+    subst (λ (held : Folder). FlowsStatus held 1 packets_limit flows 0) (sym (held_same mid late same)) (whole_captures_end_no_run mid 1 packets_limit flows whole)

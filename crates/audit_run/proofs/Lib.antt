@@ -3,3 +3,4 @@ pub mod Captures
 pub mod Among
 pub mod Found
 pub mod Ending
+pub mod Law

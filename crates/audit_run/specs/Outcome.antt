@@ -23,13 +23,13 @@ abbrev pub decided_by : ℕ → List ℕ → AuditOutcome
 decided_by status line = record { report = late_report [] line; status = Some status }
 
 -- the report is answered
-abbrev pub answered_with : ℕ → List ℕ → AuditOutcome
-answered_with status line = record { report = late_report line []; status = Some status }
+abbrev pub answer_told : ℕ → List ℕ → AuditOutcome
+answer_told status line = record { report = late_report line []; status = Some status }
 
 -- by the report's lines: all of them are those of a whole run, or this is the first that isn't good
 pub data ByLines (script : Script) (workers : ℕ) (held : Folder) (octets : List ℕ) : AuditOutcome → Type 0 where
-  all_good : IsReport script workers held octets → ByLines script workers held octets (answered_with 0 yes_line)
-  first_bad : (line : ℕ) → IsFirstBad script workers held octets line → ByLines script workers held octets (answered_with 8 (no_line line))
+  all_good : IsReport script workers held octets → ByLines script workers held octets (answer_told 0 yes_line)
+  first_bad : (line : ℕ) → IsFirstBad script workers held octets line → ByLines script workers held octets (answer_told 8 (no_line line))
 
 -- each flow's capture is read to its end first
 abbrev pub ByInputs : Script → ℕ → Folder → List ℕ → InputsEnd → AuditOutcome → Type 0

@@ -10,7 +10,7 @@ ghost use Rattle.audit_run.specs.inside.Finding.{IsFound, event_of};
 use crate::asked::Audit;
 use crate::inputs::read_inputs;
 use crate::stop::AuditStop;
-use label_audit::{Verdict, judge_report};
+use label_audit::{Audited, judge_report};
 use label_commands::Script;
 use net_io::Depot;
 use report_file::ReportFile;
@@ -25,7 +25,7 @@ pub(crate) fn find_verdict<D: Depot>(
     asked: &Audit<'_>,
     script: &Script,
     depot: &mut D,
-) -> Result<Verdict, AuditStop>
+) -> Result<Audited, AuditStop>
     requires workers { (0 < asked.now.workers) × (asked.now.workers ≤ 16) }
     requires sound { (own : List ℕ) × IsSoundScript own script.now }
     ensures found { IsTrue (D.state depot.old).tells

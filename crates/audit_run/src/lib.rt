@@ -7,6 +7,7 @@
 mod asked;
 mod find;
 mod inputs;
+pub mod laws;
 mod lines;
 mod stop;
 mod tell;

@@ -4,17 +4,17 @@ ghost use Rattle.std.specs.Prelude.{◌≡◌, ◌++◌, OnOk};
 ghost use Rattle.audit_run.specs.Lines.{yes_line, no_line, report_limit_line, audit_usage_line};
 ghost use Rattle.audit_run.specs.inside.Finding.{verdict_line};
 
-use label_audit::Verdict;
+use label_audit::Audited;
 use mls_label::OutOfMemory;
 use octet_grammar::write_decimal;
 
 /// Appends what a report comes to; some of it where memory runs out.
-pub(crate) fn write_verdict(verdict: Verdict, line: &mut Vec<u8>) -> Result<(), OutOfMemory>
+pub(crate) fn write_verdict(verdict: Audited, line: &mut Vec<u8>) -> Result<(), OutOfMemory>
     ensures { OnOk result (line.new.items ≡ line.old.items ++ verdict_line verdict) }
 {
     match verdict {
-        Verdict::Yes => Ok(line.extend_from_slice(yes())?),
-        Verdict::NoLine { line: number } => append_no(number, line),
+        Audited::Yes => Ok(line.extend_from_slice(yes())?),
+        Audited::NoLine { line: number } => append_no(number, line),
     }
 }
 

@@ -3,13 +3,13 @@
 ghost use Rattle.std.specs.Prelude.{◌≡◌, []};
 ghost use Rattle.call_report.specs.Lines.Capture.{capture_line};
 ghost use Rattle.call_report.specs.Printing.{Printed};
-ghost use Rattle.audit_run.specs.inside.Finding.{IsTold, IsToldVerdict, IsToldStop, number_as};
+ghost use Rattle.audit_run.specs.inside.Finding.{IsTold, IsToldVerdict, IsToldStop, number_as, verdict_line};
 
 use crate::lines::{report_limit, write_verdict};
 use crate::stop::AuditStop;
 use call_report::{Report, Status, packets_limit, write_capture};
 use capture_reader::FileFault;
-use label_audit::Verdict;
+use label_audit::Audited;
 use mls_label::OutOfMemory;
 use net_io::Sink;
 use std::alloc::Global;
@@ -18,7 +18,7 @@ use std::alloc::Global;
 const NOT_GOOD: u8 = 8;
 
 /// Prints what was found, and answers the status with which the call ends.
-pub(crate) fn tell<S: Sink>(alloc: Global, found: Result<Verdict, AuditStop>, out: &mut S) -> u8
+pub(crate) fn tell<S: Sink>(alloc: Global, found: Result<Audited, AuditStop>, out: &mut S) -> u8
     ensures { IsTold found (S.state out.old) (S.state out.new) result }
 {
     match found {
@@ -28,18 +28,18 @@ pub(crate) fn tell<S: Sink>(alloc: Global, found: Result<Verdict, AuditStop>, ou
 }
 
 /// Prints what the report's lines come to.
-fn tell_verdict<S: Sink>(alloc: Global, verdict: Verdict, out: &mut S) -> u8
+fn tell_verdict<S: Sink>(alloc: Global, verdict: Audited, out: &mut S) -> u8
     ensures { IsToldVerdict verdict (S.state out.old) (S.state out.new) result }
 {
     let done = match verdict {
-        Verdict::Yes => 0,
-        Verdict::NoLine { line: _ } => NOT_GOOD,
+        Audited::Yes => 0,
+        Audited::NoLine { line: _ } => NOT_GOOD,
     };
     number_as(done, print_verdict(alloc, verdict, out))
 }
 
 /// The same, with the status of a call that answers its question.
-fn print_verdict<S: Sink>(alloc: Global, verdict: Verdict, out: &mut S) -> Status
+fn print_verdict<S: Sink>(alloc: Global, verdict: Audited, out: &mut S) -> Status
     ensures { Printed (verdict_line verdict) [] Status.Done result
         (S.state out.old) (S.state out.new) }
 {

@@ -45,7 +45,7 @@ fn carry_out<D: Depot, S: Sink>(
     depot: &mut D,
     out: &mut S,
 ) -> u8
-    requires { IfSome asked.entry (λ a. (0 < a.workers) × (a.workers ≤ 16)) }
+    requires { IfSome asked (λ a. (0 < a.workers) × (a.workers ≤ 16)) }
     ensures { CallEnds audit_says asked.entry
         (record { folder = D.state depot.old; stream = S.state out.old })
         (record { folder = D.state depot.new; stream = S.state out.new }) result [] }

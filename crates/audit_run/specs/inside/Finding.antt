@@ -16,13 +16,13 @@ use Rattle.capture_reader.specs.declared.fault.FileFault.TheVariants.{Pcap, Pcap
 use Rattle.net_io.specs.declared.fault.IoFault.{IoFault}
 use Rattle.net_io.specs.declared.fault.IoFault.TheVariants as io
 use Rattle.flow_run.specs.Input.{flow_input}
-use Rattle.label_audit.specs.declared.verdict.Verdict.{Verdict}
-use Rattle.label_audit.specs.declared.verdict.Verdict.TheVariants.{Yes, NoLine}
+use Rattle.label_audit.specs.declared.audited.Audited.{Audited}
+use Rattle.label_audit.specs.declared.audited.Audited.TheVariants.{Yes, NoLine}
 use Rattle.audit_run.specs.declared.asked.Audit.{Audit}
 use Rattle.audit_run.specs.declared.stop.AuditStop.{AuditStop}
 use Rattle.audit_run.specs.declared.stop.AuditStop.TheVariants as stop
 use Rattle.audit_run.specs.Lines.{yes_line, no_line, report_limit_line}
-use Rattle.audit_run.specs.Outcome.{AuditOutcome, answered_with, decided_by, ByReport}
+use Rattle.audit_run.specs.Outcome.{AuditOutcome, answer_told, decided_by, ByReport}
 use Rattle.audit_run.specs.Says.{AuditMay}
 
 -- ---- why a report isn't judged
@@ -61,22 +61,22 @@ IsReadTo number most held (Err why) = (event : Event) → event_of why ≡ Some 
 
 -- ---- what is found
 
-abbrev pub outcome_of : Verdict → AuditOutcome
-outcome_of Yes = answered_with 0 yes_line
-outcome_of (NoLine line) = answered_with 8 (no_line line)
+abbrev pub outcome_of : Audited → AuditOutcome
+outcome_of Yes = answer_told 0 yes_line
+outcome_of (NoLine line) = answer_told 8 (no_line line)
 
 -- the outcome that is due behind the script, where nothing was refused
-abbrev pub IsFound : Audit → Script → Folder → Result Verdict AuditStop → Type 0
+abbrev pub IsFound : Audit → Script → Folder → Result Audited AuditStop → Type 0
 IsFound asked script held (Ok verdict) = ByReport script asked.workers held (held asked.report) (outcome_of verdict)
 IsFound asked script held (Err why) = (event : Event) → event_of why ≡ Some event → ByReport script asked.workers held (held asked.report) (decided_by event.status event.line)
 
 -- ---- what tells it
 
-abbrev pub verdict_line : Verdict → List ℕ
+abbrev pub verdict_line : Audited → List ℕ
 verdict_line Yes = yes_line
 verdict_line (NoLine line) = no_line line
 
-abbrev pub verdict_number : Verdict → ℕ
+abbrev pub verdict_number : Audited → ℕ
 verdict_number Yes = 0
 verdict_number (NoLine line) = 8
 
@@ -93,9 +93,9 @@ IsToldStop stop.TooMany before after status = Printed [] packets_limit_line Limi
 IsToldStop stop.Unread before after status = (status ≡ ReadFault) × (after ≡ before)
 IsToldStop stop.OutOfMemory before after status = (status ≡ OutOfMemory) × (after ≡ before)
 
-abbrev pub IsToldVerdict : Verdict → SinkState → SinkState → ℕ → Type 0
+abbrev pub IsToldVerdict : Audited → SinkState → SinkState → ℕ → Type 0
 IsToldVerdict verdict before after number = (status : Status) × (number ≡ number_as (verdict_number verdict) status) × Printed (verdict_line verdict) [] Done status before after
 
-abbrev pub IsTold : Result Verdict AuditStop → SinkState → SinkState → ℕ → Type 0
+abbrev pub IsTold : Result Audited AuditStop → SinkState → SinkState → ℕ → Type 0
 IsTold (Ok verdict) before after number = IsToldVerdict verdict before after number
 IsTold (Err why) before after number = (status : Status) × (number ≡ status_number status) × IsToldStop why before after status

@@ -1,4 +1,4 @@
-use Rattle.std.proofs.Common.{◌≡◌, ◌+◌, List, ℕ, Ok, length, map}
+use Rattle.std.proofs.Common.{◌≡◌, ◌≤◌, ◌+◌, List, ℕ, Ok, length, map}
 use Rattle.std.specs.Prelude.{IsTrue, Contains}
 use Rattle.flow_lines.specs.declared.flow.FlowLine.{FlowLine}
 use Rattle.call_report.specs.Event.{packets_limit}
@@ -17,7 +17,8 @@ invariant-loop-rest g l =
     let names = map (λ (flow : FlowLine). flow.input) l.fn.flows in
     record {
       number : l.number + length l.rest ≡ 1 + length l.fn.flows;
+      within : length l.rest ≤ length l.fn.flows;
       among : (name : List ℕ) → Contains (map (λ (flow : FlowLine). flow.input) l.rest) name → Contains names name;
       end : IsTrue start.tells → inputs_end start.held 1 packets_limit l.fn.flows ≡ inputs_end start.held l.number l.left l.rest;
-      frame : OnlyReadsAmong Unread (Ok tt) names start (g.D.Depot.state l.depot);
+      frame : OnlyReadsAmong {T = Unit {0}} Unread (Ok tt) names start (g.D.Depot.state l.depot);
     }
