@@ -81,18 +81,27 @@ among_as given result names old new r other = record {
 pub among_fault : {T U : Type 0} (fault : IoFault) (names : List (List ℕ)) (old new : DepotState)
     → OnlyReadsAmong {T = T} io.Failed (Err fault) names old new → OnlyReadsAmong {T = U} stop.Unread (Err (stop_of_fault fault)) names old new
 among_fault {T} {U} io.Failed names old new r = record {
-  told = r.told; kept = r.kept; creates = r.creates; appends = r.appends;
+  told = r.told;
+  kept = r.kept;
+  creates = r.creates;
+  appends = r.appends;
   reads = record { no_less = r.reads.no_less; ok = tt; still = λ other. absurd (other refl); cause = λ e. r.reads.cause refl };
 }
 among_fault {T} {U} io.OutOfMemory names old new r = record {
-  told = r.told; kept = r.kept; creates = r.creates; appends = r.appends;
+  told = r.told;
+  kept = r.kept;
+  creates = r.creates;
+  appends = r.appends;
   reads = record { no_less = r.reads.no_less; ok = tt; still = λ _. r.reads.still (λ e. absurd cc); cause = λ e. absurd cc };
 }
 
 pub among_answer : {T U : Type 0} (given : T) (answer : U) (names : List (List ℕ)) (old new : DepotState)
     → OnlyReadsAmong io.Failed (Ok given) names old new → OnlyReadsAmong stop.Unread (Ok answer) names old new
 among_answer given answer names old new r = record {
-  told = r.told; kept = r.kept; creates = r.creates; appends = r.appends;
+  told = r.told;
+  kept = r.kept;
+  creates = r.creates;
+  appends = r.appends;
   reads = record { no_less = r.reads.no_less; ok = r.reads.ok; still = λ _. r.reads.ok; cause = λ e. absurd cc };
 }
 

@@ -6,7 +6,7 @@ use Rattle.capture_reader.specs.declared.format.CaptureFormat.{CaptureFormat}
 use Rattle.call_report.specs.Event.{Event}
 use Rattle.call_report.specs.Report.{Folder}
 use Rattle.flow_run.specs.Input.{FlowInput, flow_input}
-use Rattle.audit_run.specs.Inputs.{InputsEnd, one_absent, ended_by, all_whole, end_or, inputs_end}
+use Rattle.audit_run.specs.Inputs.{InputsEnd, ended_by, end_or, inputs_end}
 use Rattle.audit_run.specs.inside.Finding.{IsReadWhole}
 use Rattle.audit_run.proofs.Among.{is_first, is_behind}
 

@@ -1,13 +1,12 @@
 -- How an audit ends.
-use Rattle.std.proofs.Common.{◌≡◌, ◌≢◌, ◌⊎◌, ◌<◌, ℕ, Bool, true, false, List, [], ◌∷◌, length, map, Option, Some, None, Result, Ok, Err, refl, sym, ap, subst, ◌∙◌, arith, inl, inr}
+use Rattle.std.proofs.Common.{◌≡◌, ◌≢◌, ◌⊎◌, ℕ, Bool, true, false, List, [], ◌∷◌, length, Option, Some, None, Result, Ok, Err, refl, sym, ap, subst, ◌∙◌, arith, inl, inr}
 use Rattle.std.specs.Prelude.{IsTrue, IfErr, MatchBool, Contains, nat_lt}
 use Rattle.std.proofs.lemmas.List.{append-nil}
-use Rattle.net_io.specs.Depot.{DepotState, SameHeld}
+use Rattle.net_io.specs.Depot.{SameHeld}
 use Rattle.net_io.specs.Faults.{Rose, SameCounts}
 use Rattle.net_io.specs.Sink.{SinkState}
 use Rattle.label_commands.specs.declared.script.Script.{Script}
 use Rattle.label_commands.specs.declared.stop.ScriptStop.{ScriptStop}
-use Rattle.capture_reader.specs.declared.fault.FileFault.{FileFault}
 use Rattle.call_report.specs.declared.status.Status.{Status}
 use Rattle.call_report.specs.declared.status.Status.TheVariants.{Done, NoForm, WrongScript, ReadFault, WriteFault, WrongCapture, OutOfMemory, Limit}
 use Rattle.call_report.specs.CallEnds.{CallEnds, HasBegun}
@@ -21,7 +20,7 @@ use Rattle.call_report.specs.Report.{Folder, Report, late_report}
 use Rattle.call_report.specs.Says.{Says}
 use Rattle.call_report.specs.Stages.{Stage, reading_stage}
 use Rattle.call_report.specs.Status.{status_number}
-use Rattle.call_report.proofs.Law.{Knows, IsDue, IsNumberOf, IsOfForm, asks, makes_nothing, knows_reading, ends_printed, ends_printed_as, ends_unread, ends_unprinted}
+use Rattle.call_report.proofs.Law.{Knows, IsNumberOf, IsOfForm, asks, makes_nothing, knows_reading, ends_printed, ends_printed_as, ends_unread, ends_unprinted}
 use Rattle.script_input.specs.Ends.{HasScript}
 use Rattle.script_input.specs.ScriptFile.{script_read, ByAnswer, ByScript, script_stop_status}
 use Rattle.script_input.proofs.Law.{ReadsScript, in_file}
@@ -34,8 +33,8 @@ use Rattle.audit_run.specs.declared.stop.AuditStop.TheVariants as stop
 use Rattle.audit_run.specs.Inputs.{InputsEnd, one_absent, ended_by, all_whole, inputs_end}
 use Rattle.audit_run.specs.Lines.{yes_line, no_line, report_limit_line}
 use Rattle.audit_run.specs.Outcome.{AuditOutcome, decided_by, nothing_due, answer_told, ByLines, all_good, first_bad, ByInputs, ByReport, IsAuditOutcome, report_limit}
-use Rattle.audit_run.specs.Says.{audit_says, AuditMay, AuditStages, audit_files, IsReadBehind}
-use Rattle.audit_run.specs.inside.Finding.{event_of, outcome_of, IsFound, verdict_line, verdict_number, number_as, IsToldStop, IsToldVerdict, IsTold}
+use Rattle.audit_run.specs.Says.{audit_says, AuditMay, audit_files}
+use Rattle.audit_run.specs.inside.Finding.{event_of, IsFound, number_as, IsToldStop, IsToldVerdict, IsTold}
 use Rattle.audit_run.proofs.Found.{held_same}
 
 -- ---- nothing may stand in front of what is printed
@@ -150,8 +149,15 @@ module _ (asked : Audit) where
       begun file among = record {
         content = content_of before.folder.tells before.folder.held has.text;
         told = content_told before.folder.tells before.folder.held has.text;
-        are = (refl, inr (file, in_file asked.script (content_of before.folder.tells before.folder.held has.text asked.script) has.text (Ok script)
-            (content_holds before.folder.tells before.folder.held has.text asked.script has.holds) has.is ⊥ (λ why. ⊥) (λ s. Contains (audit_files asked s) file) among, refl));
+        are = (
+          refl,
+          inr (
+            file,
+            in_file asked.script (content_of before.folder.tells before.folder.held has.text asked.script) has.text (Ok script)
+                (content_holds before.folder.tells before.folder.held has.text asked.script has.holds) has.is ⊥ (λ why. ⊥) (λ s. Contains (audit_files asked s) file) among,
+            refl,
+          ),
+        );
       }
 
       knows : (file : List ℕ) → Contains (audit_files asked script) file → after.stream.tells ≡ before.stream.tells → Knows says before after (in_hand file)

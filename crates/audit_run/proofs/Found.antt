@@ -1,6 +1,6 @@
 -- What is found of a report, by the tests that come one behind another.
-use Rattle.std.proofs.Common.{◌≡◌, ◌⊎◌, ◌≤◌, ◌<◌, ℕ, Bool, true, false, nat_lt, List, [], ◌∷◌, length, Option, Some, None, Result, Ok, Err, refl, sym, ap, subst, ◌∙◌, inl, inr, arith}
-use Rattle.std.specs.Prelude.{IsTrue, IsSome, MatchBool, unwrap_or}
+use Rattle.std.proofs.Common.{◌≡◌, ◌≤◌, ◌<◌, ℕ, Bool, true, false, nat_lt, List, length, Option, Some, None, Ok, refl, sym, ap, subst, ◌∙◌, inl, inr}
+use Rattle.std.specs.Prelude.{IsSome, MatchBool}
 use Rattle.std.proofs.lemmas.Bool.{cases_lt, lt-ltb}
 use Rattle.net_io.specs.Depot.{octets_of, SameHeld}
 use Rattle.net_io.specs.declared.fault.IoFault.{IoFault}
@@ -18,9 +18,9 @@ use Rattle.audit_run.specs.declared.stop.AuditStop.{AuditStop}
 use Rattle.audit_run.specs.declared.stop.AuditStop.TheVariants as stop
 use Rattle.audit_run.specs.Inputs.{InputsEnd, ended_by, all_whole, inputs_end}
 use Rattle.audit_run.specs.Lines.{report_limit_line}
-use Rattle.audit_run.specs.Outcome.{AuditOutcome, decided_by, ByLines, all_good, first_bad, ByInputs, ByReport, report_limit}
+use Rattle.audit_run.specs.Outcome.{AuditOutcome, decided_by, ByLines, all_good, first_bad, ByInputs, ByReport}
 use Rattle.audit_run.specs.Says.{AuditMay}
-use Rattle.audit_run.specs.inside.Finding.{event_of, stop_of_fault, outcome_of, IsFound}
+use Rattle.audit_run.specs.inside.Finding.{event_of, stop_of_fault, outcome_of}
 use Rattle.audit_run.proofs.Law.{whole_captures_end_no_run}
 
 -- each name holds what it held

@@ -1,5 +1,5 @@
 -- How far a capture was read of which so many frames may be read, and how it ends.
-use Rattle.std.proofs.Common.{◌≡◌, ◌≢◌, ℕ, ◌+◌, ◌-◌, ◌≤◌, is_some, List, [], ◌∷◌, ◌++◌, length, take, Option, Some, None, Result, Ok, Err, refl, sym, ap, subst, ◌∙◌, append_assoc, length-append, arith}
+use Rattle.std.proofs.Common.{◌≡◌, ◌≢◌, ℕ, ◌+◌, ◌-◌, ◌≤◌, is_some, List, [], ◌∷◌, ◌++◌, length, Option, Some, None, Ok, Err, refl, sym, ap, subst, ◌∙◌, append_assoc, length-append, arith}
 use Rattle.std.specs.Prelude.{IsTrue}
 use Rattle.std.specs.Option.{option_map}
 use Rattle.std.proofs.lemmas.Bool.{lt-ltb, le-ltb}
@@ -20,7 +20,6 @@ use Rattle.call_report.specs.Event.{Event, records_event}
 use Rattle.call_report.specs.Lines.Capture.{capture_line}
 use Rattle.call_report.specs.Lines.Fixed.{packets_limit_line}
 use Rattle.flow_run.specs.Input.{FlowInput, flow_input, input_by}
-use Rattle.audit_run.specs.declared.stop.AuditStop.{AuditStop}
 use Rattle.audit_run.specs.declared.stop.AuditStop.TheVariants as stop
 use Rattle.audit_run.specs.inside.Finding.{stop_of_read, event_of, IsReadWhole}
 
@@ -139,18 +138,30 @@ reads_further name reader a b c head first named next = record {
 pub stops_as : {T U : Type 0} (number : ℕ) (why : ReadStop) (name : List ℕ) (old new : DepotState)
     → OnlyReads {T = T} read.ReadFault (Err why) name old new → OnlyReads {T = U} stop.Unread (Err (stop_of_read number why)) name old new
 stops_as {T} {U} number (read.Capture broken) name old new r = record {
-  told = r.told; kept = r.kept; creates = r.creates; appends = r.appends;
+  told = r.told;
+  kept = r.kept;
+  creates = r.creates;
+  appends = r.appends;
   reads = record { no_less = r.reads.no_less; ok = tt; still = λ _. r.reads.still (λ e. absurd cc); cause = λ e. absurd cc };
 }
 stops_as {T} {U} number (read.Ng broken) name old new r = record {
-  told = r.told; kept = r.kept; creates = r.creates; appends = r.appends;
+  told = r.told;
+  kept = r.kept;
+  creates = r.creates;
+  appends = r.appends;
   reads = record { no_less = r.reads.no_less; ok = tt; still = λ _. r.reads.still (λ e. absurd cc); cause = λ e. absurd cc };
 }
 stops_as {T} {U} number read.ReadFault name old new r = record {
-  told = r.told; kept = r.kept; creates = r.creates; appends = r.appends;
+  told = r.told;
+  kept = r.kept;
+  creates = r.creates;
+  appends = r.appends;
   reads = record { no_less = r.reads.no_less; ok = tt; still = λ other. absurd (other refl); cause = λ e. r.reads.cause refl };
 }
 stops_as {T} {U} number read.OutOfMemory name old new r = record {
-  told = r.told; kept = r.kept; creates = r.creates; appends = r.appends;
+  told = r.told;
+  kept = r.kept;
+  creates = r.creates;
+  appends = r.appends;
   reads = record { no_less = r.reads.no_less; ok = tt; still = λ _. r.reads.still (λ e. absurd cc); cause = λ e. absurd cc };
 }

@@ -1,7 +1,7 @@
 -- What an audit comes to, by what its files hold: the tests come in this order, and the first that fails decides.
 use Rattle.std.specs.Prelude.{◌≡◌, ℕ, nat_lt, List, [], length, Option, Some, None, MatchBool}
 use Rattle.label_commands.specs.declared.script.Script.{Script}
-use Rattle.call_report.specs.Event.{Event, packets_limit}
+use Rattle.call_report.specs.Event.{packets_limit}
 use Rattle.call_report.specs.Lines.Script.{script_stop_line}
 use Rattle.call_report.specs.Report.{Folder, Report, late_report}
 use Rattle.script_input.specs.ScriptFile.{ByScript, script_stop_status}

@@ -23,7 +23,6 @@ use Rattle.audit_run.specs.declared.stop.AuditStop.{AuditStop}
 use Rattle.audit_run.specs.declared.stop.AuditStop.TheVariants as stop
 use Rattle.audit_run.specs.Lines.{yes_line, no_line, report_limit_line}
 use Rattle.audit_run.specs.Outcome.{AuditOutcome, answer_told, decided_by, ByReport}
-use Rattle.audit_run.specs.Says.{AuditMay}
 
 -- ---- why a report isn't judged
 

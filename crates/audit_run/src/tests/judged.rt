@@ -65,21 +65,9 @@ const LATE_CHANGES: [Change; 9] = [
         "packet 2.1 denied 10 NoReceiver hop 1 node r versions 5",
         10,
     ),
-    (
-        "packet 2.1 delivered s1:c2 to 10.0.0.2 versions 4\n",
-        "",
-        9,
-    ),
-    (
-        "flow 3 one.pcap\n",
-        "",
-        12,
-    ),
-    (
-        "node r versions 5",
-        "node r versions 6",
-        13,
-    ),
+    ("packet 2.1 delivered s1:c2 to 10.0.0.2 versions 4\n", "", 9),
+    ("flow 3 one.pcap\n", "", 12),
+    ("node r versions 5", "node r versions 6", 13),
 ];
 
 /// Octets of lines and their ends.
@@ -127,18 +115,14 @@ fn is_judged(
 #[test]
 fn judges_the_flows_of_a_report(rt: HostRuntime) {
     for change in LATE_CHANGES {
-        assert!(rt;
-            is_judged(&rt, rt.alloc(), "s r 4", LATE, LATE_REPORT, change)
-        );
+        assert!(rt; is_judged(&rt, rt.alloc(), "s r 4", LATE, LATE_REPORT, change));
     }
 }
 
 #[test]
 fn judges_each_octet_of_a_report(rt: HostRuntime) {
     for change in OCTET_CHANGES {
-        assert!(rt;
-            is_judged(&rt, rt.alloc(), "s r 1", LATE, LATE_REPORT, change)
-        );
+        assert!(rt; is_judged(&rt, rt.alloc(), "s r 1", LATE, LATE_REPORT, change));
     }
 }
 
@@ -173,14 +157,10 @@ const NO_FLOWS: [(&str, u8, &str); 4] = [
 #[test]
 fn judges_reports_without_packets(rt: HostRuntime) {
     for change in EMPTY_CHANGES {
-        assert!(rt;
-            is_judged(&rt, rt.alloc(), "s r 16", EMPTY, EMPTY_REPORT, change)
-        );
+        assert!(rt; is_judged(&rt, rt.alloc(), "s r 16", EMPTY, EMPTY_REPORT, change));
     }
     for (report, status, text) in NO_FLOWS {
-        assert!(rt;
-            answers(&rt, rt.alloc(), "s r 2", "", report, status, text)
-        );
+        assert!(rt; answers(&rt, rt.alloc(), "s r 2", "", report, status, text));
     }
 }
 
@@ -196,18 +176,11 @@ fn exchanging(rt: &impl Abort, alloc: Global, capture: &str) -> String {
 }
 
 /// A report of it, with these lines of packets, and so many of them passed and denied.
-fn exchanged(
-    rt: &impl Abort,
-    alloc: Global,
-    capture: &str,
-    packets: &str,
-    counts: &str,
-) -> String {
+fn exchanged(rt: &impl Abort, alloc: Global, capture: &str, packets: &str, counts: &str) -> String {
     let (replies, _) = CROSSED.split_once("flow 1").expect(rt, "a flow");
     format!(in alloc;
         "{replies}flow 1 {capture}\n{packets}\nend 1 {counts}\ncommand 16 h done\ncommand 17 h done\ncommand 18 h done\ncommand 19 h done\ndone\n"
-    )
-    .expect(rt, "there is memory")
+    ).expect(rt, "there is memory")
 }
 
 /// The number of workers, the lines of packets, what stands in the flow's `end` line, and what is answered.
@@ -369,8 +342,6 @@ const SITE_CHANGES: [Change; 5] = [
 #[test]
 fn judges_captures_of_both_formats(rt: HostRuntime) {
     for change in SITE_CHANGES {
-        assert!(rt;
-            is_judged(&rt, rt.alloc(), "s r 3", SITE, SITE_REPORT, change)
-        );
+        assert!(rt; is_judged(&rt, rt.alloc(), "s r 3", SITE, SITE_REPORT, change));
     }
 }

@@ -7,20 +7,8 @@ const NODE: &str = "node r\nmap add default protocol:unlbl\n";
 
 /// Words that are no form.
 const NO_FORMS: [&str; 14] = [
-    "",
-    "s",
-    "s r",
-    "s r 1 1",
-    "s r 0",
-    "s r 17",
-    "s r 01",
-    "s r 1x",
-    "s r -1",
-    "s r one",
-    "s r ",
-    "-s r 1",
-    "s -r 1",
-    "s #r 1",
+    "", "s", "s r", "s r 1 1", "s r 0", "s r 17", "s r 01", "s r 1x", "s r -1", "s r one", "s r ",
+    "-s r 1", "s -r 1", "s #r 1",
 ];
 
 #[test]
@@ -36,7 +24,12 @@ fn tells_its_form(rt: HostRuntime) {
 /// Words, the script, the status and what is printed. There is a report, which isn't read.
 const SCRIPTS: [(&str, &str, u8, &str); 5] = [
     ("s r 1", "frob\n", 2, "script line 1 octet 0 Word\n"),
-    ("s r 1", "node r\nunlbl accept of\n", 2, "script line 2 octet 13 Value\n"),
+    (
+        "s r 1",
+        "node r\nunlbl accept of\n",
+        2,
+        "script line 2 octet 13 Value\n",
+    ),
     (
         "s r 16",
         "node r\nflow one.pcap one.pcap receive:r,eth0\n",
@@ -74,7 +67,12 @@ const CAPTURES: [(&str, &[&str], u8, &str); 12] = [
         5,
         "capture 2 octet 24 Trailer\n",
     ),
-    ("s r 1", &["cut.pcap", "absent"], 5, "capture 1 octet 150 Short\n"),
+    (
+        "s r 1",
+        &["cut.pcap", "absent"],
+        5,
+        "capture 1 octet 150 Short\n",
+    ),
     ("s r 1", &["absent", "cut.pcap"], 3, ""),
     ("s r 1", &["one.pcap", "absent"], 3, ""),
     ("s absent 1", &["cut.pcap"], 3, ""),
@@ -104,6 +102,7 @@ fn tells_what_a_capture_lacks(rt: HostRuntime) {
 
 /// A script, and the report of its run.
 const SCRIPT: &str = "node r\nmap add default protocol:unlbl\nflow one.pcap - receive:r,eth0\n";
+
 const REPORT: &str =
     "command 1 r done\nflow 1 one.pcap\npacket 1.1 denied 3 Unlabelled hop 1 node r versions 1\nend 1 packets 1 passed 0 denied 1\ndone\n";
 
@@ -124,7 +123,10 @@ fn tells_failed_writes(rt: HostRuntime) {
     for (write, script, report, status, text) in WRITES {
         let depot = folder(&rt, rt.alloc(), script, report, 0, 4096);
         let (got, printed) = told(&rt, rt.alloc(), "s r 1", depot, write);
-        assert!(rt; got == status && printed.as_slice() == text.as_bytes(), "{write} {text}");
+        assert!(rt;
+            got == status && printed.as_slice() == text.as_bytes(),
+            "{write} {text}"
+        );
     }
     let depot = folder(&rt, rt.alloc(), "", "", 0, 4096);
     let (status, printed) = told(&rt, rt.alloc(), "s r", depot, 1);

@@ -1,7 +1,6 @@
-use Rattle.std.proofs.Common.{◌≡◌, ℕ, List, Ok, sym, subst, ◌∙◌, arith}
+use Rattle.std.proofs.Common.{ℕ, List, sym, subst, ◌∙◌, arith}
 use Rattle.std.specs.Prelude.{IsTrue}
 use Rattle.capture_reader.specs.Reader.{left_of, IsTaken}
-use Rattle.audit_run.specs.declared.stop.AuditStop.TheVariants.{Unread}
 use Rattle.audit_run.proofs.Reading.{octets_now, amid_next, reads_further}
 use Rattle.audit_run.proofs.inputs.read_input.Goals as goal
 
