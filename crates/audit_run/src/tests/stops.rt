@@ -1,6 +1,8 @@
 //! Words, scripts, captures and calls that fail. Where two things are wrong, the one that is tested first is told.
 
 use super::{USAGE, answers, folder, told};
+use std::alloc::Global;
+use std::process::Abort;
 
 /// A node and one command.
 const NODE: &str = "node r\nmap add default protocol:unlbl\n";
@@ -28,7 +30,7 @@ const SCRIPTS: [(&str, &str, u8, &str); 5] = [
         "s r 1",
         "node r\nunlbl accept of\n",
         2,
-        "script line 2 octet 13 Value\n",
+        "script line 2 octet 13 Word\n",
     ),
     (
         "s r 16",
@@ -50,53 +52,61 @@ fn tells_what_a_script_lacks(rt: HostRuntime) {
     }
 }
 
-/// Words, the captures of a script's flows, the status and what is printed. The report isn't one of a run.
-const CAPTURES: [(&str, &[&str], u8, &str); 12] = [
-    ("s r 1", &["cut.pcap"], 5, "capture 1 octet 150 Short\n"),
-    ("s r 1", &["bad.pcap"], 5, "capture 1 octet 0 Magic\n"),
-    ("s r 1", &["bad.pcapng"], 5, "capture 1 octet 24 Trailer\n"),
+/// Words, the captures of a script's flows with blanks between, the status and what is printed. The report isn't one of a run.
+const CAPTURES: [(&str, &str, u8, &str); 12] = [
+    ("s r 1", "cut.pcap", 5, "capture 1 octet 150 Short\n"),
+    ("s r 1", "bad.pcap", 5, "capture 1 octet 0 Magic\n"),
+    ("s r 1", "bad.pcapng", 5, "capture 1 octet 24 Trailer\n"),
     (
         "s r 1",
-        &["one.pcap", "two.pcap", "cut.pcap"],
+        "one.pcap two.pcap cut.pcap",
         5,
         "capture 3 octet 150 Short\n",
     ),
     (
         "s r 1",
-        &["one.pcapng", "bad.pcapng", "bad.pcap"],
+        "one.pcapng bad.pcapng bad.pcap",
         5,
         "capture 2 octet 24 Trailer\n",
     ),
-    (
-        "s r 1",
-        &["cut.pcap", "absent"],
-        5,
-        "capture 1 octet 150 Short\n",
-    ),
-    ("s r 1", &["absent", "cut.pcap"], 3, ""),
-    ("s r 1", &["one.pcap", "absent"], 3, ""),
-    ("s absent 1", &["cut.pcap"], 3, ""),
-    ("s s 1", &["cut.pcap"], 5, "capture 1 octet 150 Short\n"),
-    ("s r 1", &["s"], 5, "capture 1 octet 0 Magic\n"),
-    ("s r 1", &["one.pcap", "r"], 5, "capture 2 octet 3 Short\n"),
+    ("s r 1", "cut.pcap absent", 5, "capture 1 octet 150 Short\n"),
+    ("s r 1", "absent cut.pcap", 3, ""),
+    ("s r 1", "one.pcap absent", 3, ""),
+    ("s absent 1", "cut.pcap", 3, ""),
+    ("s s 1", "cut.pcap", 5, "capture 1 octet 150 Short\n"),
+    ("s r 1", "s", 5, "capture 1 octet 0 Magic\n"),
+    ("s r 1", "one.pcap r", 5, "capture 2 octet 3 Short\n"),
 ];
+
+/// A script with a flow over each of these captures.
+fn receiving(rt: &impl Abort, alloc: Global, captures: &str) -> String {
+    let mut script = String::from_str(alloc, NODE).expect(rt, "there is memory");
+    for capture in captures.split(' ') {
+        script.push_str("flow ").expect(rt, "there is memory");
+        script.push_str(capture).expect(rt, "there is memory");
+        script
+            .push_str(" - receive:r,eth0\n")
+            .expect(rt, "there is memory");
+    }
+    script
+}
 
 #[test]
 fn tells_what_a_capture_lacks(rt: HostRuntime) {
     for (words, captures, status, text) in CAPTURES {
-        let alloc = rt.alloc();
-        let mut script = String::from_str(alloc, NODE).expect(&rt, "there is memory");
-        for capture in captures {
-            let flow = format!(in alloc; "flow {capture} - receive:r,eth0\n").expect(
+        let script = receiving(&rt, rt.alloc(), captures);
+        assert!(rt;
+            answers(
                 &rt,
-                "there is memory",
-            );
-            script
-                .push_str(flow.as_str())
-                .expect(&rt, "there is memory");
-        }
-        let is_so = answers(&rt, alloc, words, script.as_str(), "no\n", status, text);
-        assert!(rt; is_so, "{text}");
+                rt.alloc(),
+                words,
+                script.as_str(),
+                "no\n",
+                status,
+                text
+            ),
+            "{text}"
+        );
     }
 }
 
@@ -133,20 +143,20 @@ fn tells_failed_writes(rt: HostRuntime) {
     assert!(rt; status == 1 && printed.is_empty());
 }
 
-/// The script, the report and the capture are each read more than once: whichever read fails, nothing is printed.
+/// With pieces of this length the call reads 16 times: the script, the report and the capture, and the two again.
+const READS: u32 = 16;
+
+/// Whichever read fails, nothing is printed.
 #[test]
 fn tells_failed_reads(rt: HostRuntime) {
-    for read in 1..READS {
+    for read in 1..=READS {
         let depot = folder(&rt, rt.alloc(), SCRIPT, REPORT, read, 4096);
         let (status, printed) = told(&rt, rt.alloc(), "s r 1", depot, 0);
         assert!(rt; status == 3 && printed.is_empty(), "read {read}");
     }
-    for piece in [1, 7, 4096] {
-        let depot = folder(&rt, rt.alloc(), SCRIPT, REPORT, 0, piece);
+    for (read, piece) in [(READS + 1, 4096), (0, 1), (0, 7)] {
+        let depot = folder(&rt, rt.alloc(), SCRIPT, REPORT, read, piece);
         let (status, printed) = told(&rt, rt.alloc(), "s r 1", depot, 0);
         assert!(rt; status == 0 && printed.as_slice() == "yes\n".as_bytes());
     }
 }
-
-/// So many reads does the call make, and one more.
-const READS: u32 = 8;
