@@ -352,3 +352,39 @@ LONG_BORDER = [
     of_so_many(MOST_PACKETS, b"end packets %d passed 0 denied %d\n" % (MOST_PACKETS, MOST_PACKETS), 0),
     of_so_many(MOST_PACKETS + 1, b"limit packets %d\n" % MOST_PACKETS, 7),
 ]
+
+# --- reports that are audited -------------------------------------------------------------------------------------------------------------------
+
+
+def auditing(name, audited, *, flows=("b.pcap -",), words=(b"s", b"r", b"4"), more=lambda folder: None, **rest):
+    """A call of `netlabel_audit` on the script with these flows, and this report in `r`."""
+
+    def fill(folder):
+        (folder / "r").write_bytes(audited)
+        more(folder)
+
+    return names(name, list(flows), words=list(words), more=fill, **rest)._replace(program="netlabel_audit")
+
+
+AUDITS = [
+    auditing("a report", WHOLE + b"done\n", status=0, report=b"yes\n"),
+    auditing("a report, by other spellings of names", WHOLE + b"done\n", words=[b"./s", b"folder/../r", b"16"], status=0, report=b"yes\n"),
+    auditing("a report of two flows", WHOLE + b"flow 2 c.pcap\n" + FLOW_OF_ONE % (2, 2) + b"done\n", flows=["b.pcap o.pcap", "c.pcap -"], status=0, report=b"yes\n"),
+    auditing("a report without its last line", WHOLE, status=8, report=b"no line 4\n"),
+    auditing("a report that goes on", WHOLE + b"done\ndone\n", status=8, report=b"no line 5\n"),
+    auditing("a report of a capture by another spelling", WHOLE.replace(b"b.pcap", b"./b.pcap") + b"done\n", status=8, report=b"no line 1\n"),
+    auditing("the script as its report", b"", words=[b"s", b"s", b"1"], status=8, report=b"no line 1\n"),
+    auditing("a report that isn't there", b"", words=[b"s", b"absent", b"1"], status=3, report=b""),
+    auditing("a folder as a report", b"", words=[b"s", b"folder", b"1"], status=3, report=b""),
+    auditing("a report of a capture that isn't there", WHOLE + b"done\n", flows=["no.pcap -"], status=3, report=b""),
+    auditing("a report of a broken capture", WHOLE + b"done\n", flows=["b.pcap -", "s -"], status=5, report=b"capture 2 octet 0 Magic\n"),
+    auditing("a report of no script", WHOLE + b"done\n", words=[b"r", b"r", b"1"], status=2, report=b"script line 1 octet 13 Missing\n"),
+    auditing("a report with no worker", WHOLE + b"done\n", words=[b"s", b"r", b"0"], status=1, report=b"usage: netlabel_audit <script> <report> <n>\n"),
+]
+MOST_REPORT = 268435456
+LONG_AUDITS = [
+    auditing("a report of the most octets", b"", status=8, report=b"no line 1\n", more=lambda at: os.truncate(at / "r", MOST_REPORT)),
+    auditing("a report of an octet more", b"", status=7, report=b"limit report %d\n" % MOST_REPORT, more=lambda at: os.truncate(at / "r", MOST_REPORT + 1)),
+    auditing("a packet too many behind a report", b"", flows=["b.pcap -", "m.pcapng -"], status=7, report=b"limit packets %d\n" % MOST_PACKETS,
+             more=lambda at: (at / "m.pcapng").write_bytes(TWO_INTERFACES + made_captures.enhanced(5, b"") * MOST_PACKETS)),
+]

@@ -137,7 +137,7 @@ if "--pages" not in sys.argv:
     if subprocess.run([top / "prove", *sorted({call.program for call in calls.examples()})]).returncode:
         failures.append("the programs aren't proved and built, so none of their calls was made")
     else:
-        failures += [fault for call in [*calls.examples(), *calls.kernel_captures(), *calls.NAMES, *calls.OF_REPORT, *calls.MAKING, *calls.PCAPNG, *calls.BORDER, *calls.LONG, *calls.LONG_BORDER] for fault in proved(call)]
+        failures += [fault for call in [*calls.examples(), *calls.kernel_captures(), *calls.NAMES, *calls.OF_REPORT, *calls.MAKING, *calls.PCAPNG, *calls.BORDER, *calls.AUDITS, *calls.LONG, *calls.LONG_BORDER, *calls.LONG_AUDITS] for fault in proved(call)]
 
 print("\n".join(failures) or "the repository's own checks passed")
 sys.exit(1 if failures else 0)

@@ -14,11 +14,13 @@ INSTALLED = ["bin/netlabel", "share/man/man1/netlabel.1", "share/bash-completion
              "bin/netlabel_cover", "share/man/man1/netlabel_cover.1", "share/bash-completion/completions/netlabel_cover",
              "share/zsh/site-functions/_netlabel_cover", "bin/ripso_border", "share/man/man1/ripso_border.1",
              "share/bash-completion/completions/ripso_border", "share/zsh/site-functions/_ripso_border",
+             "bin/netlabel_audit", "share/man/man1/netlabel_audit.1", "share/bash-completion/completions/netlabel_audit",
+             "share/zsh/site-functions/_netlabel_audit",
              "bin/netlabel_report", "share/man/man1/netlabel_report.1",
              "share/bash-completion/completions/netlabel_report", "share/zsh/site-functions/_netlabel_report", "lib/libnetlabel_codec.a", "lib/pkgconfig/netlabel.pc", "include/netlabel.h",
              "share/man/man3/netlabel.3", "share/doc/netlabel/docs/guide.md", "share/doc/netlabel/LICENSE-MIT", "share/doc/netlabel/examples/site/site"]
 # The crates of the programs, with the names that these are called by.
-PROGRAMS = {"netlabel_cmd": "netlabel", "netlabel_cover": "netlabel_cover", "ripso_border": "ripso_border", "netlabel_report": "netlabel_report"}
+PROGRAMS = {"netlabel_cmd": "netlabel", "netlabel_cover": "netlabel_cover", "netlabel_audit": "netlabel_audit", "ripso_border": "ripso_border", "netlabel_report": "netlabel_report"}
 LIBRARY = "netlabel_codec"
 # What stands on the line, and the words that complete it, in a folder with the files below.
 FILES = ["site", "site.pcap", "with blank", "-dash", "sub/one.pcap"]
@@ -31,6 +33,7 @@ COMPLETED = {
     "netlabel_cover si": "site site.pcap", "netlabel_cover sub/": "sub/one.pcap", "netlabel_cover -": "", "netlabel_cover site ": "",
     "ripso_border ": "in out", "ripso_border o": "out", "ripso_border in si": "site site.pcap", "ripso_border in site ": "",
     "ripso_border out site 16 sub/": "sub/one.pcap", "ripso_border in site 16 site.pcap s": "site site.pcap sub", "ripso_border in site 16 site.pcap o ": "",
+    "netlabel_audit si": "site site.pcap", "netlabel_audit site si": "site site.pcap", "netlabel_audit site site 1": "1 10 11 12 13 14 15 16", "netlabel_audit site site 1 ": "",
 }
 BASH = r"""
 . "$1"; complete -p "$3" >/dev/null || exit 9
@@ -144,7 +147,7 @@ def test_install(tree, made):
         tell(f"{name} runs", run(prefix / "usr/bin" / name).stdout == f"{crate}\n")
     tell("no other program is there", len(list((prefix / "usr/bin").iterdir())) == len(PROGRAMS))
     version = (TOP / "VERSION").read_text().strip()
-    for page in ("man1/netlabel.1", "man1/netlabel_cover.1", "man1/netlabel_report.1", "man1/ripso_border.1", "man3/netlabel.3"):
+    for page in ("man1/netlabel.1", "man1/netlabel_cover.1", "man1/netlabel_audit.1", "man1/netlabel_report.1", "man1/ripso_border.1", "man3/netlabel.3"):
         tell(f"{page} has the version", f'"netlabel {version}"' in (prefix / "usr/share/man" / page).read_text())
     tell("pkg-config's file has the prefix without DESTDIR", (prefix / "usr/lib/pkgconfig/netlabel.pc").read_text().startswith("prefix=/usr\n"))
     run(tree / "install.sh", "--uninstall", "/usr", env={**os.environ, "DESTDIR": str(prefix)})

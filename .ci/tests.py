@@ -102,7 +102,7 @@ def crate_tests(name, environment):
 
 def calls_of(program):
     """The calls that are made before any proof."""
-    made = [*calls.examples(), *calls.kernel_captures(), *calls.NAMES, *calls.MAKING, *calls.PCAPNG, *calls.BORDER, *calls.UNANSWERED]
+    made = [*calls.examples(), *calls.kernel_captures(), *calls.NAMES, *calls.MAKING, *calls.PCAPNG, *calls.BORDER, *calls.AUDITS, *calls.UNANSWERED]
     return [call for call in made if call.program == program]
 
 
