@@ -1,11 +1,9 @@
 -- All flows of a script, one after the other.
-use Rattle.std.proofs.Common.{◌≡◌, ◌<◌, ◌≤◌, ℕ, zero, suc, ◌+◌, ◌-◌, Bool, true, false, List, [], ◌∷◌, length, drop, Option, Some, None, Result, Ok, Err, refl, sym, ap, ◌∙◌, subst, arith, le_trans}
-use Rattle.std.specs.Prelude.{All, slice_get, nat_lt, if◌then◌else◌}
-use Rattle.std.specs.Option.{option_map}
+use Rattle.std.proofs.Common.{◌≡◌, ◌≤◌, ℕ, zero, suc, ◌+◌, ◌-◌, Bool, true, List, [], ◌∷◌, length, drop, Option, Some, None, Result, Ok, Err, refl, ap, ◌∙◌, subst, arith, le_trans}
+use Rattle.std.specs.Prelude.{slice_get}
 use Rattle.std.proofs.lemmas.Option.{none-some, same_Some}
 use Rattle.flow_lines.specs.declared.flow.FlowLine.{FlowLine}
 use Rattle.label_commands.specs.declared.script.Script.{Script}
-use Rattle.label_commands.specs.Script.{before}
 use Rattle.packet_walk.specs.Stepping.{TablesAt}
 use Rattle.capture_reader.specs.declared.fault.FileFault.{FileFault}
 use Rattle.capture_reader.specs.CaptureFile.{CaptureFile, capture_file}
@@ -16,7 +14,7 @@ use Rattle.script_run.specs.Runs.{FlowsStatus, StatusOr}
 use Rattle.label_audit.specs.declared.place.Place.{Place}
 use Rattle.label_audit.specs.inside.Grammar.{FlowsFrom}
 use Rattle.label_audit.specs.inside.Reading.{StandsIn, IsJudgedTo}
-use Rattle.label_audit.specs.inside.Flow.{Ready, flows_behind, done_awaited, HasWholeCapture}
+use Rattle.label_audit.specs.inside.Flow.{Ready, flows_behind, done_awaited}
 use Rattle.label_audit.proofs.Flows.{whole_input}
 use Rattle.label_audit.proofs.Judgings.{judged_on, judged_same, whole_frames}
 use Rattle.label_audit.proofs.CaptureJudged.{IsWhole}

@@ -1,19 +1,16 @@
 -- A flow's capture, and its packets.
-use Rattle.std.proofs.Common.{◌≡◌, ◌<◌, ◌≤◌, ℕ, zero, suc, ◌+◌, Bool, List, [], ◌∷◌, map, length, Option, Some, None, Result, Ok, Err, refl, sym, ap, ◌∙◌, subst, arith}
-use Rattle.std.specs.Prelude.{IsTrue, Contains, slice_get}
+use Rattle.std.proofs.Common.{◌≡◌, ◌≤◌, ℕ, zero, suc, List, [], ◌∷◌, map, length, Option, Some, None, Result, Ok, Err, sym, ap, ◌∙◌, arith}
+use Rattle.std.specs.Prelude.{Contains, slice_get}
 use Rattle.std.specs.Option.{option_map_or}
-use Rattle.std.proofs.lemmas.List.{length-map}
 use Rattle.std.proofs.lemmas.Option.{none-some, same_Some}
 use Rattle.net_io.specs.Depot.{DepotState, octets_of}
 use Rattle.flow_lines.specs.declared.flow.FlowLine.{FlowLine}
-use Rattle.packet_walk.specs.declared.packet.PacketIn.{PacketIn}
 use Rattle.capture_reader.specs.declared.fault.FileFault.{FileFault}
 use Rattle.capture_reader.specs.declared.reader.AnyFrames.{AnyFrames}
 use Rattle.capture_reader.specs.CaptureFile.{CaptureFile, capture_file}
-use Rattle.capture_reader.specs.Frame.{CapturedFrame, packet_in}
+use Rattle.capture_reader.specs.Frame.{packet_in}
 use Rattle.capture_reader.specs.Reader.{FramesLeft, file_name_of, left_of, begun_file}
-use Rattle.call_report.specs.Report.{Folder}
-use Rattle.label_audit.specs.inside.Flow.{left_by, HasBegunReading, packets_of, capture_packets}
+use Rattle.label_audit.specs.inside.Flow.{left_by, HasBegunReading, packets_of}
 use Rattle.label_audit.proofs.Frames.{behind_first}
 
 pub input_named : (flows : List FlowLine) (i : ℕ) (line : FlowLine) → slice_get flows i ≡ Some line → Contains (map (λ (flow : FlowLine). flow.input) flows) line.input

@@ -1,18 +1,12 @@
 -- The reading of a flow's capture beside its report.
-use Rattle.std.proofs.Common.{◌≡◌, ◌<◌, ◌≤◌, ℕ, ◌+◌, ◌-◌, Bool, true, false, List, [], ◌∷◌, ◌++◌, map, length, None, Result, Ok, Err, refl, sym, ap, ◌∙◌, subst, arith}
-use Rattle.std.specs.Prelude.{IsTrue, Contains}
-use Rattle.net_io.specs.declared.fault.IoFault.{IoFault}
-use Rattle.net_io.specs.declared.fault.IoFault.TheVariants.{Failed}
-use Rattle.net_io.specs.Depot.{DepotState, SameHeld, OnlyReads, octets_of}
-use Rattle.packet_walk.specs.declared.packet.PacketIn.{PacketIn}
+use Rattle.std.proofs.Common.{◌≡◌, ℕ, List, ap}
+use Rattle.std.specs.Prelude.{IsTrue}
+use Rattle.net_io.specs.Depot.{DepotState, octets_of}
 use Rattle.capture_reader.specs.declared.reader.AnyFrames.{AnyFrames}
-use Rattle.capture_reader.specs.Frame.{packet_in}
-use Rattle.capture_reader.specs.Reader.{FramesLeft, file_name_of, left_of, IsReadable}
+use Rattle.capture_reader.specs.Reader.{file_name_of, left_of, IsReadable}
 use Rattle.capture_reader.proofs.Law.{a_reader_goes_on_in_a_kept_file}
-use Rattle.report_file.specs.File.{ReportPart}
-use Rattle.label_audit.specs.inside.Reading.{HasRead}
 use Rattle.label_audit.specs.inside.Flow.{left_by}
-use Rattle.label_audit.proofs.Frames.{Unmoved, read_same}
+use Rattle.label_audit.proofs.Frames.{Unmoved}
 
 -- a capture stays as it is while something else is read
 pub reader_on : (a b : DepotState) (reader : AnyFrames) → Unmoved a b → IsReadable a reader → IsReadable b reader

@@ -1,5 +1,5 @@
 -- Replies that are looked for one after the other.
-use Rattle.std.proofs.Common.{◌≡◌, ◌<◌, ◌≤◌, ℕ, ◌+◌, ◌-◌, Bool, true, false, List, ◌++◌, length, refl, sym, ap, ◌∙◌, subst, arith}
+use Rattle.std.proofs.Common.{◌≡◌, ◌<◌, ◌≤◌, ℕ, ◌+◌, ◌-◌, Bool, true, false, List, ◌++◌, sym, ap, ◌∙◌, subst, arith}
 use Rattle.script_lines.specs.declared.command.Step.{Step}
 use Rattle.call_report.specs.Lines.Reply.{reply_line_at, replies_text}
 use Rattle.call_report.proofs.Law.{no_steps_have_no_replies}

@@ -1,6 +1,6 @@
 -- One flow, from its first line to the replies behind it.
-use Rattle.std.proofs.Common.{◌≡◌, ◌<◌, ◌≤◌, ℕ, ◌+◌, ◌-◌, Bool, true, List, [], ◌∷◌, map, length, Option, Some, Result, Ok, Err, refl, sym, ap, ◌∙◌, subst, arith}
-use Rattle.std.specs.Prelude.{All, IsTrue, slice_get, option_map, unwrap_or}
+use Rattle.std.proofs.Common.{◌≡◌, ◌≤◌, ℕ, ◌+◌, ◌-◌, Bool, true, List, [], ◌∷◌, map, length, Option, Some, ap, ◌∙◌, subst, arith}
+use Rattle.std.specs.Prelude.{All, slice_get, option_map, unwrap_or}
 use Rattle.std.specs.Option.{option_map_or}
 use Rattle.std.proofs.lemmas.List.{length-map}
 use Rattle.net_io.specs.Depot.{SameHeld}
@@ -9,8 +9,8 @@ use Rattle.label_commands.specs.declared.script.Script.{Script}
 use Rattle.label_commands.specs.Script.{before}
 use Rattle.packet_walk.specs.declared.packet.PacketIn.{PacketIn}
 use Rattle.packet_walk.specs.Stepping.{TablesAt}
-use Rattle.capture_reader.specs.CaptureFile.{CaptureFile, capture_file}
-use Rattle.capture_reader.specs.Frame.{CapturedFrame, packet_in}
+use Rattle.capture_reader.specs.CaptureFile.{capture_file}
+use Rattle.capture_reader.specs.Frame.{packet_in}
 use Rattle.call_report.specs.Report.{Folder}
 use Rattle.call_report.specs.Lines.Flow.{flow_line}
 use Rattle.call_report.specs.Lines.Reply.{replies_text}
@@ -18,8 +18,8 @@ use Rattle.flow_run.specs.Input.{flow_input}
 use Rattle.script_run.specs.Runs.{FlowsStatus}
 use Rattle.label_audit.specs.declared.flow.Counted.{Counted}
 use Rattle.label_audit.specs.declared.place.Place.{Place}
-use Rattle.label_audit.specs.inside.Grammar.{FlowsFrom, nothing_counted, end_text_of, replies_of}
-use Rattle.label_audit.specs.inside.Reading.{StandsIn, IsExpected, IsJudgedTo}
+use Rattle.label_audit.specs.inside.Grammar.{FlowsFrom, nothing_counted, end_text_of}
+use Rattle.label_audit.specs.inside.Reading.{IsExpected, IsJudgedTo}
 use Rattle.label_audit.specs.inside.Flow.{behind_flow, packets_awaited, end_awaited, flows_behind, packets_of, capture_packets, HasWholeCapture}
 use Rattle.label_audit.proofs.Judgings.{judged_on, whole_frames, FirstPackets, flow_expected, packets_begin, end_expected, replies_expected}
 use Rattle.label_audit.proofs.CaptureJudged.{IsWhole}

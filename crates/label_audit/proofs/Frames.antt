@@ -1,12 +1,12 @@
 -- Reads one after the other.
-use Rattle.std.proofs.Common.{◌≡◌, ◌<◌, ◌≤◌, ◌⊎◌, inl, inr, ℕ, zero, suc, ◌+◌, Bool, true, false, List, [], ◌∷◌, ◌++◌, map, length, Option, Some, None, Result, Ok, Err, refl, sym, ap, ◌∙◌, subst, arith, le_trans}
-use Rattle.std.specs.Prelude.{IsTrue, Contains, OnOk, IsErrOf, ◌^◌, slice_get}
+use Rattle.std.proofs.Common.{◌≡◌, inl, inr, ℕ, suc, List, ◌∷◌, Result, Ok, Err, refl, sym, ap, ◌∙◌, subst, arith}
+use Rattle.std.specs.Prelude.{IsTrue, Contains}
 use Rattle.net_io.specs.declared.fault.IoFault.{IoFault}
 use Rattle.net_io.specs.declared.fault.IoFault.TheVariants.{Failed, OutOfMemory}
 use Rattle.net_io.specs.Depot.{DepotState, SameHeld, OnlyReads, octets_of}
 use Rattle.net_io.specs.Faults.{Rose, SameCounts}
 use Rattle.report_file.specs.File.{ReportPart, KeepsPart}
-use Rattle.label_audit.specs.Reads.{CountsAmong, OnlyReadsAmong}
+use Rattle.label_audit.specs.Reads.{OnlyReadsAmong}
 use Rattle.label_audit.specs.inside.Reading.{file_of, HasRead}
 
 first_of : {X : Type 0} (x : X) (xs : List X) → Contains (x ∷ xs) x

@@ -1,10 +1,9 @@
 -- The parts of a report that are judged one after the other.
-use Rattle.std.proofs.Common.{◌≡◌, ◌<◌, ◌≤◌, ◌⊎◌, inl, inr, ℕ, zero, suc, ◌+◌, ◌-◌, Bool, true, false, List, [], ◌∷◌, ◌++◌, map, take, length, drop, Option, Some, None, Result, Ok, Err, refl, sym, ap, ◌∙◌, subst, arith, max}
-use Rattle.std.specs.Prelude.{All, IsTrue, slice_get, nat_lt, if◌then◌else◌}
-use Rattle.std.specs.Option.{option_map, option_map_or}
+use Rattle.std.proofs.Common.{◌≡◌, ◌<◌, ◌≤◌, ℕ, zero, suc, ◌+◌, ◌-◌, Bool, true, false, List, [], ◌∷◌, map, length, drop, Option, Some, None, Ok, Err, refl, sym, ap, ◌∙◌, subst, arith}
+use Rattle.std.specs.Prelude.{All, nat_lt, if◌then◌else◌}
+use Rattle.std.specs.Option.{option_map}
 use Rattle.std.proofs.lemmas.Bool.{ltb-false}
-use Rattle.std.proofs.lemmas.List.{take_all, length-map}
-use Rattle.std.proofs.lemmas.Option.{none-some}
+use Rattle.std.proofs.lemmas.List.{take_all}
 use Rattle.flow_lines.specs.declared.flow.FlowLine.{FlowLine}
 use Rattle.label_commands.specs.declared.script.Script.{Script}
 use Rattle.label_commands.specs.Script.{before}
@@ -21,13 +20,13 @@ use Rattle.call_report.specs.Lines.Capture.{capture_line}
 use Rattle.call_report.specs.Lines.Flow.{flow_line}
 use Rattle.flow_run.specs.Input.{FlowInput, flow_input, input_by, packets_in}
 use Rattle.script_run.specs.Runs.{StatusOr, FlowsStatus}
-use Rattle.report_file.specs.Meeting.{lines_in, DiffersBehind}
+use Rattle.report_file.specs.Meeting.{lines_in}
 use Rattle.label_audit.specs.declared.flow.Counted.{Counted}
 use Rattle.label_audit.specs.declared.place.Place.{Place}
 use Rattle.label_audit.specs.inside.Awaited.{Awaited, BadBehind, ComesTo}
-use Rattle.label_audit.specs.inside.Grammar.{PacketsFrom, Then, BehindPackets, FlowsFrom, site_of, nothing_counted, end_text_of, replies_of}
+use Rattle.label_audit.specs.inside.Grammar.{PacketsFrom, Then, FlowsFrom, site_of, nothing_counted, end_text_of, replies_of}
 use Rattle.label_audit.specs.inside.Reading.{StandsIn, IsExpected, IsJudgedTo}
-use Rattle.label_audit.specs.inside.Flow.{met_by, Ready, behind_flow, packets_awaited, end_awaited}
+use Rattle.label_audit.specs.inside.Flow.{met_by, behind_flow, packets_awaited, end_awaited}
 use Rattle.label_audit.proofs.Fronts.{Whole}
 use Rattle.label_audit.proofs.Reading.{Inhabits, comes_on}
 use Rattle.label_audit.proofs.Steps.{then_stands, then_differs, then_some, OrNothing, or_stands, or_differs, packets_same, packets_some, flows_some}

@@ -1,21 +1,15 @@
 -- A packet's line, by the versions that it names.
-use Rattle.std.proofs.Common.{◌≡◌, ◌≢◌, ◌<◌, ◌≤◌, ℕ, zero, suc, ◌+◌, Bool, true, false, List, [], ◌∷◌, ◌++◌, length, take, drop, Result, Ok, Err, refl, sym, ap, ◌∙◌, subst, arith, le_trans, le_refl}
+use Rattle.std.proofs.Common.{◌≡◌, ◌<◌, ◌≤◌, ℕ, zero, suc, ◌+◌, Bool, true, false, List, [], ◌∷◌, ◌++◌, length, take, drop, refl, sym, ap, ◌∙◌, subst, arith, le_trans, le_refl}
 use Rattle.std.specs.Prelude.{All, ◌^◌, MatchBool, slice_get}
 use Rattle.std.proofs.lemmas.Bool.{false≢true}
 use Rattle.std.proofs.lemmas.List.{append-nil, take_all}
 use Rattle.std.proofs.lemmas.List.Elements.{All-nil, All-cons}
 use Rattle.address_text.specs.Name.{IsNameText}
-use Rattle.ip_headers.specs.Packet.{ParsedPacket}
-use Rattle.packet_label.specs.declared.fault.CarryFault.{CarryFault}
-use Rattle.packet_label.specs.declared.packet.Wire.{Wire}
 use Rattle.flow_lines.specs.declared.hop.Hop.{Hop}
 use Rattle.shared_tables.specs.Plan.{PlanState}
 use Rattle.packet_walk.specs.declared.packet.PacketIn.{PacketIn}
-use Rattle.packet_walk.specs.declared.stop.VersionsStop.{VersionsStop}
-use Rattle.packet_walk.specs.declared.stop.VersionsStop.TheVariants.{TooFew, TooMany}
 use Rattle.packet_walk.specs.declared.walked.End.{End}
-use Rattle.packet_walk.specs.declared.walked.Walked.{Walked}
-use Rattle.packet_walk.specs.Walk.{Coming, HopVerdict, denied, goes_on, arrives, from_hop, Follows, IsWalk, IsWalkOf, IsWalked, Rises}
+use Rattle.packet_walk.specs.Walk.{Coming, HopVerdict, denied, goes_on, arrives, from_hop, Follows, IsWalk, IsWalkOf, Rises}
 use Rattle.packet_walk.proofs.Law.{walks_end_in_one_way, walks_are_cut_in_one_way, versions_rise_between_wider_bounds}
 use Rattle.label_flow.specs.Pair.{PairState}
 use Rattle.report_file.specs.Versions.{EndsWithVersions, AreVersions}

@@ -1,6 +1,6 @@
 -- One packet more of a flow.
-use Rattle.std.proofs.Common.{◌≡◌, ◌≢◌, ◌<◌, ◌≤◌, ℕ, zero, suc, ◌+◌, ◌%◌, Bool, true, false, cond, nat_eq, List, [], ◌∷◌, ◌++◌, length, drop, Option, Some, None, refl, sym, ap, ◌∙◌, subst, arith, max}
-use Rattle.std.specs.Prelude.{All, IsTrue, slice_get, slice_set, if◌then◌else◌}
+use Rattle.std.proofs.Common.{◌≡◌, ◌≢◌, ◌<◌, ◌≤◌, ℕ, zero, suc, ◌+◌, ◌%◌, Bool, true, false, cond, nat_eq, List, [], ◌∷◌, ◌++◌, length, drop, Option, Some, refl, sym, ap, ◌∙◌, subst, arith, max}
+use Rattle.std.specs.Prelude.{All, slice_get, slice_set, if◌then◌else◌}
 use Rattle.std.specs.Option.{option_map_or}
 use Rattle.std.proofs.lemmas.Bool.Decides.{nat_tests}
 use Rattle.address_text.specs.Name.{IsNameText}
@@ -16,16 +16,14 @@ use Rattle.label_flow.specs.Pair.{PairState}
 use Rattle.call_report.specs.Report.{Folder}
 use Rattle.call_report.specs.Lines.Flow.{walked_line}
 use Rattle.flow_access.specs.Valid.{plan_of}
-use Rattle.flow_run.specs.Run.{is_denied}
 use Rattle.label_audit.specs.declared.flow.Counted.{Counted}
 use Rattle.label_audit.specs.declared.place.Place.{Place}
 use Rattle.label_audit.specs.declared.walker.PacketPlace.{PacketPlace}
-use Rattle.label_audit.specs.inside.Awaited.{Awaited, GoodFrom, BadFrom, BadBehind, ComesTo}
+use Rattle.label_audit.specs.inside.Awaited.{Awaited, GoodFrom, BadBehind, ComesTo}
 use Rattle.label_audit.specs.inside.Grammar.{last_met, meets_now, counted_more, PacketsFrom, site_of}
 use Rattle.label_audit.specs.inside.Reading.{IsJudgedTo}
 use Rattle.label_audit.specs.inside.Packet.{line_at, Fits, PacketRead}
 use Rattle.label_audit.specs.inside.Flow.{met_by, behind_flow, packets_awaited}
-use Rattle.label_audit.proofs.Rows.{last_within}
 use Rattle.label_audit.proofs.Reading.{OneLine, comes_on}
 use Rattle.label_audit.proofs.Steps.{May, packet_stands, packet_fails, packets_same}
 use Rattle.label_audit.proofs.Wholes.{packet_line}

@@ -1,5 +1,5 @@
 -- The line of a packet that stands there.
-use Rattle.std.proofs.Common.{◌≡◌, ◌<◌, ◌≤◌, ℕ, ◌+◌, Bool, true, List, ◌++◌, length, drop, refl, sym, ap, ◌∙◌, subst, arith}
+use Rattle.std.proofs.Common.{◌≡◌, ◌<◌, ◌≤◌, ℕ, ◌+◌, Bool, List, ◌++◌, length, drop, sym, ap, ◌∙◌, subst}
 use Rattle.std.specs.Prelude.{All, ◌^◌}
 use Rattle.address_text.specs.Name.{IsNameText}
 use Rattle.shared_tables.specs.Plan.{PlanState}
@@ -10,7 +10,7 @@ use Rattle.label_audit.specs.declared.place.Place.{Place}
 use Rattle.label_audit.specs.declared.walker.PacketPlace.{PacketPlace}
 use Rattle.label_audit.specs.inside.Grammar.{last_met}
 use Rattle.label_audit.specs.inside.Reading.{StandsIn}
-use Rattle.label_audit.specs.inside.Packet.{line_at, WrittenWalk, PacketRead}
+use Rattle.label_audit.specs.inside.Packet.{WrittenWalk, PacketRead}
 use Rattle.label_audit.proofs.Naming.{Each, written_pair, only_written}
 use Rattle.label_audit.proofs.Places.{met_there}
 use Rattle.label_audit.proofs.Wholes.{packet_line}

@@ -1,13 +1,13 @@
 -- Places in a report, and texts that are looked for there.
-use Rattle.std.proofs.Common.{◌≡◌, ◌≢◌, ◌<◌, ◌≤◌, ◌⊎◌, inl, inr, ℕ, zero, suc, ◌+◌, ◌-◌, Bool, true, false, cond, List, [], ◌∷◌, ◌++◌, length, drop, refl, sym, ap, ◌∙◌, subst, arith, append_assoc}
+use Rattle.std.proofs.Common.{◌≡◌, ◌<◌, ◌≤◌, ℕ, ◌+◌, Bool, true, false, cond, List, [], ◌∷◌, ◌++◌, length, drop, refl, sym, ap, ◌∙◌, arith, append_assoc}
 use Rattle.std.specs.Prelude.{◌==◌, ◌^◌}
 use Rattle.std.proofs.Math.Seq.{drop-append_seam}
-use Rattle.std.proofs.lemmas.List.{length-append, length-drop, drop-drop, append-nil}
+use Rattle.std.proofs.lemmas.List.{length-append, length-drop, drop-drop}
 use Rattle.report_file.specs.Meeting.{lines_in, DiffersBehind}
 use Rattle.label_audit.specs.declared.place.Place.{Place}
 use Rattle.label_audit.specs.inside.Reading.{StandsIn, IsExpected}
-use Rattle.label_audit.proofs.Fronts.{one_at, lines-cons}
-use Rattle.label_audit.proofs.Reading.{lines-append, rest_of}
+use Rattle.label_audit.proofs.Fronts.{lines-cons}
+use Rattle.label_audit.proofs.Reading.{lines-append}
 
 pub few_lines : (text : List ℕ) → lines_in text ≤ length text
 few_lines [] = omega arith

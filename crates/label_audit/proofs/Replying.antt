@@ -1,14 +1,13 @@
 -- Replies to steps, one by one, over plain values.
-use Rattle.std.proofs.Common.{◌≡◌, ◌<◌, ◌≤◌, ℕ, zero, suc, ◌+◌, ◌-◌, get_or, List, [], ◌∷◌, ◌++◌, length, Some, Result, Ok, Err, refl, sym, ap, subst, ◌∙◌, append_assoc, arith}
-use Rattle.std.specs.Prelude.{All, OnOk, slice_get, unwrap_or}
+use Rattle.std.proofs.Common.{◌≡◌, ◌<◌, ◌≤◌, ℕ, zero, suc, ◌+◌, ◌-◌, List, [], ◌++◌, length, Some, Result, Ok, Err, refl, sym, ap, subst, ◌∙◌, append_assoc, arith}
+use Rattle.std.specs.Prelude.{All, OnOk, slice_get}
 use Rattle.std.proofs.lemmas.List.{append-nil}
-use Rattle.std.proofs.lemmas.Option.{slice_get_within, get_or_from_slice_get, slice_get-get_or, unwrap_or-slice_get}
+use Rattle.std.proofs.lemmas.Option.{slice_get_within, get_or_from_slice_get}
 use Rattle.script_lines.specs.declared.command.Step.{Step}
 use Rattle.node_tables.specs.declared.reply.Reply.{Reply}
 use Rattle.node_tables.specs.Tables.{TableState}
-use Rattle.node_tables.specs.Steps.{step_applied, step_reply, reply_at, tables_after}
+use Rattle.node_tables.specs.Steps.{step_applied, step_reply, tables_after}
 use Rattle.node_tables.proofs.Law.{steps_apply_one_by_one, nodes_keep_their_number}
-use Rattle.call_report.specs.Lines.Parts.{name_at}
 use Rattle.call_report.specs.Lines.Reply.{reply_text, reply_line_at, replies_text}
 use Rattle.call_report.proofs.Law.{no_steps_have_no_replies, replies_come_one_by_one, a_step_is_answered_at_its_node}
 

@@ -1,5 +1,5 @@
 -- A report from its first line to its end.
-use Rattle.std.proofs.Common.{◌≡◌, ◌≢◌, ◌<◌, ◌≤◌, ◌⊎◌, inl, inr, ℕ, ◌+◌, ◌-◌, ◌%◌, Bool, true, false, List, [], ◌∷◌, ◌++◌, length, drop, Option, Some, None, refl, sym, ap, ◌∙◌, subst, arith}
+use Rattle.std.proofs.Common.{◌≡◌, ◌≢◌, ◌<◌, ◌≤◌, inl, inr, ℕ, ◌+◌, ◌-◌, ◌%◌, Bool, true, false, List, [], ◌∷◌, ◌++◌, length, drop, Option, Some, None, refl, sym, ap, ◌∙◌, subst, arith}
 use Rattle.std.specs.Prelude.{slice_get, option_map, unwrap_or, nat_lt}
 use Rattle.std.proofs.lemmas.List.{append-nil, length-drop}
 use Rattle.std.proofs.lemmas.Bool.{ltb-true, ltb-false}
@@ -16,13 +16,12 @@ use Rattle.call_report.specs.Lines.Fixed.{done_line}
 use Rattle.call_report.specs.Lines.Reply.{replies_text}
 use Rattle.flow_run.specs.Input.{flow_input, packets_in}
 use Rattle.script_run.specs.Runs.{FlowsStatus, StatusOr}
-use Rattle.report_file.specs.Meeting.{lines_in}
 use Rattle.label_audit.specs.Good.{IsReport, IsFirstBad}
 use Rattle.label_audit.specs.declared.flow.Counted.{Counted}
 use Rattle.label_audit.specs.declared.place.Place.{Place}
-use Rattle.label_audit.specs.inside.Awaited.{Awaited, BadFrom, BadBehind, ComesTo}
+use Rattle.label_audit.specs.inside.Awaited.{Awaited, BadBehind, ComesTo}
 use Rattle.label_audit.specs.inside.Grammar.{Site, counted_more, last_met, meets_now, PacketsFrom, BehindPackets, FlowsFrom, ScriptFrom, site_of, nothing_counted}
-use Rattle.label_audit.specs.inside.Reading.{StandsIn, IsExpected, IsJudgedTo}
+use Rattle.label_audit.specs.inside.Reading.{IsExpected, IsJudgedTo}
 use Rattle.label_audit.specs.inside.Flow.{done_awaited, ended_awaited}
 use Rattle.label_audit.proofs.Reading.{rest_of, stands, differs, more_left}
 use Rattle.label_audit.proofs.Steps.{flows_some}

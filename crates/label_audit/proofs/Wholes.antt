@@ -1,5 +1,5 @@
 -- Texts of whole lines, and lines.
-use Rattle.std.proofs.Common.{◌≡◌, ◌<◌, ◌≤◌, ◌⊎◌, inl, inr, ℕ, zero, suc, ◌+◌, Bool, true, false, cond, List, [], ◌∷◌, ◌++◌, map, codes, decimal, length, Option, Some, None, refl, sym, ap, ◌∙◌, subst, arith, append_assoc, add-zero}
+use Rattle.std.proofs.Common.{◌≡◌, ◌<◌, inl, inr, ℕ, zero, suc, ◌+◌, Bool, true, false, cond, List, [], ◌∷◌, ◌++◌, codes, decimal, length, Option, Some, None, refl, sym, ap, ◌∙◌, subst, arith, append_assoc}
 use Rattle.std.specs.Prelude.{All, ◌==◌, ◌||◌, slice_get}
 use Rattle.std.specs.Option.{option_map_or}
 use Rattle.address_text.specs.Name.{IsNameText}
@@ -18,7 +18,7 @@ use Rattle.call_report.proofs.Law.{no_steps_have_no_replies, replies_come_one_by
 use Rattle.report_file.specs.Meeting.{lines_in}
 use Rattle.label_audit.proofs.Fronts.{Whole, one_at, lines-cons}
 use Rattle.label_audit.proofs.Reading.{OneLine, lines-append, whole_both}
-use Rattle.label_audit.proofs.NoEnd.{has_end, NoEnd}
+use Rattle.label_audit.proofs.NoEnd.{has_end}
 use Rattle.label_audit.proofs.PacketLines.{in_line, versions}
 
 pub line_whole : (text : List ℕ) → Whole (line_of text)

@@ -1,5 +1,5 @@
 -- What may still be printed, and how what is left of a report is judged by it.
-use Rattle.std.specs.Prelude.{ℕ, ◌≡◌, ◌⊎◌, ◌+◌, ◌<◌, Bool, true, false, List, [], ◌∷◌, ◌++◌}
+use Rattle.std.specs.Prelude.{ℕ, ◌≡◌, ◌+◌, ◌<◌, Bool, true, false, List, ◌++◌}
 use Rattle.label_audit.specs.Good.{FirstLines}
 
 -- whether a text may be printed from here on, or (true) whether it may be all that is

@@ -1,9 +1,8 @@
 -- The flows of a script as they are judged: what the workers have met, and what is awaited.
-use Rattle.std.specs.Prelude.{◌≡◌, ◌+◌, ◌-◌, ◌≤◌, ℕ, Bool, List, [], ◌∷◌, length, map, max, All, IsTrue, slice_get, Option, Some, None, Result, Ok, Err}
+use Rattle.std.specs.Prelude.{◌≡◌, ◌+◌, ◌-◌, ◌≤◌, ℕ, Bool, List, [], ◌∷◌, length, map, max, All, slice_get, Option, Some, None, Result, Ok, Err}
 use Rattle.std.specs.Option.{option_map_or}
 use Rattle.net_io.specs.Depot.{DepotState, octets_of}
 use Rattle.label_commands.specs.declared.script.Script.{Script}
-use Rattle.label_commands.specs.Script.{before}
 use Rattle.flow_lines.specs.declared.flow.FlowLine.{FlowLine}
 use Rattle.packet_walk.specs.declared.packet.PacketIn.{PacketIn}
 use Rattle.packet_walk.specs.Stepping.{TablesAt}

@@ -1,17 +1,16 @@
-use Rattle.std.proofs.Common.{◌≡◌, ◌<◌, ◌+◌, ℕ, List, [], ◌∷◌, map, length, Ok, Err, Some, Bool, true, false, sym, ap, ◌∙◌, subst, arith, refl}
+use Rattle.std.proofs.Common.{◌≡◌, ℕ, List, map, length, Ok, Err, Some, sym, ap, ◌∙◌, subst, arith, refl}
 use Rattle.std.specs.Prelude.{IsTrue, Contains, slice_get}
 use Rattle.std.proofs.lemmas.Option.{slice_get_read, same_Some}
 use Rattle.std.proofs.lemmas.List.{length-map}
 use Rattle.std.proofs.lemmas.Result.{err_from_is_err_and, IfOk-weaker}
-use Rattle.flow_lines.specs.declared.flow.FlowLine.{FlowLine}
 use Rattle.packet_walk.specs.declared.packet.PacketIn.{PacketIn}
 use Rattle.capture_reader.specs.Frame.{packet_in}
 use Rattle.capture_reader.specs.Reader.{file_name_of}
 use Rattle.label_audit.specs.inside.Grammar.{nothing_counted}
-use Rattle.label_audit.specs.inside.Reading.{HasRead, StandsIn, IsJudgedTo, file_of}
+use Rattle.label_audit.specs.inside.Reading.{IsJudgedTo, file_of}
 use Rattle.label_audit.specs.inside.Flow.{packets_awaited, behind_flow, left_by, inputs_of, capture_packets, HasBegunReading}
 use Rattle.label_audit.proofs.Frames.{read_on, read_err, read_capture, read_file, read_told}
-use Rattle.label_audit.proofs.CaptureJudged.{input_named, IsWhole, none_begun, no_fault, few_frames, packets_left}
+use Rattle.label_audit.proofs.CaptureJudged.{input_named, none_begun, no_fault, few_frames, packets_left}
 use Rattle.label_audit.proofs.flow.judge_capture.Goals as goal
 
 pub returns-in_err-begin_capture-clause-read : goal.returns-in_err-begin_capture-clause-read

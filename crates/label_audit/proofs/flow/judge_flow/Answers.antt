@@ -1,15 +1,14 @@
-use Rattle.std.proofs.Common.{◌≡◌, ◌≤◌, ◌<◌, ◌+◌, ◌-◌, ℕ, List, [], ◌∷◌, length, Ok, Err, Some, Bool, true, false, sym, ap, ◌∙◌, subst, arith, refl}
+use Rattle.std.proofs.Common.{◌≡◌, ◌≤◌, ◌+◌, ◌-◌, ℕ, List, [], ◌∷◌, length, Ok, Err, Some, Bool, true, false, sym, ◌∙◌, subst, refl}
 use Rattle.std.specs.Prelude.{IsTrue, All, slice_get}
 use Rattle.std.proofs.lemmas.Result.{err_from_is_err_and, IfOk-weaker}
 use Rattle.flow_lines.specs.declared.flow.FlowLine.{FlowLine}
-use Rattle.label_commands.specs.Script.{before}
 use Rattle.packet_walk.specs.Stepping.{TablesAt}
 use Rattle.call_report.specs.Lines.Flow.{flow_line}
 use Rattle.label_audit.specs.inside.Grammar.{FlowsFrom, end_text_of, nothing_counted}
 use Rattle.call_report.specs.Lines.Reply.{replies_text}
-use Rattle.label_audit.specs.inside.Reading.{HasRead, StandsIn, IsExpected, IsJudgedTo, file_of}
+use Rattle.label_audit.specs.inside.Reading.{StandsIn, IsExpected, IsJudgedTo, file_of}
 use Rattle.label_audit.specs.inside.Flow.{inputs_of, packets_awaited, behind_flow, end_awaited, capture_packets}
-use Rattle.label_audit.proofs.Frames.{read_on, read_ok, read_err, read_same, read_file, read_told}
+use Rattle.label_audit.proofs.Frames.{read_on, read_ok, read_same, read_file, read_told}
 use Rattle.label_audit.proofs.ExpectedReplies.{expected_as}
 use Rattle.label_audit.proofs.PacketsJudged.{there_is}
 use Rattle.label_audit.proofs.FlowJudged.{whole_kept, before_is, front_judged, front_fails, back_judged, all_judged}

@@ -1,16 +1,14 @@
-use Rattle.std.proofs.Common.{◌≡◌, ◌≤◌, ◌<◌, ◌+◌, ℕ, List, ◌∷◌, length, Ok, Err, Some, Bool, true, false, sym, ap, ◌∙◌, subst, arith, refl}
-use Rattle.std.specs.Prelude.{IsTrue, slice_get}
+use Rattle.std.proofs.Common.{◌<◌, ◌+◌, ℕ, List, ◌∷◌, length, Ok, Err, Bool, false, ap, subst, arith}
+use Rattle.std.specs.Prelude.{IsTrue}
 use Rattle.std.proofs.lemmas.Result.{err_from_is_err_and}
-use Rattle.flow_lines.specs.declared.flow.FlowLine.{FlowLine}
 use Rattle.label_commands.specs.Script.{before}
-use Rattle.call_report.specs.Event.{packets_limit}
 use Rattle.label_audit.specs.inside.Grammar.{FlowsFrom}
 use Rattle.label_audit.specs.inside.Reading.{IsJudgedTo, file_of}
-use Rattle.label_audit.specs.inside.Flow.{Ready, inputs_of, flows_behind, done_awaited}
+use Rattle.label_audit.specs.inside.Flow.{Ready, inputs_of, flows_behind}
 use Rattle.label_audit.proofs.Frames.{read_on, read_ok, read_same, read_file, read_told}
 use Rattle.label_audit.proofs.PacketsJudged.{there_is}
 use Rattle.label_audit.proofs.FlowJudged.{whole_kept}
-use Rattle.label_audit.proofs.AllFlows.{JudgedFlows, rest, next_status, next_whole, next_judged, more_flows, last_flows}
+use Rattle.label_audit.proofs.AllFlows.{rest, next_status, next_whole, next_judged, more_flows, last_flows}
 use Rattle.label_audit.proofs.flow.judge_flows.Goals as goal
 
 pub judge_flow-requires-clause-whole : goal.judge_flow-requires-clause-whole

@@ -1,4 +1,4 @@
-use Rattle.std.proofs.Common.{◌-◌, ◌≡◌, ◌≤◌, ◌<◌, ℕ, List, length, Ok}
+use Rattle.std.proofs.Common.{◌-◌, ◌≡◌, ◌≤◌, length, Ok}
 use Rattle.std.specs.Prelude.{IsTrue}
 use Rattle.label_commands.specs.Script.{before}
 use Rattle.node_tables.specs.Steps.{tables_after}

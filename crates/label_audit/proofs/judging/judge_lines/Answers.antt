@@ -1,16 +1,12 @@
-use Rattle.std.proofs.Common.{◌≡◌, ◌≤◌, ◌<◌, ◌+◌, ◌-◌, ℕ, List, length, Ok, Err, Bool, true, false, sym, ap, ◌∙◌, subst, arith, refl}
+use Rattle.std.proofs.Common.{ℕ, List, length, Ok, Err, Bool, false, sym, subst}
 use Rattle.std.specs.Prelude.{IsTrue, All}
 use Rattle.std.proofs.lemmas.Result.{err_from_is_err_and, IfOk-weaker}
 use Rattle.address_text.specs.Name.{IsNameText}
-use Rattle.label_commands.specs.Script.{before}
 use Rattle.call_report.specs.Event.{packets_limit}
-use Rattle.call_report.specs.Lines.Fixed.{done_line}
-use Rattle.call_report.specs.Lines.Reply.{replies_text}
 use Rattle.label_audit.specs.inside.Grammar.{FlowsFrom, ScriptFrom}
-use Rattle.label_audit.specs.inside.Reading.{HasRead, StandsIn, IsExpected, IsJudgedTo, file_of}
-use Rattle.label_audit.specs.inside.Flow.{inputs_of, done_awaited, ended_awaited}
+use Rattle.label_audit.specs.inside.Reading.{StandsIn, IsExpected, IsJudgedTo, file_of}
+use Rattle.label_audit.specs.inside.Flow.{inputs_of, done_awaited}
 use Rattle.label_audit.proofs.Frames.{read_on, read_ok, read_memory, read_same, read_file, read_told}
-use Rattle.label_audit.proofs.ExpectedReplies.{expected_as}
 use Rattle.label_audit.proofs.WholeReport.{status_map, first_expected, flows_judged, end_judged}
 use Rattle.label_audit.proofs.judging.judge_lines.Goals as goal
 

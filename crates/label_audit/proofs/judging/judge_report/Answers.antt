@@ -1,8 +1,8 @@
-use Rattle.std.proofs.Common.{◌≡◌, ◌<◌, ◌+◌, ℕ, List, length, Bool, true, false, sym, ap, ◌∙◌, subst, arith, refl}
-use Rattle.std.specs.Prelude.{IsTrue, nat_lt}
+use Rattle.std.proofs.Common.{◌≡◌, ℕ, List, length, Bool, ap, ◌∙◌, subst}
+use Rattle.std.specs.Prelude.{nat_lt}
 use Rattle.label_audit.specs.declared.place.Place.{Place}
 use Rattle.label_audit.specs.inside.Grammar.{ScriptFrom}
-use Rattle.label_audit.specs.inside.Reading.{StandsIn, IsJudgedTo, file_of}
+use Rattle.label_audit.specs.inside.Reading.{IsJudgedTo, file_of}
 use Rattle.label_audit.specs.inside.Flow.{inputs_of, ended_awaited}
 use Rattle.label_audit.proofs.Frames.{read_file, read_told}
 use Rattle.label_audit.proofs.Places.{differ_one}

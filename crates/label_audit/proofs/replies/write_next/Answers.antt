@@ -1,9 +1,9 @@
-use Rattle.std.proofs.Common.{◌≡◌, ◌<◌, ◌+◌, ◌++◌, [], length, refl, ap, sym, ◌∙◌, Some, arith}
+use Rattle.std.proofs.Common.{◌≡◌, ◌<◌, ◌++◌, length, refl, ap, sym, ◌∙◌, Some, arith}
 use Rattle.std.specs.Prelude.{slice_get}
 use Rattle.std.proofs.lemmas.Option.{slice_get_read}
 use Rattle.std.proofs.lemmas.Result.{on_ok_weaker}
 use Rattle.script_lines.specs.declared.command.Step.{Step}
-use Rattle.call_report.specs.Lines.Reply.{reply_text, reply_line_at}
+use Rattle.call_report.specs.Lines.Reply.{reply_text}
 use Rattle.label_audit.proofs.Replying.{at_place, one_on, as_many, answered, on_ok_of}
 use Rattle.label_audit.proofs.replies.write_next.Goals as goal
 

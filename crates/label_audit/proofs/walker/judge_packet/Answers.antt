@@ -1,6 +1,6 @@
-use Rattle.std.proofs.Common.{◌≡◌, ◌<◌, ◌++◌, List, ℕ, [], Ok, Bool, true, false, drop, length, sym, ap, ◌∙◌, subst, arith, refl}
-use Rattle.std.specs.Prelude.{◌^◌, IsTrue}
-use Rattle.report_file.specs.Meeting.{IsMet, lines_in}
+use Rattle.std.proofs.Common.{◌≡◌, ◌<◌, ◌++◌, List, ℕ, [], Ok, Bool, drop, sym, ap, ◌∙◌, subst, arith, refl}
+use Rattle.std.specs.Prelude.{◌^◌}
+use Rattle.report_file.specs.Meeting.{IsMet}
 use Rattle.report_file.specs.declared.meeting.Met.{Met}
 use Rattle.label_audit.specs.inside.Reading.{file_of}
 use Rattle.label_audit.specs.inside.Packet.{IsWritten}

@@ -1,4 +1,4 @@
-use Rattle.std.proofs.Common.{◌≡◌, ◌≤◌, ℕ, length, sym, ap, ◌∙◌, subst, le_refl, Err}
+use Rattle.std.proofs.Common.{◌≡◌, length, sym, ap, ◌∙◌, subst, le_refl, Err}
 use Rattle.packet_walk.specs.declared.stop.VersionsStop.TheVariants.{TooFew, TooMany}
 use Rattle.packet_walk.specs.Walk.{Rises}
 use Rattle.label_audit.proofs.Naming.{rises_all, met_last, too_few, too_many}
