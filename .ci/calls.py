@@ -189,12 +189,12 @@ NAMES = [
     names("a file of the program's own folder", [], words=[b"show", b"README.md"], status=3, report=b""),
     names("a capture by another spelling", [], words=[b"show", b"./b.pcap"], status=0, report=b"packet 1 NotIp\nend packets 1\n"),
 ]
-# The report goes to a file of the folder with this name.
-PRINTED = "printed"
+# The report goes to a file of the folder with this name, which no example has.
+PRINTED = "printed-by-this-call"
 OF_REPORT = [
-    names("the report's file", ["b.pcap printed"], status=3, report=BEGUN),
+    names("the report's file", [f"b.pcap {PRINTED}"], status=3, report=BEGUN),
     names("standard output", ["b.pcap /dev/stdout"], status=3, report=BEGUN),
-    names("the report's file as a capture to be made", [], words=[b"make", b"7", b"3", b"printed"], status=3, report=b""),
+    names("the report's file as a capture to be made", [], words=[b"make", b"7", b"3", PRINTED.encode()], status=3, report=b""),
 ]
 # What `rt try` can't answer.
 UNANSWERED = [names("a report of more than 1 MiB", ["b.pcap o.pcap"], status=NO_ANSWER, report=b"", more=many)]
