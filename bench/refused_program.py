@@ -2,8 +2,8 @@
 
     python3 bench/refused_program.py [--times N] [--program PROGRAM]
 
-The calls are the examples of `judge`, `show`, `check`, `agree` and `make`, the one that crosses from version to version and back, and a script with a
-command between its flows. Of each call every allocation is refused in turn, those of its threads too, by bench/refused.c, which is loaded before the
+The calls are the examples of `judge`, `show`, `check`, `agree` and `make`, the one that crosses from version to version and back, those of the programs beside
+`netlabel`, and a script with a command between its flows. Of each call every allocation is refused in turn, those of its threads too, by bench/refused.c, which is loaded before the
 program. The status has to be 6 with a beginning of the report, and of each output; or the report and the outputs have to be whole, with their
 status. Where commands run beside packets, each of the reports that are lawful will do. Each call has to have an allocation that was refused, and one
 of them to end with 6. Then each thread of a call is refused in turn, alone and with all behind it: the call has to end whole. A call that doesn't end
@@ -19,9 +19,12 @@ import tempfile
 
 import scratch
 
-PROGRAM = scratch.TOP / "crates/netlabel_cmd/out/netlabel_cmd"
 NO_MEMORY = 6
-EXAMPLES = ["first-packet", "show", "check", "disagree", "make", "crossing"]
+# Examples, each with the end of the names of its files.
+EXAMPLES = [
+    ("first-packet", ""), ("show", ""), ("check", ""), ("disagree", ""), ("make", ""), ("crossing", ""), ("cover", ""), ("audit", ""), ("audit", "-changed"),
+    ("reports", ""), ("reports", "-json"), ("reports", "-other"), ("ripso-border", ""), ("ripso-border", "-out"),
+]
 
 SCRIPT = """node r
 unlbl accept on
@@ -58,8 +61,11 @@ def between(packet, counts):
 class Call:
     """A call of the program: the folder that it runs in, its words, and how it may end."""
 
-    def __init__(self, folder, words, reports, status, wanted):
-        self.folder, self.words, self.reports, self.status, self.wanted = folder, words, reports, status, wanted
+    def __init__(self, folder, words, reports, status, wanted, program="netlabel"):
+        self.folder, self.words, self.reports, self.status, self.wanted, self.program = folder, words, reports, status, wanted, program
+
+    def __str__(self):
+        return " ".join([self.program, *self.words])
 
     def is_right(self, status, printed, made):
         if status == NO_MEMORY:
@@ -68,11 +74,20 @@ class Call:
         return status == self.status and printed in self.reports and made == self.wanted
 
 
-def example(name):
+def example(name, end):
     folder = scratch.TOP / "examples" / name
-    wanted = {path.name: path.read_bytes() for path in (folder / "wanted").glob("*")}
-    status = int((folder / "status").read_text()) if (folder / "status").exists() else 0
-    return Call(folder, (folder / "words").read_text().splitlines(), [(folder / "report").read_bytes()], status, wanted)
+    wanted = {path.name: path.read_bytes() for path in (folder / f"wanted{end}").glob("*")}
+    status, program = folder / f"status{end}", folder / f"program{end}"
+    return Call(
+        folder, (folder / f"words{end}").read_text().splitlines(), [(folder / f"report{end}").read_bytes()], int(status.read_text()) if status.exists() else 0, wanted,
+        program.read_text().strip() if program.exists() else "netlabel",
+    )
+
+
+def built(program):
+    """Where a program is built, by its name."""
+    rooms = [scratch.TOP / "crates" / room / "out" / room for room in (f"{program}_cmd", program)]
+    return next(path for path in rooms if path.exists())
 
 
 def commands_between(folder):
@@ -83,25 +98,26 @@ def commands_between(folder):
 
 
 class Refuser:
-    """Runs calls of a program, of which something is refused."""
+    """Runs calls of the programs, of which something is refused; those of `netlabel` by another build of it, if one is given."""
 
-    def __init__(self, program, top):
-        self.program, self.library, self.counted = program, top / "refused.so", top / "counted"
+    def __init__(self, netlabel, top):
+        self.netlabel, self.library, self.counted = netlabel, top / "refused.so", top / "counted"
         subprocess.run(["cc", "-O2", "-shared", "-fPIC", "-o", self.library, scratch.TOP / "bench/refused.c"], check=True)
 
     def run(self, call, **what):
         """The status that a call ends with, and how many allocations and threads it asked for."""
+        program = self.netlabel if call.program == "netlabel" and self.netlabel else built(call.program)
         with tempfile.TemporaryDirectory() as made:
             here = shutil.copytree(call.folder, pathlib.Path(made) / "here")
             given = {path.name for path in here.iterdir()}
             words = {"LD_PRELOAD": str(self.library), "COUNTED": str(self.counted)} | {name: str(number) for name, number in what.items()}
             try:
-                run = subprocess.run([self.program, *call.words], cwd=here, env=words, capture_output=True, timeout=60)
+                run = subprocess.run([program, *call.words], cwd=here, env=words, capture_output=True, timeout=60)
             except subprocess.TimeoutExpired:
-                raise SystemExit(f"{' '.join(call.words)}, {what}: hangs")
+                raise SystemExit(f"{call}, {what}: hangs")
             left = {path.name: path.read_bytes() for path in here.iterdir() if path.name not in given}
         if not call.is_right(run.returncode, run.stdout, left):
-            raise SystemExit(f"{' '.join(call.words)}, {what}: status {run.returncode}, {run.stdout!r}, {sorted(left)}, {run.stderr!r}")
+            raise SystemExit(f"{call}, {what}: status {run.returncode}, {run.stdout!r}, {sorted(left)}, {run.stderr!r}")
         return run.returncode, *struct.unpack("ll", self.counted.read_bytes())
 
 
@@ -115,7 +131,7 @@ def refuse_memory(refuser, call, times):
             ends[status] += 1
             reached += asked_for >= number
     if not reached or not ends[NO_MEMORY]:
-        raise SystemExit(f"{' '.join(call.words)}: of {count} allocations {reached} were refused, and {ends[NO_MEMORY]} of these calls ended with 6")
+        raise SystemExit(f"{call}: of {count} allocations {reached} were refused, and {ends[NO_MEMORY]} of these calls ended with 6")
     told = ", ".join(f"status {status} {times} times" for status, times in sorted(ends.items()))
     return f"{count} allocations, each refused {times} times: {told}"
 
@@ -128,21 +144,21 @@ def refuse_threads(refuser, call, times):
             for _ in range(times):
                 status, _, _ = refuser.run(call, REFUSE_THREAD=number, **behind)
                 if status != call.status:
-                    raise SystemExit(f"{' '.join(call.words)}, thread {number}: status {status}")
+                    raise SystemExit(f"{call}, thread {number}: status {status}")
     return f"{count} threads, each refused {times} times alone and {times} with all behind it: ended whole"
 
 
 def main():
     options = argparse.ArgumentParser(description=__doc__, formatter_class=argparse.RawDescriptionHelpFormatter)
     options.add_argument("--times", type=int, default=3, help="how often each is refused, as threads go in different orders")
-    options.add_argument("--program", type=pathlib.Path, default=PROGRAM, help="another build of the program")
+    options.add_argument("--program", type=pathlib.Path, help="another build of netlabel")
     asked = options.parse_args()
     with tempfile.TemporaryDirectory() as made:
         top = pathlib.Path(made)
-        refuser = Refuser(asked.program.resolve(), top)
-        for call in [*map(example, EXAMPLES), commands_between(top / "between")]:
+        refuser = Refuser(asked.program and asked.program.resolve(), top)
+        for call in [*(example(*it) for it in EXAMPLES), commands_between(top / "between")]:
             said = refuse_memory(refuser, call, asked.times), refuse_threads(refuser, call, asked.times)
-            print(f"{' '.join(call.words)}: {'; '.join(said)}", flush=True)
+            print(f"{call}: {'; '.join(said)}", flush=True)
 
 
 if __name__ == "__main__":
