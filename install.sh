@@ -103,7 +103,7 @@ unbuilt() {
 install_all() {
     unready=$(unbuilt)
     [ -z "$unready" ] || refuse "the proved $unready isn't built yet, or a source is newer than it." \
-        "Run $here/prove first: it proves and builds all programs and the library, which takes 36 minutes on four processors from nothing."
+        "Run $here/prove first: it proves and builds all programs and the library, which takes about an hour on four processors from nothing."
     closed=$(can_write)
     [ -z "$closed" ] || refuse "$closed can't be written: run this as somebody who may, or give another PREFIX."
     version=$(cat "$here/VERSION")

@@ -42,11 +42,11 @@ for name, text in texts.items():
             if "://" not in target and not (top / name).parent.joinpath(target).exists():
                 failures.append(f"{name}: broken link: {target}")
 
-# Each crate has its row.
+# Each crate has its row, but those of tests.
 uses = {line.split(":")[0].split()[0]: line.split(":")[1].split() for line in texts["crates.txt"].splitlines() if ":" in line and not line.startswith("#")}
 crates = list(uses)
 for crate in crates:
-    if not re.search(rf"^## `{crate}`", texts["docs/proved.md"], re.M):
+    if not crate.endswith("_tests") and not re.search(rf"^## `{crate}`", texts["docs/proved.md"], re.M):
         failures.append(f"docs/proved.md: no part on `{crate}`")
 
 # A crate's files name no crate of the repository but those that its line of crates.txt has: a check finds that only once all below is proved.
@@ -56,9 +56,17 @@ for name, text in texts.items():
         lacking = named - {found.group(1), *uses[found.group(1)]}
         failures += [f"{name}: names {crate}, which its crate's line of crates.txt lacks" for crate in sorted(lacking)]
 
+# And its line has no library that none of its files names: rt follows each path through these lines again and again.
+for crate, libraries in uses.items():
+    own = "".join(text for name, text in texts.items() if re.match(rf"crates/{crate}/(?:src|specs|proofs)/.*\.(?:rt|antt)$", name))
+    failures += [f"crates.txt: no file of {crate} names {library}" for library in libraries if not re.search(rf"\b{library}(?:::|\.)", own)]
+
+# `rt all`, by which `prove` proves, stops at a link.
+failures += [f"{path.name} is a link" for path in sorted(top.iterdir()) if path.is_symlink()]
+
 # Tests alone name test material, so that nobody has to believe it.
 for name, text in texts.items():
-    if re.match(r"crates/(?!worked_)\w+/(?:src/(?!tests[./])|specs/|proofs/(?!tests/)).*\.(?:rt|antt)$", name):
+    if re.match(r"crates/(?!worked_|\w+_tests/)\w+/(?:src/(?!tests[./])|specs/|proofs/(?!tests/)).*\.(?:rt|antt)$", name):
         failures += [f"{name}: names {crate}, which is for tests alone" for crate in sorted(set(re.findall(r"\bworked_(?:values|networks)\b", text)))]
 
 # Functions have few arguments, and clauses short lines.

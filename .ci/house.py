@@ -348,7 +348,7 @@ class Crate:
         return None
 
     def exported(self, names=()):
-        """The items of the crate that can be named from outside: those of public modules and what these export. All of a program counts."""
+        """The items of the crate that can be named from outside: those of public modules and what these export. All of a program's `main.rt` counts."""
         source = self.sources.get(names)
         for item in source.items if source else []:
             if not item.owner and (item.is_public or self.is_program):

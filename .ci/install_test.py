@@ -20,7 +20,7 @@ INSTALLED = ["bin/netlabel", "share/man/man1/netlabel.1", "share/bash-completion
              "share/bash-completion/completions/netlabel_report", "share/zsh/site-functions/_netlabel_report", "lib/libnetlabel_codec.a", "lib/pkgconfig/netlabel.pc", "include/netlabel.h",
              "share/man/man3/netlabel.3", "share/doc/netlabel/docs/guide.md", "share/doc/netlabel/LICENSE-MIT", "share/doc/netlabel/examples/site/site"]
 # The crates of the programs, with the names that these are called by.
-PROGRAMS = {"netlabel_cmd": "netlabel", "netlabel_cover": "netlabel_cover", "netlabel_audit": "netlabel_audit", "ripso_border": "ripso_border", "netlabel_report": "netlabel_report"}
+PROGRAMS = {"netlabel_run": "netlabel", "netlabel_cover": "netlabel_cover", "netlabel_audit": "netlabel_audit", "ripso_border_run": "ripso_border", "netlabel_report": "netlabel_report"}
 LIBRARY = "netlabel_codec"
 # What stands on the line, and the words that complete it, in a folder with the files below.
 FILES = ["site", "site.pcap", "with blank", "-dash", "sub/one.pcap"]
@@ -28,7 +28,8 @@ COMPLETED = {
     "netlabel ": "agree check judge make run show", "netlabel s": "show", "netlabel show s": "site site.pcap sub", "netlabel run site": "site site.pcap",
     "netlabel run site ": "-w", "netlabel run site -w 1": "1 10 11 12 13 14 15 16", "netlabel judge ": "", "netlabel judge 16 s2:c0.c5 si": "site site.pcap",
     "netlabel make 7 ": "", "netlabel make 7 3 si": "site site.pcap", "netlabel agree si": "site site.pcap", "netlabel agree site ": "", "netlabel show sub/": "sub/one.pcap", "netlabel show w": "", "netlabel show site ": "", "netlabel frob s": "",
-    "netlabel_report ": "-e csv denied json summary", "netlabel_report -e ": "csv denied json summary", "netlabel_report s": "summary", "netlabel_report -e json si": "site site.pcap",
+    "netlabel_report ": "-e -s csv denied json summary", "netlabel_report -e ": "-s csv denied json summary", "netlabel_report s": "summary", "netlabel_report -s si": "site site.pcap",
+    "netlabel_report -e -s si": "site site.pcap", "netlabel_report -s site ": "csv denied json summary", "netlabel_report -e -s site j": "json", "netlabel_report -s site csv si": "site site.pcap", "netlabel_report -e json si": "site site.pcap",
     "netlabel_report denied site sub/": "sub/one.pcap", "netlabel_report csv -": "",
     "netlabel_cover si": "site site.pcap", "netlabel_cover sub/": "sub/one.pcap", "netlabel_cover -": "", "netlabel_cover site ": "",
     "ripso_border ": "in out", "ripso_border o": "out", "ripso_border in si": "site site.pcap", "ripso_border in site ": "",
@@ -121,7 +122,7 @@ def test_install(tree, made):
     refused = run(tree / "install.sh", prefix)
     tell("refuses where the library isn't proved", refused.returncode == 1 and LIBRARY in refused.stderr and not prefix.exists(), refused.stderr)
     build_library(tree)
-    source = tree / "crates/netlabel_cmd/src/newer.rt"
+    source = tree / "crates/netlabel_run/src/newer.rt"
     source.write_text("")
     os.utime(source, (2**32, 2**32))
     refused = run(tree / "install.sh", prefix)

@@ -164,10 +164,10 @@ def without_what_it_needs():
         for tool in ("readlink", "sed", "grep", "awk", "find"):
             (folder / tool).symlink_to(subprocess.check_output(["which", tool], text=True).strip())
         (folder / "netlabel").write_bytes((TOP / "netlabel").read_bytes())
-        main = folder / "crates/netlabel_cmd/src/main.rt"
+        main = folder / "crates/netlabel_run/src/main.rt"
         main.parent.mkdir(parents=True)
         main.write_text("")
-        (folder / "crates.txt").write_text("netlabel_cmd:\n")
+        (folder / "crates.txt").write_text("netlabel_run:\n")
         for missing in ("isn't the netlabel repository", "rt isn't on the path"):
             ran = called(["/bin/sh", folder / "netlabel", "show", "x"], env={"PATH": made})
             is_told = ran.returncode == calls.NO_ANSWER and not ran.stdout and missing in ran.stderr.decode()

@@ -2,10 +2,11 @@
 # Which programs and libraries for C this repository has, where they are, and whether one is current. For `netlabel`, `prove` and `install.sh`, which set
 # `here`, the repository's folder, before they read this file.
 
-# The programs, by the names that they are called by: the crates of crates.txt that have a `main`. The ending `_cmd` of a crate is no part of the name.
+# The programs, by the names that they are called by: the crates of crates.txt that have a `main`. The ending `_run` of a crate is no part of the name.
 programs() {
     sed -n 's/^\([a-z][a-z0-9_]*\)[^:]*:.*/\1/p' "${here:?}/crates.txt" | while read -r crate_name; do
-        [ ! -f "$here/crates/$crate_name/src/main.rt" ] || echo "${crate_name%_cmd}"
+        [ -f "$here/crates/$crate_name/src/main.rt" ] || continue
+        echo "${crate_name%_run}"
     done
 }
 
@@ -33,8 +34,9 @@ named_by() {
 
 # Turns to a program: its crate, the crate's folder, and where it is built.
 use_program() {
-    room=$1
-    [ ! -d "$here/crates/$1_cmd" ] || room=$1_cmd
+    for room in "$1_run" "$1"; do
+        [ ! -f "$here/crates/$room/src/main.rt" ] || break
+    done
     crate=$here/crates/$room
     program=$crate/out/$room
 }

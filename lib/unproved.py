@@ -46,7 +46,8 @@ MOST_REPORT_OCTETS = 1 << 28
 def crate_of(program):
     """The folder of a program's crate."""
     crates = TOP / "crates"
-    return next(folder for folder in (crates / f"{program}_cmd", crates / program) if folder.is_dir())
+    folders = [crates / (program + ending) for ending in ("_run", "")]
+    return next(folder for folder in folders if (folder / "src/main.rt").is_file())
 
 
 class NoAnswer(Exception):
@@ -415,15 +416,18 @@ def lend_report(folder, own, name):
 
 
 def asking_reports(trial, folder, words, form):
-    """Of reports: each is read once, in the order of the words. No name of a file is printed."""
+    """Of reports: each is read once, in the order of the words, behind the script where one is named. No name of a file is printed."""
     reports = [words[place] for place in form.reads] or [b"/dev/stdin"]
-    way = len(words) - len(form.reads)
+    front = list(words[: len(words) - len(form.reads)])
+    scripts = [] if form.script is None else [words[form.script]]
+    for name in scripts:
+        front[form.script] = Script(name).lend_as_it_is(folder, trial.lent)
     names = [lend_report(folder, f"report-{number}", name) for number, name in enumerate(reports, 1)]
-    asked = trial.ask([*words[:way], *names])
+    asked = trial.ask([*front, *names])
 
     def finish():
         answer = asked()
-        for name in reports if answer.status == 3 else []:
+        for name in [*scripts, *reports] if answer.status == 3 else []:
             say_unread(name)
         return answer
 
@@ -481,11 +485,14 @@ WAYS = (b"summary", b"denied", b"json", b"csv")
 
 
 def form_of_reports(words):
-    """Of `netlabel_report`: any number of reports, behind the way in which they are told and `-e` in front of it."""
+    """Of `netlabel_report`: any number of reports, behind the way in which they are told, with `-e` and then `-s` and a script in front of it."""
     way = 1 if words[:1] == [b"-e"] else 0
+    script = way + 1 if words[way : way + 1] == [b"-s"] else None
+    if script is not None:
+        way = script + 1
     if way >= len(words) or words[way] not in WAYS:
         return None
-    return Form(reads=tuple(range(way + 1, len(words))), ask=asking_reports)
+    return Form(script=script, reads=tuple(range(way + 1, len(words))), ask=asking_reports)
 
 
 def asking(trial, folder, words):

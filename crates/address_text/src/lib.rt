@@ -14,6 +14,3 @@ pub use address::{Address, read_address};
 pub use name::{Name, read_name};
 pub use prefix::{Prefix, read_prefix};
 pub use writing::{write_address, write_prefix};
-
-#[cfg(test)]
-mod tests;

@@ -11,8 +11,6 @@ pub mod laws;
 mod layout;
 mod read;
 mod table;
-#[cfg(test)]
-mod tests;
 mod write;
 
 pub use bounds::{HIGHEST_CATEGORY, MOST_OCTETS, MOST_WORDS};

@@ -40,6 +40,3 @@ pub use script::{write_ok, write_script_stop};
 pub use seen::{FlowSeen, Seen};
 pub use status::Status;
 pub use walked::WalkLines;
-
-#[cfg(test)]
-mod tests;

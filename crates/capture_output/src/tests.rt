@@ -1,5 +1,5 @@
 use super::*;
-use net_io::{IoFault, MemoryDepot};
+use net_io::MemoryDepot;
 use pcap_frames::FrameHead;
 
 const HEAD: FrameHead = FrameHead {
@@ -27,16 +27,4 @@ fn a_capture_is_made_in_pieces(rt: HostRuntime) {
         &made[17096..],
         b"\x01\0\0\0\x02\0\0\0\x03\0\0\0\x03\0\0\x00123".as_slice()
     );
-}
-
-#[test]
-fn faults_are_told(rt: HostRuntime) {
-    let alloc = rt.alloc();
-    let mut depot = MemoryDepot::new(alloc, &[1, 3], 100000).expect(&rt, "memory");
-    let refused = create_capture(alloc, &mut depot, "c", false);
-    assert_eq!(rt; refused.err(), Some(IoFault::Failed));
-    let mut waits = create_capture(alloc, &mut depot, "c", false).expect(&rt, "made");
-    let refused = append_rest(&mut depot, "c", &mut waits);
-    assert_eq!(rt; refused, Err(IoFault::Failed));
-    assert_eq!(rt; depot.get("c"), Some(b"".as_slice()));
 }

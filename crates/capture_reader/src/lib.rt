@@ -12,8 +12,6 @@ mod frames;
 pub mod laws;
 mod packet;
 mod reader;
-#[cfg(test)]
-mod tests;
 
 pub use fault::{FileFault, ReadStop};
 pub use format::CaptureFormat;

@@ -11,21 +11,7 @@ use std::mem;
 /// Takes the memory of a packet, and leaves one of no octets.
 pub(crate) fn taken(alloc: Global, packet: &mut PacketIn) -> Vec<u8> {
     let bytes = mem::replace(&mut packet.bytes, Octets::of(Vec::new(alloc)));
-    bytes.into_vec()
-}
-
-/// The octets behind the first ones, in the same memory.
-fn without_front(octets: Vec<u8>, front: usize) -> Vec<u8>
-    requires { front ≤ length octets.items }
-    ensures { result.items ≡ drop front octets.items }
-{
-    let mut octets = octets;
-    if front > 0 {
-        let left = octets.len() - front;
-        octets.copy_within(front.., 0);
-        octets.truncate(left);
-    }
-    octets
+    bytes.into_room()
 }
 
 /// How many octets stand in front of the packet in a frame of this link type.
@@ -46,7 +32,7 @@ pub(crate) fn packet_of(link: u32, octets: Vec<u8>) -> PacketIn
     let Some(front) = front_of(link, &octets) else {
         return no_packet(octets);
     };
-    let bytes = Octets::of(without_front(octets, front));
+    let bytes = Octets::behind(octets, front);
     PacketIn { bytes, is_ip: true }
 }
 

@@ -8,6 +8,3 @@ mod write;
 
 pub use read::read_bitmap;
 pub use write::{octets_of, write_bitmap};
-
-#[cfg(test)]
-mod tests;

@@ -1,6 +1,6 @@
 //! Reading: each stretch of ones becomes one run of the set.
 
-ghost use Rattle.std.specs.Prelude.{◌≡◌, ℕ, Some, None, not, ◌+◌, ◌*◌, ◌-◌, ◌<◌, ◌≤◌, ◌||◌, ◌==◌, length, IsTrue, IfSome, MatchOption};
+ghost use Rattle.std.specs.Prelude.{◌≡◌, ℕ, Some, None, not, ◌+◌, ◌*◌, ◌-◌, ◌<◌, ◌≤◌, ◌||◌, ◌==◌, length, List, IsTrue, IfSome, MatchOption};
 ghost use Rattle.std.specs.Int.{bit_at};
 ghost use Rattle.mls_label.specs.Cats.{has, is_within, cats_where};
 ghost use Rattle.mls_label.specs.Runs.{runs_of};
@@ -18,12 +18,33 @@ pub fn read_bitmap(bitmap: &[u8], cats: &mut CatSet)
 {
     cats.clear();
     let mut begun = None;
-    for at in 0..bitmap.len() {
+    // Most octets have no bit.
+    let mut at = behind_zeros(bitmap, 0);
+    while at < bitmap.len() {
         begun = read_octet(bitmap, at, begun, cats);
+        at += 1;
+        if begun.is_none() {
+            at = behind_zeros(bitmap, at);
+        }
     }
     if let Some(first) = begun {
         cats.append_run(first, (8 * bitmap.len() - 1) as u16);
     }
+}
+
+// Goes over the octets without a bit from this place on, at which no run goes on.
+fn behind_zeros(bitmap: &[u8], from: usize) -> usize
+    requires { from ≤ length bitmap.now }
+    ensures start { from ≤ result }
+    ensures end { result ≤ length bitmap.now }
+    ensures read { (cats : List ℕ) → IsRead bitmap.now cats None (8 * from)
+        → IsRead bitmap.now cats None (8 * result) }
+{
+    let mut at = from;
+    while at < bitmap.len() && bitmap[at] == 0 {
+        at += 1;
+    }
+    at
 }
 
 // Reads an octet. What is begun is the run of ones that goes on to the place where reading is, as its first category.
@@ -53,10 +74,6 @@ fn read_runs(bitmap: &[u8], at: usize, from: u32, cats: &mut CatSet) -> Option<u
     ensures { IsRead bitmap.now cats.new result (8 * (at + 1)) }
 {
     let octet = bitmap[at];
-    // Most octets have no bit.
-    if octet == 0 {
-        return None;
-    }
     let mut place = from;
     while place < 8 {
         let start = next_in_octet(octet, place, true);

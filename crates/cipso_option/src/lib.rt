@@ -13,6 +13,3 @@ pub use bounds::MOST_OCTETS;
 pub use cipso::Cipso;
 pub use read::{CipsoHead, read_cipso, read_cipso_into};
 pub use write::{first_tag, write_cipso};
-
-#[cfg(test)]
-mod tests;

@@ -15,6 +15,3 @@ pub use bounds::{HIGHEST_IN_BITMAP, MOST_CATEGORIES, MOST_RANGES, TAG_OCTETS};
 pub use header::{has_length, tag_of_type};
 pub use tag::{read_tag, read_tag_into};
 pub use write::{append_tag, can_express, type_octet, write_tag};
-
-#[cfg(test)]
-mod tests;

@@ -24,6 +24,3 @@ pub use ranges::{
     read_receiver_range, read_static_range, write_receiver_range, write_static_range,
 };
 pub use tags::Tags;
-
-#[cfg(test)]
-mod tests;

@@ -14,6 +14,3 @@ pub use file_name::FileName;
 pub use process::words_of;
 pub use versions::{NamedVersions, read_number};
 pub use workers::Workers;
-
-#[cfg(test)]
-mod tests;

@@ -11,8 +11,6 @@ mod numbers;
 mod plan;
 mod sorted;
 mod table;
-#[cfg(test)]
-mod tests;
 mod translate;
 mod unmapped;
 

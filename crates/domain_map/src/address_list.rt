@@ -140,6 +140,7 @@ impl AddressList {
     }
 
     /// The protocol of the longest prefix that holds the address.
+    #[inline(always)]
     pub fn find(&self, address: &Address) -> Option<Protocol>
         ensures { result ≡ option_map (λ e. e.1) (longest (λ e. e.0) address.now self.now) }
     {

@@ -21,6 +21,3 @@ pub use map::DomainMap;
 pub use named::value_of;
 pub use protocol::Protocol;
 pub use static_map::StaticMap;
-
-#[cfg(test)]
-mod tests;

@@ -50,6 +50,7 @@ impl DomainMap {
     #[tactic(auto, unfolding(crate::specs::Domains::find_of))]
     /// The protocol of a domain towards an address: by the domain's entry, or else by the default one. An entry with addresses
     /// gives that of the longest prefix that holds the address, and `None` where none does.
+    #[inline(always)]
     pub fn find(&self, domain: &Name, address: &Address) -> Option<Protocol>
         ensures { result ≡ find_of self.now domain.now address.now }
     {

@@ -12,6 +12,7 @@ use indexmap::IndexMap;
 const FEW: usize = 8;
 
 /// The value of a name; `None` is the default one.
+#[inline(always)]
 pub fn value_of<'a, V>(entries: &'a IndexMap<Option<Name>, V>, name: Option<&Name>) -> Option<&'a V>
     ensures { option_copied result ≡ lookup
         (same_domain (option_copied name.entry)) entries.now.entries }

@@ -67,6 +67,7 @@ impl Rule {
     }
 
     /// The protocol towards an address.
+    #[inline(always)]
     pub fn find(&self, address: &Address) -> Option<Protocol>
         ensures { result ≡ protocol_of self.now address.now }
     {

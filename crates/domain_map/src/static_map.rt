@@ -141,6 +141,7 @@ impl StaticMap {
     #[tactic(auto, unfolding(crate::specs::Statics::find_static_of))]
     /// The low and the high label of traffic that comes over an interface from an address: among the entries of the interface,
     /// if it has any, else among the default ones, those of the longest prefix that holds the address.
+    #[inline(always)]
     pub fn find(&self, interface: &Name, address: &Address) -> Option<(&Label, &Label)>
         ensures labels { option_map
             (λ r. (r.0.now, r.1.now)) result ≡ find_static_of self.now interface.now address.now }

@@ -5,8 +5,6 @@
 pub mod laws;
 mod order;
 mod reading;
-#[cfg(test)]
-mod tests;
 mod window;
 
 pub use order::OctetOrder;

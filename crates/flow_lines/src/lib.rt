@@ -21,6 +21,3 @@ pub use mls_label::KeptLabel;
 pub use node_names::NodeNames;
 pub use route::Route;
 pub use script_lines::{LimitName, LineFault, LineStop, OutOfMemory, ScriptKind, Word, words_into};
-
-#[cfg(test)]
-mod tests;

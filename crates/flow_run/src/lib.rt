@@ -18,6 +18,3 @@ mod source;
 pub use end::{FlowEnd, FlowPlace, FlowStop};
 pub use run::run_flow;
 pub use runner::Runner;
-
-#[cfg(test)]
-mod tests;

@@ -32,6 +32,3 @@ pub use sum::{ones_add, ones_sum};
 pub use version::Version;
 pub use writing4::write4;
 pub use writing6::write6;
-
-#[cfg(test)]
-mod tests;

@@ -175,6 +175,7 @@ impl<'a> Packet4<'a> {
 
 /// The header and the payload, where the fields are right that stand before the options.
 #[tactic(auto, unfolding(crate::specs::Header4::fixed_fault4))]
+#[inline(always)]
 pub(crate) fn split4(bytes: &[u8]) -> Result<(&[u8], &[u8]), HeadFault>
     ensures ok { IfOk result (λ x. IsSplit V4 bytes.now x.0.now x.1.now) }
     ensures err { IfErr result (λ fault. fixed_fault4 bytes.now ≡ Some fault) }

@@ -23,6 +23,7 @@ pub struct Parts<'a> {
 }
 
 /// The header and the payload, where the fields are right that stand before the options.
+#[inline(always)]
 fn split(version: Version, bytes: &[u8]) -> Result<(&[u8], &[u8]), HeadFault>
     ensures ok { IfOk result (λ x. IsSplit version bytes.now x.0.now x.1.now) }
     ensures err { IfErr result (λ fault. fixed_fault version bytes.now ≡ Some fault) }

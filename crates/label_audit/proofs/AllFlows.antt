@@ -1,22 +1,19 @@
 -- All flows of a script, one after the other.
-use Rattle.std.proofs.Common.{◌≡◌, ◌≤◌, ℕ, zero, suc, ◌+◌, ◌-◌, Bool, true, List, [], ◌∷◌, length, drop, Option, Some, None, Result, Ok, Err, refl, ap, ◌∙◌, subst, arith, le_trans}
+use Rattle.std.proofs.Common.{◌≡◌, ◌≤◌, ℕ, zero, suc, ◌+◌, ◌-◌, Bool, true, List, [], ◌∷◌, length, drop, Option, Some, refl, ap, ◌∙◌, subst, arith, le_trans}
 use Rattle.std.specs.Prelude.{slice_get}
 use Rattle.std.proofs.lemmas.Option.{none-some, same_Some}
 use Rattle.flow_lines.specs.declared.flow.FlowLine.{FlowLine}
 use Rattle.label_commands.specs.declared.script.Script.{Script}
-use Rattle.packet_walk.specs.Stepping.{TablesAt}
-use Rattle.capture_reader.specs.declared.fault.FileFault.{FileFault}
-use Rattle.capture_reader.specs.CaptureFile.{CaptureFile, capture_file}
 use Rattle.call_report.specs.Event.{packets_limit}
 use Rattle.call_report.specs.Report.{Folder}
-use Rattle.flow_run.specs.Input.{flow_input, input_by}
+use Rattle.flow_run.specs.Input.{flow_input}
 use Rattle.script_run.specs.Runs.{FlowsStatus, StatusOr}
 use Rattle.label_audit.specs.declared.place.Place.{Place}
 use Rattle.label_audit.specs.inside.Grammar.{FlowsFrom}
-use Rattle.label_audit.specs.inside.Reading.{StandsIn, IsJudgedTo}
-use Rattle.label_audit.specs.inside.Flow.{Ready, flows_behind, done_awaited}
-use Rattle.label_audit.proofs.Flows.{whole_input}
-use Rattle.label_audit.proofs.Judgings.{judged_on, judged_same, whole_frames}
+use Rattle.label_audit.specs.inside.Reading.{IsJudgedTo}
+use Rattle.label_audit.specs.inside.Flow.{flows_behind, done_awaited}
+use Rattle.label_audit.proofs.WholeInputs.{whole_input}
+use Rattle.label_audit.proofs.Judgings.{judged_on}
 use Rattle.label_audit.proofs.CaptureJudged.{IsWhole}
 
 pub drop_one : (xs : List FlowLine) (i : ℕ) (x : FlowLine) → slice_get xs i ≡ Some x → drop i xs ≡ x ∷ drop (i + 1) xs
@@ -34,17 +31,10 @@ drop_all (x ∷ xs) (suc i) few = drop_all xs i (omega (arith, few))
 
 -- ---- the capture of the next flow
 
-capture_by : (number most : ℕ) (file : List ℕ) (read : Result CaptureFile FileFault) (behind : Type 0) → capture_file file ≡ read → StatusOr (input_by number most read).event (input_by number most read).format behind 0
-    → (capture : CaptureFile) × (capture_file file ≡ Ok capture)
-capture_by number most file (Err fault) behind is h = absurd (omega (arith, h))
-capture_by number most file (Ok capture) behind is h = (capture, is)
-
 has_capture : (number most : ℕ) (held : Option (List ℕ)) (behind : Type 0) → most ≤ 1048576 → StatusOr (flow_input number most held).event (flow_input number most held).format behind 0 → IsWhole held
-has_capture number most None behind few h = absurd h
-has_capture number most (Some file) behind few h =
-    let read = capture_by number most file (capture_file file) behind refl h in
-    let whole = whole_frames number most (Some file) file read.0 behind refl read.1 h in
-    (file, read.0, refl, read.1, whole.fault, le_trans whole.few few)
+has_capture number most held behind few h =
+    let whole = whole_input number most held behind h in
+    (whole.file, whole.capture, whole.there, whole.read, whole.fault, le_trans whole.few few)
 
 module _ (script : Script) (w : ℕ) (held : Folder) (file : List ℕ) (a0 : Place) where
   abbrev Start : Bool → List ℕ → Type 0
@@ -56,9 +46,6 @@ module _ (script : Script) (w : ℕ) (held : Folder) (file : List ℕ) (a0 : Pla
     pub few : most ≤ 1048576
     pub status : FlowsStatus held (flow + 1) most (drop flow script.flows) 0
     pub judged : IsJudgedTo Start (FlowsFrom script w held (flow + 1) most (drop flow script.flows)) file a0 at true
-
-  pub first_flows : FlowsStatus held 1 packets_limit script.flows 0 → StandsIn file a0 → JudgedFlows 0 a0
-  first_flows status stands = record { most = packets_limit; few = omega arith; status = status; judged = judged_same Start Start file a0 stands (λ all text t. t) (λ all text t. t) }
 
   module _ (flow : ℕ) (at : Place) (j : JudgedFlows flow at) (line : FlowLine) (at_line : slice_get script.flows flow ≡ Some line) where
     abbrev pub rest : List FlowLine
@@ -88,6 +75,3 @@ module _ (script : Script) (w : ℕ) (held : Folder) (file : List ℕ) (a0 : Pla
 
   pub last_flows : (flow : ℕ) (at : Place) → length script.flows ≤ flow → JudgedFlows flow at → IsJudgedTo Start done_awaited file a0 at true
   last_flows flow at all j = subst (λ (fs : List FlowLine). IsJudgedTo Start (FlowsFrom script w held (flow + 1) j.most fs) file a0 at true) (drop_all script.flows flow all) j.judged
-
-pub ready_lower : (script : Script) (w low high : ℕ) (tables : List TablesAt) → low ≤ high → Ready script w low tables → Ready script w high tables
-ready_lower script w low high tables more r = record { many = r.many; plans = r.plans; low = λ k d less. le_trans (r.low k d less) more }

@@ -1,5 +1,5 @@
 -- The reading of a flow's capture beside its report.
-use Rattle.std.proofs.Common.{◌≡◌, ℕ, List, ap}
+use Rattle.std.proofs.Common.{◌≡◌, ap}
 use Rattle.std.specs.Prelude.{IsTrue}
 use Rattle.net_io.specs.Depot.{DepotState, octets_of}
 use Rattle.capture_reader.specs.declared.reader.AnyFrames.{AnyFrames}
@@ -14,7 +14,3 @@ reader_on a b reader same ready = a_reader_goes_on_in_a_kept_file a b reader sam
 
 pub left_same : (a b : DepotState) (reader : AnyFrames) → Unmoved a b → IsTrue a.tells → left_by b reader ≡ left_by a reader
 left_same a b reader same tells = ap (λ h. left_of reader (octets_of h)) (same.kept tells (file_name_of reader))
-
--- the frames that are left
-pub left_named : (folder : DepotState) (reader : AnyFrames) (name : List ℕ) → file_name_of reader ≡ name → left_by folder reader ≡ left_of reader (octets_of (folder.held name))
-left_named folder reader name is = ap (λ n. left_of reader (octets_of (folder.held n))) is

@@ -27,8 +27,3 @@ module _ (file : List ℕ) (names : List (List ℕ)) (steps : List Step) where
   replies_fail from done upto a c low more e =
       let rest = replies_to names steps from done upto low more in
       subst (λ (t : List ℕ). IsExpected file t a c false) (sym rest.1) (expected_fails file (replies_text names steps from (done + 1 - from)) rest.0 a c e)
-
--- an expectation in other words
-pub expected_as : (file file' text text' : List ℕ) (a b : Place) (met met' : Bool) → file ≡ file' → text ≡ text' → met ≡ met' → IsExpected file text a b met → IsExpected file' text' a b met'
-expected_as file file' text text' a b met met' f t m e =
-    subst (λ (m : Bool). IsExpected file' text' a b m) m (subst (λ (t : List ℕ). IsExpected file' t a b met) t (subst (λ (f : List ℕ). IsExpected f text a b met) f e))

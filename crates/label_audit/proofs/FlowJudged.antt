@@ -9,7 +9,7 @@ use Rattle.label_commands.specs.declared.script.Script.{Script}
 use Rattle.label_commands.specs.Script.{before}
 use Rattle.packet_walk.specs.declared.packet.PacketIn.{PacketIn}
 use Rattle.packet_walk.specs.Stepping.{TablesAt}
-use Rattle.capture_reader.specs.CaptureFile.{capture_file}
+use Rattle.capture_reader.specs.CaptureFile.{CaptureFile, capture_file}
 use Rattle.capture_reader.specs.Frame.{packet_in}
 use Rattle.call_report.specs.Report.{Folder}
 use Rattle.call_report.specs.Lines.Flow.{flow_line}
@@ -21,8 +21,9 @@ use Rattle.label_audit.specs.declared.place.Place.{Place}
 use Rattle.label_audit.specs.inside.Grammar.{FlowsFrom, nothing_counted, end_text_of}
 use Rattle.label_audit.specs.inside.Reading.{IsExpected, IsJudgedTo}
 use Rattle.label_audit.specs.inside.Flow.{behind_flow, packets_awaited, end_awaited, flows_behind, packets_of, capture_packets, HasWholeCapture}
-use Rattle.label_audit.proofs.Judgings.{judged_on, whole_frames, FirstPackets, flow_expected, packets_begin, end_expected, replies_expected}
-use Rattle.label_audit.proofs.CaptureJudged.{IsWhole}
+use Rattle.label_audit.proofs.Judgings.{judged_on, FirstPackets, flow_expected, packets_begin, end_expected, replies_expected}
+use Rattle.label_audit.proofs.WholeInputs.{whole_input}
+use Rattle.label_audit.proofs.CaptureJudged.{IsWhole, one_capture}
 
 pub whole_kept : (script : Script) (flow : ℕ) (a b : Folder) → SameHeld a b → HasWholeCapture script flow a → HasWholeCapture script flow b
 whole_kept script flow a b same whole = λ line at. let w = whole line at in (w.0, w.1, same line.input ∙ w.2, w.3, w.4, w.5)
@@ -38,7 +39,9 @@ module _ (script : Script) (w : ℕ) (held : Folder) (flow most : ℕ) (line : F
   behind = behind_flow script w held flow most line flows
 
   frames_are : (flow_input (flow + 1) most (held line.input)).frames ≡ whole.1.frames
-  frames_are = (whole_frames (flow + 1) most (held line.input) whole.0 whole.1 _ (same ∙ whole.2) whole.3 status).frames
+  frames_are =
+      let own = whole_input (flow + 1) most (held line.input) _ status in
+      own.frames ∙ ap (λ (c : CaptureFile). c.frames) (one_capture own.there (same ∙ whole.2) own.read whole.3)
 
   packets_are : capture_packets folder line ≡ map packet_in whole.1.frames
   packets_are = ap (λ (h : Option (List ℕ)). option_map_or (λ (file : List ℕ). packets_of (capture_file file)) h []) whole.2 ∙ ap packets_of whole.3

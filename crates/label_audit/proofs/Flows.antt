@@ -1,8 +1,7 @@
 -- What is printed of a script's flows, and which flows have run so.
-use Rattle.std.proofs.Common.{◌≡◌, ◌<◌, ◌≤◌, inl, inr, ℕ, suc, ◌+◌, ◌-◌, Bool, true, false, cond, List, [], ◌∷◌, ◌++◌, map, length, take, Option, Some, None, Result, Ok, Err, refl, sym, ap, ◌∙◌, subst, arith, append_assoc}
-use Rattle.std.specs.Prelude.{All, is_some, not, ◌==◌, ◌&&◌, nat_lt, if◌then◌else◌, slice_get}
+use Rattle.std.proofs.Common.{◌≡◌, ◌<◌, ◌≤◌, inl, inr, ℕ, suc, ◌+◌, ◌-◌, Bool, true, false, cond, List, [], ◌∷◌, ◌++◌, map, length, take, Option, Some, None, refl, sym, ap, ◌∙◌, subst, arith, append_assoc}
+use Rattle.std.specs.Prelude.{All, is_some, not, ◌==◌, ◌&&◌, if◌then◌else◌, slice_get}
 use Rattle.std.specs.List.{AllZip, list_all, concat}
-use Rattle.std.specs.Option.{option_map}
 use Rattle.std.proofs.lemmas.Bool.{false≢true}
 use Rattle.std.proofs.lemmas.Bool.Decides.{nat_tests}
 use Rattle.std.proofs.lemmas.List.{length-take, length-map}
@@ -15,49 +14,21 @@ use Rattle.packet_walk.specs.declared.packet.PacketIn.{PacketIn}
 use Rattle.label_flow.specs.Pair.{PairState}
 use Rattle.label_flow.specs.Schedule.{AreLawful, IsSeen, versions_in}
 use Rattle.capture_reader.specs.Frame.{packet_in}
-use Rattle.capture_reader.specs.CaptureFile.{CaptureFile, capture_file}
-use Rattle.capture_reader.specs.declared.format.CaptureFormat.{CaptureFormat}
-use Rattle.capture_reader.specs.declared.fault.FileFault.{FileFault}
 use Rattle.call_report.specs.Event.{Event}
 use Rattle.call_report.specs.Report.{Folder, Versions}
-use Rattle.call_report.specs.Lines.Fixed.{done_line, packets_limit_line}
-use Rattle.call_report.specs.Lines.Capture.{capture_line}
+use Rattle.call_report.specs.Lines.Fixed.{done_line}
 use Rattle.call_report.specs.Lines.Flow.{flow_line}
 use Rattle.flow_access.specs.Valid.{plan_of}
-use Rattle.flow_run.specs.Input.{FlowInput, flow_input, input_by, packets_in}
+use Rattle.flow_run.specs.Input.{FlowInput, flow_input, packets_in}
 use Rattle.flow_run.specs.Run.{FlowRun, IsRun, denied_in, goes_on, is_judged, passed_in, run_end, walked_lines}
-use Rattle.script_run.specs.Runs.{AreRuns, FlowsStatus, IsLawfulRun, StatusOr}
+use Rattle.script_run.specs.Runs.{AreRuns, FlowsStatus, IsLawfulRun}
 use Rattle.script_run.specs.Report.{replies_behind, turn_text}
 use Rattle.label_audit.specs.inside.Awaited.{Awaited}
 use Rattle.label_audit.specs.inside.Grammar.{BehindPackets, FlowsFrom, PacketsFrom, Site, end_text_of, nothing_counted, replies_of, site_of}
 use Rattle.label_audit.specs.declared.flow.Counted.{Counted}
+use Rattle.label_audit.proofs.WholeInputs.{WholeInput, whole_input}
 use Rattle.label_audit.proofs.Rows.{RowsRise, picked_each, seen_each}
 use Rattle.label_audit.proofs.Packets.{Tail, Walks, counted, counts, packets_printed, printed_packets}
-
--- ---- captures that are whole
-
-pub record WholeInput (input : FlowInput) (behind : Type 0) : Type 0 where
-  pub event : input.event ≡ None
-  pub format : is_some input.format ≡ true
-  pub rest : behind
-
-whole_capture : (few : Event) (of : FileFault → Event) (format : CaptureFormat) (behind : Type 0) (more : Bool) (fault : Option FileFault) → few.status ≡ 7 → ((f : FileFault) → (of f).status ≡ 5)
-    → StatusOr (if more then Some few else option_map of fault) (Some format) behind 0 → ((if more then Some few else option_map of fault) ≡ None) × behind
-whole_capture few of format behind true fault seven five h = absurd (omega (arith, h, seven))
-whole_capture few of format behind false (Some f) seven five h = absurd (omega (arith, h, five f))
-whole_capture few of format behind false None seven five h = (refl, h)
-
-whole_by : (number most : ℕ) (read : Result CaptureFile FileFault) (behind : Type 0) → StatusOr (input_by number most read).event (input_by number most read).format behind 0 → WholeInput (input_by number most read) behind
-whole_by number most (Err fault) behind h = absurd (omega (arith, h))
-whole_by number most (Ok capture) behind h =
-    let few : Event = record { status = 7; line = packets_limit_line } in
-    let of : FileFault → Event = λ f. record { status = 5; line = capture_line number f } in
-    let both = whole_capture few of capture.format behind (nat_lt most (length capture.frames)) capture.fault refl (λ f. refl) h in
-    record { event = both.0; format = refl; rest = both.1 }
-
-pub whole_input : (number most : ℕ) (file : Option (List ℕ)) (behind : Type 0) → StatusOr (flow_input number most file).event (flow_input number most file).format behind 0 → WholeInput (flow_input number most file) behind
-whole_input number most None behind h = absurd h
-whole_input number most (Some file) behind h = whole_by number most (capture_file file) behind h
 
 -- ---- runs
 
@@ -265,7 +236,7 @@ module _ (script : Script) (w : ℕ) (held : Folder) (some : 0 < w) where
   no_runs number most [] = tt
   no_runs number most (flow ∷ flows) = tt
 
-  module _ (number most : ℕ) (flow : FlowLine) (flows : List FlowLine) (all : Bool) (pairs : List PairState) (whole : WholeInput (flow_input number most (held flow.input)) (FlowsStatus held (number + 1) (most - length (flow_input number most (held flow.input)).frames) flows 0))
+  module _ (number most : ℕ) (flow : FlowLine) (flows : List FlowLine) (all : Bool) (pairs : List PairState) (whole : WholeInput number most (held flow.input) (FlowsStatus held (number + 1) (most - length (flow_input number most (held flow.input)).frames) flows 0))
       (walked : AllZip (Walks (site_of script w number flow) (Behind number most flow flows) some) (take (length pairs) (packets_in (flow_input number most (held flow.input)))) pairs)
       (rises : RowsRise w (before script number) 0 (λ k. flow.before) (versions_in pairs)) where
     abbrev run_of : FlowRun

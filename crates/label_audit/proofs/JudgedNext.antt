@@ -1,6 +1,7 @@
 -- One packet more, by what was read of it.
-use Rattle.std.proofs.Common.{◌≡◌, ◌≢◌, ℕ, ◌+◌, ◌%◌, Bool, true, false, List, ◌∷◌, drop, Some, subst, max}
+use Rattle.std.proofs.Common.{◌≡◌, ◌≢◌, ◌<◌, ℕ, ◌+◌, ◌%◌, Bool, true, false, List, ◌∷◌, drop, get_or, length, Some, refl, sym, ap, ◌∙◌, subst, max}
 use Rattle.std.specs.Prelude.{All, slice_get, if◌then◌else◌}
+use Rattle.std.proofs.lemmas.Option.{slice_get_read}
 use Rattle.address_text.specs.Name.{IsNameText}
 use Rattle.flow_lines.specs.declared.flow.FlowLine.{FlowLine}
 use Rattle.label_commands.specs.declared.script.Script.{Script}
@@ -17,6 +18,10 @@ use Rattle.label_audit.specs.inside.Reading.{IsJudgedTo}
 use Rattle.label_audit.specs.inside.Packet.{IsPacketRead}
 use Rattle.label_audit.specs.inside.Flow.{packets_awaited}
 use Rattle.label_audit.proofs.Nexts.{next_fails, next_stands}
+
+-- the tables of the worker whose turn it is
+pub worker_here : (tables : List TablesAt) (t : TablesAt) (packets worker : ℕ) → worker ≡ packets % length tables → worker < length tables → t ≡ get_or tables worker t → slice_get tables (packets % length tables) ≡ Some t
+worker_here tables t packets worker turn within is = ap (slice_get tables) (sym turn) ∙ slice_get_read tables (length tables) worker t refl within is
 
 module _ (script : Script) (w : ℕ) (held : Folder) (flow most : ℕ) (line : FlowLine) (flows : List FlowLine) (count : Counted) (tables : List TablesAt) (packet : PacketIn) (packets : List PacketIn) (names : All IsNameText script.nodes) where
   pub next_not : (place : PacketPlace) (t : TablesAt) (file : List ℕ) (old new new' : Place) (met' : ℕ) (denied result : Bool) → IsPacketRead t.plan place packet file old new t.version met' denied result → result ≡ false → slice_get tables (count.packets % w) ≡ Some t

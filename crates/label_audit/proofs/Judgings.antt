@@ -1,25 +1,15 @@
 -- The parts of a report that are judged one after the other.
-use Rattle.std.proofs.Common.{◌≡◌, ◌<◌, ◌≤◌, ℕ, zero, suc, ◌+◌, ◌-◌, Bool, true, false, List, [], ◌∷◌, map, length, drop, Option, Some, None, Ok, Err, refl, sym, ap, ◌∙◌, subst, arith}
-use Rattle.std.specs.Prelude.{All, nat_lt, if◌then◌else◌}
-use Rattle.std.specs.Option.{option_map}
-use Rattle.std.proofs.lemmas.Bool.{ltb-false}
-use Rattle.std.proofs.lemmas.List.{take_all}
+use Rattle.std.proofs.Common.{◌≡◌, ◌<◌, ◌≤◌, ℕ, zero, suc, ◌+◌, ◌-◌, Bool, true, false, List, [], ◌∷◌, map, length, drop, refl, sym, ap, subst, arith}
+use Rattle.std.specs.Prelude.{All}
 use Rattle.flow_lines.specs.declared.flow.FlowLine.{FlowLine}
 use Rattle.label_commands.specs.declared.script.Script.{Script}
 use Rattle.label_commands.specs.Script.{before}
 use Rattle.packet_walk.specs.declared.packet.PacketIn.{PacketIn}
 use Rattle.packet_walk.specs.Stepping.{TablesAt}
-use Rattle.capture_reader.specs.CaptureFile.{CaptureFile, capture_file}
 use Rattle.capture_reader.specs.Frame.{CapturedFrame, packet_in}
-use Rattle.capture_reader.specs.declared.fault.FileFault.{FileFault}
-use Rattle.capture_reader.specs.declared.format.CaptureFormat.{CaptureFormat}
-use Rattle.call_report.specs.Event.{Event}
 use Rattle.call_report.specs.Report.{Folder}
-use Rattle.call_report.specs.Lines.Fixed.{packets_limit_line}
-use Rattle.call_report.specs.Lines.Capture.{capture_line}
 use Rattle.call_report.specs.Lines.Flow.{flow_line}
-use Rattle.flow_run.specs.Input.{FlowInput, flow_input, input_by, packets_in}
-use Rattle.script_run.specs.Runs.{StatusOr, FlowsStatus}
+use Rattle.flow_run.specs.Input.{FlowInput, flow_input, packets_in}
 use Rattle.report_file.specs.Meeting.{lines_in}
 use Rattle.label_audit.specs.declared.flow.Counted.{Counted}
 use Rattle.label_audit.specs.declared.place.Place.{Place}
@@ -52,43 +42,7 @@ or_expected text Behind file old new true whole lines some e =
 or_expected text Behind file old new false whole lines some e =
     subst (BadBehind (OrNothing text Behind whole) (drop old.at file) old.lines) (sym e.2) (or_differs text Behind whole (drop old.at file) e.0 old.lines e.1 some)
 
--- ---- a capture that is whole
-
-pub record WholeFrames (most : ℕ) (capture : CaptureFile) (input : FlowInput) : Type 0 where
-  pub few : length capture.frames ≤ most
-  pub fault : capture.fault ≡ None
-  pub frames : input.frames ≡ capture.frames
-
-frames_by : (few : Event) (of : FileFault → Event) (format : CaptureFormat) (behind : Type 0) (more : Bool) (fault : Option FileFault) → few.status ≡ 7 → ((f : FileFault) → (of f).status ≡ 5)
-    → StatusOr (if more then Some few else option_map of fault) (Some format) behind 0 → (more ≡ false) × (fault ≡ None)
-frames_by few of format behind true fault seven five h = absurd (omega (arith, h, seven))
-frames_by few of format behind false (Some f) seven five h = absurd (omega (arith, h, five f))
-frames_by few of format behind false None seven five h = (refl, refl)
-
-whole_read : (number most : ℕ) (capture : CaptureFile) (behind : Type 0) → StatusOr (input_by number most (Ok capture)).event (input_by number most (Ok capture)).format behind 0 → WholeFrames most capture (input_by number most (Ok capture))
-whole_read number most capture behind h =
-    let few : Event = record { status = 7; line = packets_limit_line } in
-    let of : FileFault → Event = λ f. record { status = 5; line = capture_line number f } in
-    let both = frames_by few of capture.format behind (nat_lt most (length capture.frames)) capture.fault refl (λ f. refl) h in
-    let within : length capture.frames ≤ most = ltb-false most (length capture.frames) both.0 in
-    record { few = within; fault = both.1; frames = take_all most capture.frames within }
-
-pub whole_frames : (number most : ℕ) (held : Option (List ℕ)) (file : List ℕ) (capture : CaptureFile) (behind : Type 0) → held ≡ Some file → capture_file file ≡ Ok capture
-    → StatusOr (flow_input number most held).event (flow_input number most held).format behind 0 → WholeFrames most capture (flow_input number most held)
-whole_frames number most held file capture behind is read h =
-    let input_is : flow_input number most held ≡ input_by number most (Ok capture) = ap (flow_input number most) is ∙ ap (input_by number most) read in
-    subst (WholeFrames most capture) (sym input_is) (whole_read number most capture behind (subst (λ (i : FlowInput). StatusOr i.event i.format behind 0) input_is h))
-
-pub not_broken : (number most : ℕ) (held : Option (List ℕ)) (file : List ℕ) (fault : FileFault) (behind : Type 0) → held ≡ Some file → capture_file file ≡ Err fault → StatusOr (flow_input number most held).event (flow_input number most held).format behind 0 → ⊥
-not_broken number most held file fault behind is read h =
-    let input_is : flow_input number most held ≡ input_by number most (Err fault) = ap (flow_input number most) is ∙ ap (input_by number most) read in
-    let five : 0 ≡ 5 = subst (λ (i : FlowInput). StatusOr i.event i.format behind 0) input_is h in
-    absurd (omega (arith, five))
-
 -- ---- one flow
-
-abbrev pub StatusBehind : Folder → ℕ → ℕ → FlowLine → List FlowLine → Type 0
-StatusBehind held flow most line flows = FlowsStatus held (flow + 1 + 1) (most - length (flow_input (flow + 1) most (held line.input)).frames) flows 0
 
 start_met : (low : ℕ) (tables : List TablesAt) (k : ℕ) → All (λ (t : TablesAt). t.version ≤ low) tables → low ≡ met_by low tables k
 start_met low [] k all = refl

@@ -1,4 +1,6 @@
--- The laws of src/laws.rt under their names, for the crates above.
+-- The laws of src/laws.rt under their names, for the crates above, that an input is whole of which status 0 is due, and reads of several files.
+pub use Rattle.label_audit.proofs.WholeInputs.{WholeInput, whole_input}
+pub use Rattle.label_audit.proofs.Among.{is_first, is_behind, one_among, more_among, among_on, among_as, among_err, among_answer}
 use Rattle.std.proofs.Common.{◌≡◌, ◌≤◌, ℕ, List, ◌∷◌, [], ◌++◌, ap, ◌∙◌, arith, append_assoc, inl, inr}
 use Rattle.std.specs.Prelude.{All}
 use Rattle.std.proofs.lemmas.Bool.{cases_lt}

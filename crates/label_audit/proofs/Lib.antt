@@ -2,12 +2,14 @@ pub mod Fronts
 pub mod Reading
 pub mod Rows
 pub mod Packets
+pub mod WholeInputs
 pub mod Flows
 pub mod Verdicts
 pub mod Steps
 pub mod NoEnd
 pub mod PacketLines
 pub mod Wholes
+pub mod Among
 pub mod Frames
 pub mod Places
 pub mod Replying

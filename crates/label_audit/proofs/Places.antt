@@ -43,9 +43,6 @@ pub lines_there : (file text : List ℕ) (old : Place) (lines : ℕ) → StandsI
 lines_there file text old lines stands d =
     omega (arith, stands.0, stands.1, stands.2, d.count, few_lines d.front, length-drop old.at file, ap length d.of_left, length-append d.front d.behind)
 
-pub differs_there : (file text : List ℕ) (old new : Place) (lines : ℕ) → StandsIn file old → DiffersBehind lines (drop old.at file) text → (old.lines + lines + 1 < 2 ^ 64 → new.lines ≡ old.lines + lines + 1) → IsExpected file text old new false
-differs_there file text old new lines stands d is = (lines, d, is (lines_there file text old lines stands d))
-
 -- ---- one text behind another
 
 pub differs_more : (lines : ℕ) (left text more : List ℕ) → DiffersBehind lines left text → DiffersBehind lines left (text ++ more)
@@ -89,9 +86,6 @@ expected_fails file text more a b one = (one.0, differs_more one.0 (drop a.at fi
 
 pub nothing_expected : (file : List ℕ) (a : Place) → StandsIn file a → IsExpected file [] a a true
 nothing_expected file a stands = (refl, omega arith, stands)
-
-pub stands_on : (file text : List ℕ) (a b : Place) → IsExpected file text a b true → StandsIn file b
-stands_on file text a b e = e.2
 
 -- the line at a place is the one that differs
 pub differ_one : (old new : Place) (file : List ℕ) → StandsIn file old → (old.lines + 0 + 1 < 2 ^ 64 → new.lines ≡ old.lines + 0 + 1) → new.lines ≡ old.lines + 1

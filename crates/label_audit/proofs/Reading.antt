@@ -280,6 +280,3 @@ more_left left before some = record {
 
 pub comes_on : (a b c : Awaited) (left left' left'' : List ℕ) (n m k : ℕ) → ComesTo a left n b left' m → ComesTo b left' m c left'' k → ComesTo a left n c left'' k
 comes_on a b c left left' left'' n m k first then = record { yes = λ all. first.yes (then.yes all); no = λ l bad. first.no l (then.no l bad) }
-
-pub comes_here : (a : Awaited) (left : List ℕ) (n : ℕ) → ComesTo a left n a left n
-comes_here a left n = record { yes = λ all. all; no = λ l bad. bad }

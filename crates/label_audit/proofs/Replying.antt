@@ -1,6 +1,6 @@
 -- Replies to steps, one by one, over plain values.
-use Rattle.std.proofs.Common.{◌≡◌, ◌<◌, ◌≤◌, ℕ, zero, suc, ◌+◌, ◌-◌, List, [], ◌++◌, length, Some, Result, Ok, Err, refl, sym, ap, subst, ◌∙◌, append_assoc, arith}
-use Rattle.std.specs.Prelude.{All, OnOk, slice_get}
+use Rattle.std.proofs.Common.{◌≡◌, ◌<◌, ◌≤◌, ℕ, zero, suc, ◌+◌, ◌-◌, List, [], ◌++◌, length, Some, refl, sym, ap, subst, ◌∙◌, append_assoc, arith}
+use Rattle.std.specs.Prelude.{All, slice_get}
 use Rattle.std.proofs.lemmas.List.{append-nil}
 use Rattle.std.proofs.lemmas.Option.{slice_get_within, get_or_from_slice_get}
 use Rattle.script_lines.specs.declared.command.Step.{Step}
@@ -43,10 +43,6 @@ replies_behind names steps k (suc count) =
     ∙ sym (append_assoc (reply_line_at names steps k) (replies_text names steps (k + 1) count) (reply_line_at names steps (k + 1 + count)))
     ∙ ap (λ t. t ++ reply_line_at names steps (k + 1 + count)) (sym (ap (replies_text names steps k) one ∙ replies_come_one_by_one names steps k count))
     ∙ ap (λ n. replies_text names steps k (suc count) ++ reply_line_at names steps n) on
-
-pub on_ok_of : {T E P : Type 0} (result : Result T E) → P → OnOk result P
-on_ok_of (Ok given) fact = fact
-on_ok_of (Err error) fact = tt
 
 -- all replies, of which some are a beginning
 pub replies_to : (names : List (List ℕ)) (steps : List Step) (from done upto : ℕ) → from ≤ done → done < upto → (rest : List ℕ) × (replies_text names steps from (upto - from) ≡ replies_text names steps from (done + 1 - from) ++ rest)

@@ -16,7 +16,8 @@ use Rattle.script_run.specs.Report.{first_replies, runs_report}
 use Rattle.label_audit.specs.Good.{IsFirstBad, IsLawfullyPrinted, IsReport}
 use Rattle.label_audit.specs.inside.Awaited.{BadFrom}
 use Rattle.label_audit.specs.inside.Grammar.{ScriptFrom}
-use Rattle.label_audit.proofs.Flows.{HaveRun, Ordered, eq_sides, flows_printed, on_when, printed_flows, text_of, whole_input}
+use Rattle.label_audit.proofs.WholeInputs.{whole_input}
+use Rattle.label_audit.proofs.Flows.{HaveRun, Ordered, eq_sides, flows_printed, on_when, printed_flows, text_of}
 
 module _ (script : Script) (w : ℕ) (held : Folder) (some : 0 < w) where
   no_event : (number most : ℕ) (flows : List FlowLine) (seen : Versions) (runs : List FlowRun) → FlowsStatus held number most flows 0 → AreRuns (plan_of script) held number most flows seen runs → last_event runs ≡ None

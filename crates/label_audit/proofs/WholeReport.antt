@@ -21,7 +21,7 @@ use Rattle.label_audit.specs.declared.flow.Counted.{Counted}
 use Rattle.label_audit.specs.declared.place.Place.{Place}
 use Rattle.label_audit.specs.inside.Awaited.{Awaited, BadBehind, ComesTo}
 use Rattle.label_audit.specs.inside.Grammar.{Site, counted_more, last_met, meets_now, PacketsFrom, BehindPackets, FlowsFrom, ScriptFrom, site_of, nothing_counted}
-use Rattle.label_audit.specs.inside.Reading.{IsExpected, IsJudgedTo}
+use Rattle.label_audit.specs.inside.Reading.{IsExpected, IsJudgedTo, front_place}
 use Rattle.label_audit.specs.inside.Flow.{done_awaited, ended_awaited}
 use Rattle.label_audit.proofs.Reading.{rest_of, stands, differs, more_left}
 use Rattle.label_audit.proofs.Steps.{flows_some}
@@ -106,24 +106,21 @@ module _ (script : Script) (w : ℕ) (held : Folder) where
       subst (λ (n : ℕ). flow.before ≤ before script n) next (let up = (sound.order j).0 in omega (arith, up, is))
 
   module _ (some : 0 < w) (own : List ℕ) (sound : IsSoundScript own script) (whole : FlowsStatus held 1 packets_limit script.flows 0) (file : List ℕ) where
-    abbrev start : Place
-    start = record { at = 0; lines = 0 }
-
     bad_is : (l : ℕ) → BadBehind (ScriptFrom script w held) file 0 l → IsFirstBad script w held file l
     bad_is l b =
         let here : b.here ≡ l = let is = b.is in omega (arith, is) in
         subst (IsFirstBad script w held file) here (first_bad script w held some whole (ordered_of own sound) file b.here b.bad)
 
-    pub audited_bad : (at : Place) → IsJudgedTo (ScriptFrom script w held) ended_awaited file start at false → IsFirstBad script w held file at.lines
+    pub audited_bad : (at : Place) → IsJudgedTo (ScriptFrom script w held) ended_awaited file front_place at false → IsFirstBad script w held file at.lines
     audited_bad at j = bad_is at.lines j
 
-    pub audited_longer : (at : Place) (longer : Bool) (line : ℕ) → IsJudgedTo (ScriptFrom script w held) ended_awaited file start at true → longer ≡ nat_lt at.at (length file) → longer ≡ true → line ≡ at.lines + 1 → IsFirstBad script w held file line
+    pub audited_longer : (at : Place) (longer : Bool) (line : ℕ) → IsJudgedTo (ScriptFrom script w held) ended_awaited file front_place at true → longer ≡ nat_lt at.at (length file) → longer ≡ true → line ≡ at.lines + 1 → IsFirstBad script w held file line
     audited_longer at longer line j is longer_is line_is =
         let more : at.at < length file = ltb-true at.at (length file) (sym is ∙ longer_is) in
         let left : drop at.at file ≢ [] = λ none. absurd (omega (arith, more, length-drop at.at file, ap length none)) in
         subst (IsFirstBad script w held file) (sym line_is) (bad_is (at.lines + 1) (j.0.no (at.lines + 1) (more_left (drop at.at file) at.lines left)))
 
-    pub audited_yes : (at : Place) (longer : Bool) → IsJudgedTo (ScriptFrom script w held) ended_awaited file start at true → longer ≡ nat_lt at.at (length file) → longer ≡ false → IsReport script w held file
+    pub audited_yes : (at : Place) (longer : Bool) → IsJudgedTo (ScriptFrom script w held) ended_awaited file front_place at true → longer ≡ nat_lt at.at (length file) → longer ≡ false → IsReport script w held file
     audited_yes at longer j is longer_is =
         let all : length file ≤ at.at = ltb-false at.at (length file) (sym is ∙ longer_is) in
         may_be_all script w held some whole (ordered_of own sound) file (j.0.yes (nothing (drop at.at file) (let few = all in omega (arith, few, length-drop at.at file))))

@@ -1,6 +1,6 @@
 //! The lines of a flow.
 
-ghost use Rattle.std.specs.Prelude.{◌≡◌, ◌+◌, ◌<◌, ◌≤◌, ◌^◌, ℕ, List, [], ◌∷◌, All, Contains, IsTrue, IfOk, IfSome, None, Some, OnOk, length, map, replicate, slice_get, if◌then◌else◌};
+ghost use Rattle.std.specs.Prelude.{◌≡◌, ◌+◌, ◌<◌, ◌≤◌, ◌^◌, ℕ, List, [], ◌∷◌, All, Contains, IsTrue, IfOk, IfSome, None, Some, OnOk, length, map, max, replicate, slice_get, ◌%◌, if◌then◌else◌};
 ghost use Rattle.address_text.specs.Name.{IsNameText};
 ghost use Rattle.net_io.specs.Depot.{SameHeld, OnlyReads};
 ghost use Rattle.label_commands.specs.Script.{before};
@@ -19,7 +19,7 @@ ghost use Rattle.script_run.specs.Runs.{FlowsStatus};
 ghost use Rattle.label_audit.specs.inside.Grammar.{FlowsFrom, nothing_counted, end_text_of};
 ghost use Rattle.call_report.specs.Lines.Flow.{flow_line};
 ghost use Rattle.label_audit.specs.inside.Reading.{HasRead, StandsIn, IsExpected, IsJudgedTo, file_of};
-ghost use Rattle.label_audit.specs.inside.Flow.{Ready, behind_flow, packets_awaited, end_awaited, done_awaited, left_by, IsReadOn, HasBegunReading, IsFew, inputs_of, HasWholeCapture, capture_packets, flows_behind};
+ghost use Rattle.label_audit.specs.inside.Flow.{Ready, packets_to_come, none_to_come, IsFlowJudgedTo, done_awaited, left_by, IsReadOn, HasBegunReading, IsFew, inputs_of, HasWholeCapture, capture_packets, flows_behind};
 
 use crate::place::{Place, differ, expect};
 use crate::replies::{Replies, expect_replies};
@@ -27,7 +27,7 @@ use crate::walker::{PacketPlace, Walker, judge_packet};
 use address_text::Name;
 use call_report::{write_flow, write_flow_end};
 use capture_reader::{CaptureReader, ReadStop};
-use flow_lines::FileName;
+use flow_lines::{FileName, FlowLine};
 use label_commands::Script;
 use mls_label::OutOfMemory;
 use net_io::{Depot, IoFault};
@@ -85,6 +85,38 @@ pub(crate) fn steps_above(script: &Script, flow: usize) -> u32
         Some(line) => line.before,
         None => script.steps.as_slice().len() as u32,
     }
+}
+
+/// How many flows there are.
+fn flows_in(script: &Script) -> usize
+    ensures { result ≡ length script.now.flows }
+{
+    script.flows.as_slice().len()
+}
+
+/// How many steps stand above the flow behind this one, counted from 0: no table of its packets is of a later step.
+fn steps_behind(script: &Script, flow: usize) -> u32
+    requires steps { length script.now.steps < 2 ^ 32 }
+    requires flow { flow < 2 ^ 32 }
+    ensures { result ≡ before script.now (flow + 1) }
+{
+    steps_above(script, flow + 1)
+}
+
+/// The least version of the next packet of a worker: the flow begins with no older one, and the worker doesn't go back.
+fn least_version(line: &FlowLine, met: u32) -> u32
+    ensures { result ≡ max line.now.before met }
+{
+    line.before.max(met)
+}
+
+/// The worker of the packet behind so many of its flow: each takes its turn.
+fn worker_of(packets: u64, workers: usize) -> usize
+    requires { 0 < workers }
+    ensures turn { result ≡ packets % workers }
+    ensures within { result < workers }
+{
+    packets as usize % workers
 }
 
 impl<'s> Judge<'s> {
@@ -206,13 +238,11 @@ fn judge_next<D: Depot>(
     ensures read { (names : List (List ℕ)) → HasRead names result report.old report.new
         (D.state depot.old) (D.state depot.new) }
     ensures judged { IfOk result (λ met. IsTrue (D.state depot.old).tells
-        → (held : Folder) (most : ℕ) (line : LineValue) (flows : List LineValue)
-        (packets : List PacketValue) → slice_get script.now.flows flow ≡ Some line
-        → IsJudgedTo
-        (packets_awaited script.now (length judge.old.tables.items) held flow most line flows
-        judge.old.counts judge.old.tables.items (judge.old.packet ∷ packets))
-        (packets_awaited script.now (length judge.old.tables.items) held flow most line flows
-        judge.new.counts judge.new.tables.items packets)
+        → (packets : List PacketValue) → IsFlowJudgedTo script.now flow
+        (packets_to_come script.now (length judge.old.tables.items) flow judge.old.counts
+        judge.old.tables.items (judge.old.packet ∷ packets))
+        (packets_to_come script.now (length judge.old.tables.items) flow judge.new.counts
+        judge.new.tables.items packets)
         (file_of (D.state depot.old) report.old) at.old at.new met) }
     ensures counts { (judge.new.counts.passed ≤ judge.new.counts.packets)
         × (judge.new.counts.denied ≤ judge.new.counts.packets) }
@@ -222,15 +252,15 @@ fn judge_next<D: Depot>(
         (before script.now (flow + 1)) judge.new.tables.items }
 {
     let line = &script.flows.as_slice()[flow];
-    let worker = judge.counts.packets as usize % judge.tables.len();
+    let worker = worker_of(judge.counts.packets, judge.tables.len());
     let tables = &mut judge.tables[worker];
     let place = PacketPlace {
         names: script.nodes.as_slice(),
         flow: line,
         flow_number: flow as u32 + 1,
         number: judge.counts.packets + 1,
-        low: line.before.max(tables.version()),
-        high: steps_above(script, flow + 1),
+        low: least_version(line, tables.version()),
+        high: steps_behind(script, flow),
     };
     if !judge_packet(
         depot,
@@ -274,14 +304,10 @@ fn judge_packets<D: Depot>(
     ensures read { (names : List (List ℕ)) → Contains names (file_name_of reader.old)
         → HasRead names result report.old report.new (D.state depot.old) (D.state depot.new) }
     ensures judged { IfOk result (λ met. IsTrue (D.state depot.old).tells
-        → (held : Folder) (most : ℕ) (line : LineValue) (flows : List LineValue)
-        → slice_get script.now.flows flow ≡ Some line
-        → IsJudgedTo
-        (packets_awaited script.now (length judge.old.tables.items) held flow most line flows
-        judge.old.counts judge.old.tables.items
-        (map packet_in (left_by (D.state depot.old) reader.old).frames))
-        (behind_flow script.now (length judge.old.tables.items) held flow most line flows
-        judge.new.counts)
+        → IsFlowJudgedTo script.now flow
+        (packets_to_come script.now (length judge.old.tables.items) flow judge.old.counts
+        judge.old.tables.items (map packet_in (left_by (D.state depot.old) reader.old).frames))
+        (none_to_come script.now (length judge.old.tables.items) flow judge.new.counts)
         (file_of (D.state depot.old) report.old) at.old at.new met) }
     ensures counts { IfOk result (λ met. IsTrue met → IsTrue (D.state depot.old).tells
         → judge.new.counts.packets ≡ judge.old.counts.packets
@@ -380,14 +406,11 @@ fn judge_capture<D: Depot>(
     ensures read { HasRead (inputs_of script.now) result report.old report.new
         (D.state depot.old) (D.state depot.new) }
     ensures judged { IfOk result (λ met. IsTrue (D.state depot.old).tells
-        → (held : Folder) (most : ℕ) (line : LineValue) (flows : List LineValue)
-        → slice_get script.now.flows flow ≡ Some line
-        → IsJudgedTo
-        (packets_awaited script.now (length judge.old.tables.items) held flow most line flows
-        nothing_counted judge.old.tables.items
-        (capture_packets (D.state depot.old).held line))
-        (behind_flow script.now (length judge.old.tables.items) held flow most line flows
-        judge.new.counts)
+        → IsFlowJudgedTo script.now flow
+        (λ held most line flows. packets_to_come script.now (length judge.old.tables.items) flow
+        nothing_counted judge.old.tables.items (capture_packets (D.state depot.old).held line)
+        held most line flows)
+        (none_to_come script.now (length judge.old.tables.items) flow judge.new.counts)
         (file_of (D.state depot.old) report.old) at.old at.new met) }
     ensures counts { IfOk result (λ met. IsTrue met → IsTrue (D.state depot.old).tells
         → (line : LineValue) → slice_get script.now.flows flow ≡ Some line
@@ -462,7 +485,7 @@ fn judge_flow<D: Depot>(
     if !expect_end(depot, report, at, flow, judge.counts, &mut replies.line)? {
         return Ok(false);
     }
-    let upto = steps_above(script, flow + 1);
+    let upto = steps_behind(script, flow);
     expect_replies(depot, report, at, script, upto, replies)
 }
 
@@ -495,7 +518,7 @@ pub(crate) fn judge_flows<D: Depot>(
         done_awaited (file_of (D.state depot.old) report.old) at.old at.new met) }
 {
     let mut flow = 0;
-    while flow < script.flows.as_slice().len() {
+    while flow < flows_in(script) {
         if !judge_flow(depot, report, at, script, flow, replies, judge)? {
             return Ok(false);
         }

@@ -4,12 +4,13 @@ ghost use Rattle.std.specs.Prelude.{◌≡◌, ◌<◌, ◌≤◌, ℕ, List, []
 ghost use Rattle.net_io.specs.Depot.{octets_of};
 ghost use Rattle.label_commands.specs.Sound.{IsSoundScript};
 ghost use Rattle.call_report.specs.Event.{packets_limit};
+ghost use Rattle.call_report.specs.Lines.Fixed.{done_line};
 ghost use Rattle.report_file.specs.File.{KeepsPart};
 ghost use Rattle.script_run.specs.Runs.{FlowsStatus};
 ghost use Rattle.label_audit.specs.Audited.{IsAudited};
 ghost use Rattle.label_audit.specs.Reads.{OnlyReadsAmong};
 ghost use Rattle.label_audit.specs.inside.Grammar.{ScriptFrom};
-ghost use Rattle.label_audit.specs.inside.Reading.{HasRead, StandsIn, IsJudgedTo, file_of};
+ghost use Rattle.label_audit.specs.inside.Reading.{HasRead, StandsIn, IsExpected, IsJudgedTo, file_of};
 ghost use Rattle.label_audit.specs.inside.Flow.{ended_awaited, inputs_of};
 
 use crate::audited::Audited;
@@ -21,6 +22,23 @@ use label_commands::Script;
 use net_io::{Depot, IoFault};
 use report_file::ReportFile;
 use std::alloc::Global;
+
+/// Whether a run's last line stands at the place, which goes behind it then.
+fn expect_done<D: Depot>(
+    depot: &mut D,
+    report: &mut ReportFile,
+    at: &mut Place,
+) -> Result<bool, IoFault>
+    requires keeps { KeepsPart (D.state depot.old) report.old }
+    requires stands { IsTrue (D.state depot.old).tells
+        → StandsIn (file_of (D.state depot.old) report.old) at.old }
+    ensures read { (names : List (List ℕ)) → HasRead names result report.old report.new
+        (D.state depot.old) (D.state depot.new) }
+    ensures expected { IfOk result (λ met. IsTrue (D.state depot.old).tells
+        → IsExpected (file_of (D.state depot.old) report.old) done_line at.old at.new met) }
+{
+    expect(depot, report, at, done())
+}
 
 /// Whether all lines of a report stand at the place, which goes behind them then.
 fn judge_lines<D: Depot>(
@@ -54,7 +72,7 @@ fn judge_lines<D: Depot>(
     if !judge_flows(depot, report, at, script, &mut replies, &mut judge)? {
         return Ok(false);
     }
-    expect(depot, report, at, done())
+    expect_done(depot, report, at)
 }
 
 /// Whether a report is a whole one of a run of this script with so many workers, or the first of its lines that isn't good. All captures that
@@ -80,7 +98,7 @@ pub fn judge_report<D: Depot>(
         (report.old.name ∷ map (λ flow. flow.input) script.now.flows)
         (D.state depot.old) (D.state depot.new) }
 {
-    let mut at = Place { at: 0, lines: 0 };
+    let mut at = Place::front();
     if !judge_lines(alloc, script, workers, depot, report, &mut at)? {
         return Ok(Audited::NoLine { line: at.lines });
     }

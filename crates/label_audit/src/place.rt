@@ -4,7 +4,7 @@ ghost use Rattle.std.specs.Prelude.{◌≡◌, ◌+◌, ◌<◌, ◌^◌, ℕ, L
 ghost use Rattle.net_io.specs.Depot.{octets_of};
 ghost use Rattle.report_file.specs.File.{KeepsPart};
 ghost use Rattle.report_file.specs.Meeting.{lines_in};
-ghost use Rattle.label_audit.specs.inside.Reading.{HasRead, StandsIn, IsExpected, file_of};
+ghost use Rattle.label_audit.specs.inside.Reading.{HasRead, StandsIn, IsExpected, file_of, front_place};
 
 use net_io::{Depot, IoFault};
 use report_file::{Met, ReportFile, ends_of_lines};
@@ -15,6 +15,15 @@ use report_file::{Met, ReportFile, ends_of_lines};
 pub struct Place {
     pub at: u64,
     pub lines: u64,
+}
+
+impl Place {
+    /// In front of a report's first octet.
+    pub(crate) fn front() -> Place
+        ensures { result ≡ front_place }
+    {
+        Place { at: 0, lines: 0 }
+    }
 }
 
 /// The place behind a text.

@@ -20,6 +20,3 @@ pub use read::read_script;
 pub use script::Script;
 pub use script_lines::{Command, LimitName, ScriptKind, Step, write_step};
 pub use stop::{ScriptFault, ScriptStop};
-
-#[cfg(test)]
-mod tests;

@@ -19,6 +19,3 @@ mod work;
 pub use feed::Feed;
 pub use packet_walk::{End, Gate, Octets, OpenGate, PacketIn, Versions, Walked, walk};
 pub use rounds::{RoundStop, round};
-
-#[cfg(test)]
-mod tests;

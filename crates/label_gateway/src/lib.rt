@@ -10,6 +10,3 @@ mod onward;
 
 pub use forwarding::{Passed, forward, forward_into};
 pub use label_receive::Room;
-
-#[cfg(test)]
-mod tests;

@@ -60,6 +60,7 @@ pub fn destination_of(packet: &Packet<'_>) -> Address
 /// Without a label option: Unlabelled where such packets aren't accepted, NoStatic where no labels are set for the source. With
 /// one: UnknownDoi, TagNotAllowed, LevelUnmapped or CategoryUnmapped by the definition of its DOI.
 #[tactic(auto, unfolding(crate::specs::Incoming::label_of))]
+#[inline(always)]
 pub fn labels_into<'a>(
     tables: &'a Tables,
     interface: &Name,
@@ -80,6 +81,7 @@ pub fn labels_into<'a>(
 }
 
 // The labels that are set for a source.
+#[inline(always)]
 fn static_labels<'a>(
     tables: &'a Tables,
     interface: &Name,
@@ -102,6 +104,7 @@ fn static_labels<'a>(
 }
 
 // The label that an option says, by the definition of its DOI.
+#[inline(always)]
 fn option_labels<'a>(
     definitions: &DoiTable,
     mark: Mark,

@@ -15,6 +15,3 @@ pub use judged::fault_denial;
 pub use range::{arrival_is_outside, is_outside, label_is_outside};
 pub use receiving::{Delivered, receive, receive_into, receive_marked};
 pub use room::Room;
-
-#[cfg(test)]
-mod tests;

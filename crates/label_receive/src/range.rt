@@ -13,6 +13,7 @@ use node_tables::Tables;
 
 /// Whether the interface has a range, its own or else the default one, that doesn't hold both labels.
 #[tactic(auto, unfolding(crate::specs::Range::is_outside))]
+#[inline(always)]
 pub fn is_outside(tables: &Tables, interface: &Name, low: &Label, high: &Label) -> bool
     ensures { result ≡ is_outside tables.now.ranges interface.now low.now high.now }
 {
@@ -24,6 +25,7 @@ pub fn is_outside(tables: &Tables, interface: &Name, low: &Label, high: &Label) 
 
 /// The same of one label, which is tested once.
 #[tactic(auto, unfolding(crate::specs::Range::is_outside))]
+#[inline(always)]
 pub fn label_is_outside(tables: &Tables, interface: &Name, label: &Label) -> bool
     ensures { result ≡ is_outside tables.now.ranges interface.now label.now label.now }
 {
@@ -51,6 +53,7 @@ pub fn arrival_is_outside(
     }
 }
 
+#[inline(always)]
 fn in_range(range: &Range, label: &Label) -> bool
     ensures { result ≡ in_range range.now label.now }
 {

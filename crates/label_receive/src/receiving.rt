@@ -61,6 +61,7 @@ pub fn receive_into(
 
 /// The same of a packet that was read, whose label on the wire is lent. The label in the node's own numbers is left in the other one.
 #[tactic(auto, unfolding(crate::specs::Receive::receive_of))]
+#[inline(always)]
 pub fn receive_marked(
     tables: &Tables,
     interface: &Name,
@@ -94,6 +95,7 @@ pub fn receive_marked(
 }
 
 // Why a receiver doesn't get what has these labels.
+#[inline(always)]
 fn refusal_of(
     domains: &DomainMap,
     receiver: &Receiver,

@@ -13,6 +13,3 @@ pub use option::{calipso_for, cipso_for};
 pub use protocol::{carrier_of, suits};
 pub use sending::{send, send_into};
 pub use under::send_under;
-
-#[cfg(test)]
-mod tests;

@@ -12,6 +12,3 @@ mod stop;
 
 pub use run::{Verdicts, make_capture};
 pub use stop::MadeStop;
-
-#[cfg(test)]
-mod tests;

@@ -8,8 +8,6 @@ mod kept_runs;
 mod label;
 pub mod laws;
 mod packed_label;
-#[cfg(test)]
-mod tests;
 
 pub use cat_set::{CatSet, MOST_RUNS, TooManyRuns};
 pub use kept_label::KeptLabel;

@@ -14,6 +14,3 @@ pub use fault::{TextFault, TextKind};
 pub use kept_range::KeptRange;
 pub use label::{read_label, read_label_into, write_label};
 pub use range::{Range, read_range, read_range_into, write_range};
-
-#[cfg(test)]
-mod tests;

@@ -36,6 +36,3 @@ pub use safe_depot::SafeDepot;
 pub use safe_sink::SafeSink;
 pub use sink::Sink;
 pub use writing::{append_all, write_all_to};
-
-#[cfg(test)]
-mod tests;

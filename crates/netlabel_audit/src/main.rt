@@ -1,13 +1,27 @@
-//! The program: tells whether a report is one that a run of its script may print. All that it does is the one call `audit`, over the real folder
-//! and the real stream out.
+//! The auditor: a report of a run is judged against its script and its captures, by whoever has these files and didn't run it. All that the
+//! program does is the one call `audit`, over the real folder and the real stream out: it tests the words, the script, the report's length and
+//! each capture to its end, in this order, and then asks `label_audit` for the first line that no run of the script prints there. Another thing
+//! that may be wrong with a report's files is a variant in `stop.rt` with its event in `specs/inside/Finding.antt`, a case of
+//! `specs/Outcome.antt`, and its line in `specs/Lines.antt` and `src/lines.rt`.
 #![tactic(auto)]
+
+mod asked;
+mod find;
+mod inputs;
+pub mod laws;
+mod lines;
+mod stop;
+mod tell;
+#[cfg(test)]
+mod tests;
+mod top;
 
 ghost use Rattle.std.specs.Prelude.{◌≡◌, ◌⊎◌, IfOk};
 ghost use Rattle.std.specs.Process.{exit_status};
 ghost use Rattle.call_report.specs.CallEnds.{MayEnd};
-ghost use Rattle.audit_run.specs.Says.{audit_says};
+ghost use Rattle.netlabel_audit.specs.Says.{audit_says};
 
-use audit_run::audit;
+pub use crate::top::audit;
 use command_words::words_of;
 use net_io::{RealDepot, RealSink};
 use std::alloc::AllocError;

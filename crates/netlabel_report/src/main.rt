@@ -1,18 +1,30 @@
-//! The program: tells the reports of runs, added up, packet by packet that was denied, or as records. All that it does is the one call
-//! `report`, over the real folder and the real stream out.
+//! The program: tells the reports of runs, read line by line: added up, packet by packet that was denied, or as records of JSON or CSV. All that it does is
+//! the one call `report`, over the real folder and the real stream out. A report is read through a window, in its order, so that it may come through a pipe,
+//! and of it no more than a line is held. What its lines are is the business of `report_lines`, and how they are told that of `report_telling`.
 #![tactic(auto)]
+
+mod desk;
+mod lines;
+mod names;
+mod question;
+mod reading;
+mod reports;
+mod script;
+#[cfg(test)]
+mod tests;
+mod top;
 
 ghost use Rattle.std.specs.Prelude.{◌≡◌, ◌⊎◌, IfOk};
 ghost use Rattle.std.specs.Process.{exit_status};
 ghost use Rattle.call_report.specs.CallEnds.{MayEnd};
-ghost use Rattle.report_reader.specs.Says.{report_says};
+ghost use Rattle.netlabel_report.specs.Says.{report_says};
 
 use command_words::words_of;
 use net_io::{RealDepot, RealSink};
-use report_reader::report;
 use std::alloc::AllocError;
 use std::io;
 use std::process::ExitCode;
+pub use top::report;
 
 /// The status where memory ran out before the call.
 const OUT_OF_MEMORY: u8 = 6;

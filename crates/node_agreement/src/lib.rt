@@ -11,8 +11,6 @@ mod dois;
 mod ends;
 pub mod laws;
 mod levels;
-#[cfg(test)]
-mod tests;
 
 pub use compare::agrees;
 pub use disagree::Disagree;

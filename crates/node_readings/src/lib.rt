@@ -8,8 +8,6 @@ mod fault;
 pub mod laws;
 mod namings;
 mod reading;
-#[cfg(test)]
-mod tests;
 
 pub use compare::meaning_dominates;
 pub use fault::ReadingFault;

@@ -23,6 +23,3 @@ pub use network::Network;
 pub use receiver::Receiver;
 pub use reply::{Refusal, Reply};
 pub use tables::Tables;
-
-#[cfg(test)]
-mod tests;

@@ -138,6 +138,7 @@ impl Tables {
     }
 
     /// The receiver at an address.
+    #[inline(always)]
     pub fn find_receiver(&self, address: &Address) -> Option<&Receiver>
         ensures value { option_copied result ≡ find_receiver_of self.now.receivers address.now }
         ensures ordered { IfSome result
@@ -147,6 +148,7 @@ impl Tables {
     }
 
     /// The range of an interface, or else the default one.
+    #[inline(always)]
     pub fn find_range(&self, interface: &Name) -> Option<&Range>
         ensures { option_copied result ≡ find_range_of self.now.ranges interface.now }
     {

@@ -93,6 +93,31 @@ digits_appended n old few =
     by_parts old (counted n 10000) (counted n 1000) (counted n 100) (counted n 10) ((48 + n % 10) ∷ []) in
     joined ∙ ap (λ t. old ++ t) (sym (below_100000 n few (cases_lt n 10000)))
 
+four_behind : (front : List ℕ) (a b c d : ℕ) → (((front ++ a ∷ []) ++ b ∷ []) ++ c ∷ []) ++ d ∷ [] ≡ front ++ a ∷ b ∷ c ∷ d ∷ []
+four_behind front a b c d = simp append_assoc
+
+-- the last four digits stand behind those of the rest
+pub four_more : (n : ℕ) → 10000 ≤ n → n < 2 ^ 64
+    → decimal n ≡ decimal (n / 10000) ++ (48 + n % 10000 / 1000 % 10) ∷ (48 + n % 10000 / 100 % 10) ∷ (48 + n % 10000 / 10 % 10) ∷ (48 + n % 10000 % 10) ∷ []
+four_more n many small =
+    let tens : n / 10 / 10 ≡ n / 100 = omega arith in
+    let hundreds : n / 100 / 10 ≡ n / 1000 = omega arith in
+    let thousands : n / 1000 / 10 ≡ n / 10000 = omega arith in
+    let a : n / 1000 % 10 ≡ n % 10000 / 1000 % 10 = omega arith in
+    let b : n / 100 % 10 ≡ n % 10000 / 100 % 10 = omega arith in
+    let c : n / 10 % 10 ≡ n % 10000 / 10 % 10 = omega arith in
+    let d : n % 10 ≡ n % 10000 % 10 = omega arith in
+    let first : decimal (n / 1000) ≡ decimal (n / 10000) ++ (48 + n / 1000 % 10) ∷ [] =
+    decimal_step (n / 1000) (omega arith) (omega arith) ∙ ap (λ k. decimal k ++ (48 + n / 1000 % 10) ∷ []) thousands in
+    let second : decimal (n / 100) ≡ decimal (n / 1000) ++ (48 + n / 100 % 10) ∷ [] =
+    decimal_step (n / 100) (omega arith) (omega arith) ∙ ap (λ k. decimal k ++ (48 + n / 100 % 10) ∷ []) hundreds in
+    let third : decimal (n / 10) ≡ decimal (n / 100) ++ (48 + n / 10 % 10) ∷ [] =
+    decimal_step (n / 10) (omega arith) (omega arith) ∙ ap (λ k. decimal k ++ (48 + n / 10 % 10) ∷ []) tens in
+    let all : decimal n ≡ ((((decimal (n / 10000) ++ (48 + n / 1000 % 10) ∷ []) ++ (48 + n / 100 % 10) ∷ []) ++ (48 + n / 10 % 10) ∷ []) ++ (48 + n % 10) ∷ []) =
+    decimal_step n (omega arith) small ∙ ap (λ t. t ++ (48 + n % 10) ∷ []) (third ∙ ap (λ t. t ++ (48 + n / 10 % 10) ∷ []) (second ∙ ap (λ t. t ++ (48 + n / 100 % 10) ∷ []) first)) in
+    all ∙ four_behind (decimal (n / 10000)) (48 + n / 1000 % 10) (48 + n / 100 % 10) (48 + n / 10 % 10) (48 + n % 10)
+    ∙ (λ i. decimal (n / 10000) ++ (48 + a i) ∷ (48 + b i) ∷ (48 + c i) ∷ (48 + d i) ∷ [])
+
 pub room_for_decimal : (n : ℕ) → n < 2 ^ 64 → length (decimal n) ≤ 20
 room_for_decimal n small = length-decimal-le 20 n (omega arith) (omega arith) small
 

@@ -14,25 +14,69 @@ const MOST_DIGITS: usize = 20;
 /// As many digits as a `u16` has at the most.
 const SHORT_DIGITS: usize = 5;
 
+/// As many as it has with four digits more.
+const MORE_DIGITS: usize = 9;
+
 /// Appends the decimal text of a number. After an error `out` is as it was.
+#[tactic(auto, using(std::proofs::lemmas::Fmt::decimal_digit))]
 pub fn write_decimal(n: u64, out: &mut Vec<u8>) -> Result<(), AllocError>
     ensures ok { OnOk result (out.new.items ≡ out.old.items ++ decimal n) }
     ensures err { OnErr result (out.new.items ≡ out.old.items) }
 {
     // Most numbers are short, and then no room for 20 digits has to be cleared.
-    let Ok(short) = u16::try_from(n) else {
+    if n < 10 {
+        return out.extend_from_slice(&[b'0' + n as u8]);
+    }
+    match u16::try_from(n) {
+        Ok(short) => write_short(short, out),
+        Err(_) => write_more(n, out),
+    }
+}
+
+/// The same of a number of 16 bits.
+fn write_short(n: u16, out: &mut Vec<u8>) -> Result<(), AllocError>
+    ensures ok { OnOk result (out.new.items ≡ out.old.items ++ decimal n) }
+    ensures err { OnErr result (out.new.items ≡ out.old.items) }
+{
+    out.reserve(SHORT_DIGITS)?;
+    push_decimal(n, out);
+    Ok(())
+}
+
+/// The same of a number of more than four digits: those in front of the last four are mostly a number of 16 bits.
+fn write_more(n: u64, out: &mut Vec<u8>) -> Result<(), AllocError>
+    requires { 10000 ≤ n }
+    ensures ok { OnOk result (out.new.items ≡ out.old.items ++ decimal n) }
+    ensures err { OnErr result (out.new.items ≡ out.old.items) }
+{
+    let Ok(front) = u16::try_from(n / 10000) else {
         return write_long(n, out);
     };
-    out.reserve(SHORT_DIGITS)?;
-    push_decimal(short, out);
+    out.reserve(MORE_DIGITS)?;
+    push_decimal(front, out);
+    push_four((n % 10000) as u16, out);
     Ok(())
+}
+
+/// Appends the last four digits of a number.
+fn push_four(n: u16, out: &mut Vec<u8>)
+    requires room { vec_len out.old + 4 ≤ vec_capacity out.old }
+    ensures { out.new.items ≡ out.old.items ++ (48 + n / 1000 % 10) ∷ (48 + n / 100 % 10)
+        ∷ (48 + n / 10 % 10) ∷ (48 + n % 10) ∷ [] }
+{
+    out.push_reserved(digit(n / 1000));
+    out.push_reserved(digit(n / 100));
+    out.push_reserved(digit(n / 10));
+    out.push_reserved(digit(n));
 }
 
 /// Appends the decimal text of a number of 16 bits where there is room for five digits.
 #[tactic(auto, using(crate::proofs::Digits::digits_appended))]
 pub fn push_decimal(n: u16, out: &mut Vec<u8>)
     requires room { vec_len out.old + 5 ≤ vec_capacity out.old }
-    ensures { out.new.items ≡ out.old.items ++ decimal n }
+    ensures items { out.new.items ≡ out.old.items ++ decimal n }
+    ensures len { vec_len out.new ≤ vec_len out.old + 5 }
+    ensures capacity { vec_capacity out.new ≡ vec_capacity out.old }
 {
     push_digit(n, 10000, out);
     push_digit(n, 1000, out);

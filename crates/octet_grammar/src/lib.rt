@@ -15,6 +15,3 @@ pub use fault::{WireFault, WireKind};
 pub use memory::OutOfMemory;
 pub use number::{nonzero_at, number_in, u16_at, u32_at};
 pub use octet::{ended, moved, octet_at, unfit};
-
-#[cfg(test)]
-mod tests;

@@ -17,6 +17,3 @@ pub use option::WireOption;
 pub use packet::{Carried, Mark, Marked, Packet, Wire};
 pub use read::{carried, carried_into, label_at};
 pub use write::{relabel, relabel_with};
-
-#[cfg(test)]
-mod tests;

@@ -29,6 +29,3 @@ pub use stop::VersionsStop;
 pub use walked::{End, Versions, Walked};
 pub use walking::{walk, walk_into};
 pub use worker::Worker;
-
-#[cfg(test)]
-mod tests;

@@ -150,6 +150,7 @@ impl ShownWalks {
     }
 
     /// What became of the packet.
+    #[inline(always)]
     pub fn show(&mut self, slot: &WalkedSlot) -> &Walked
         ensures { result.now ≡ slot.now }
     {
@@ -174,6 +175,7 @@ impl ShownWalks {
 }
 
 // The room of an end is a label's: it is written as a whole only where it held another end.
+#[inline(always)]
 fn be_delivered(kept: &PackedLabel, receiver: Address, end: &mut End)
     ensures { end.new ≡ Delivered kept.now receiver }
 {

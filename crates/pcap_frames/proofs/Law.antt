@@ -8,6 +8,7 @@ use Rattle.pcap_frames.specs.Record.{Frame, record_at, record_size}
 use Rattle.pcap_frames.specs.Capture.{Capture, Records, go_on, records_at, capture_by, capture_of, fault_of, IsCapture}
 use Rattle.pcap_frames.specs.Reader.{Reader, AreRecords, ReaderStandsIn}
 use Rattle.pcap_frames.specs.Written.{IsWritableFrame, frame_octets, frames_octets, capture_octets}
+pub use Rattle.pcap_frames.proofs.Bounds.{header_long}
 use Rattle.pcap_frames.proofs.Chains.{one_and_more}
 use Rattle.pcap_frames.proofs.WriteBack.{capture_back}
 use Rattle.pcap_frames.proofs.Bounds.{file_fault, reader_fault}

@@ -10,8 +10,6 @@ mod ip;
 pub mod laws;
 mod reading;
 mod record;
-#[cfg(test)]
-mod tests;
 mod write;
 
 pub use fault::{CaptureFault, CaptureKind, FrameStop};

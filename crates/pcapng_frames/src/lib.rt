@@ -19,8 +19,6 @@ mod packet;
 mod reading;
 mod section;
 mod taking;
-#[cfg(test)]
-mod tests;
 mod write;
 
 pub use fault::{NgFault, NgKind, NgStop};

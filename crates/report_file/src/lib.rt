@@ -6,8 +6,6 @@
 mod meeting;
 mod naming;
 mod report;
-#[cfg(test)]
-mod tests;
 mod window;
 mod word;
 

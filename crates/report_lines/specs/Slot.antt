@@ -46,6 +46,35 @@ field_name name.Line = codes "at"
 field_name name.Limit = codes "limit"
 field_name name.Most = codes "most"
 
+-- fields are told apart by numbers
+abbrev pub field_number : Field → ℕ
+field_number name.Step = 0
+field_number name.Node = 1
+field_number name.Answer = 2
+field_number name.Lines = 3
+field_number name.Flow = 4
+field_number name.Input = 5
+field_number name.Number = 6
+field_number name.Became = 7
+field_number name.Label = 8
+field_number name.Receiver = 9
+field_number name.Carrier = 10
+field_number name.Denial = 11
+field_number name.Name = 12
+field_number name.Octet = 13
+field_number name.Category = 14
+field_number name.Cause = 15
+field_number name.Hop = 16
+field_number name.Versions = 17
+field_number name.Packets = 18
+field_number name.Passed = 19
+field_number name.Denied = 20
+field_number name.Capture = 21
+field_number name.Kind = 22
+field_number name.Line = 23
+field_number name.Limit = 24
+field_number name.Most = 25
+
 -- the words that stand as they are
 abbrev pub fixed_text : Fixed → List ℕ
 fixed_text word.Command = codes "command"

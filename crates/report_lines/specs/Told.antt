@@ -1,17 +1,16 @@
 -- What a line tells under the name of a field.
 use Rattle.std.specs.Prelude.{ℕ, Bool, false, ◌||◌, ◌==◌, List, [], ◌∷◌, if◌then◌else◌}
-use Rattle.std.specs.Str.{bytes_eq}
 use Rattle.std.specs.List.{before_first, after_first}
 use Rattle.mls_range.specs.LabelText.{dot}
 use Rattle.report_lines.specs.declared.slot.Field.{Field}
 use Rattle.report_lines.specs.declared.slot.Field.TheVariants as name
 use Rattle.report_lines.specs.declared.slot.Slot.{Slot}
 use Rattle.report_lines.specs.declared.slot.Slot.TheVariants as slot
-use Rattle.report_lines.specs.Slot.{field_name}
+use Rattle.report_lines.specs.Slot.{field_number}
 
--- fields are told apart by their names
+-- two fields are one
 abbrev pub is_field : Field → Field → Bool
-is_field a b = bytes_eq (field_name a) (field_name b)
+is_field a b = field_number a == field_number b
 
 -- a slot's word tells something under a field
 abbrev pub tells : Slot → Field → Bool

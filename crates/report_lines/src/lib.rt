@@ -16,7 +16,7 @@ pub use form::Form;
 pub use line::read_line;
 pub use slot::{Field, Fixed, Kind, Slot};
 pub use texts::{Word, first_word, parts_at, whole_number};
-pub use told::told_word;
+pub use told::{is_field, told_word};
 
 #[cfg(test)]
 mod tests;

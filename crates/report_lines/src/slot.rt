@@ -1,7 +1,7 @@
 //! What stands at a place of a line.
 
 ghost use Rattle.std.specs.Prelude.{◌≡◌};
-ghost use Rattle.report_lines.specs.Slot.{fixed_text, field_name};
+ghost use Rattle.report_lines.specs.Slot.{fixed_text, field_name, field_number};
 
 /// What a word says, by the name under which it is told.
 #[derive(Clone, Copy)]
@@ -66,6 +66,40 @@ impl Field {
             Field::Line => b"at",
             Field::Limit => b"limit",
             Field::Most => b"most",
+        }
+    }
+
+    /// Its number, by which it is told from others.
+    pub(crate) fn number(self) -> u8
+        ensures { result ≡ field_number self }
+    {
+        match self {
+            Field::Step => 0,
+            Field::Node => 1,
+            Field::Answer => 2,
+            Field::Lines => 3,
+            Field::Flow => 4,
+            Field::Input => 5,
+            Field::Number => 6,
+            Field::Became => 7,
+            Field::Label => 8,
+            Field::Receiver => 9,
+            Field::Carrier => 10,
+            Field::Denial => 11,
+            Field::Name => 12,
+            Field::Octet => 13,
+            Field::Category => 14,
+            Field::Cause => 15,
+            Field::Hop => 16,
+            Field::Versions => 17,
+            Field::Packets => 18,
+            Field::Passed => 19,
+            Field::Denied => 20,
+            Field::Capture => 21,
+            Field::Kind => 22,
+            Field::Line => 23,
+            Field::Limit => 24,
+            Field::Most => 25,
         }
     }
 }

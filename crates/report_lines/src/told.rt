@@ -1,6 +1,7 @@
 //! What a line tells under the name of a field.
 
 ghost use Rattle.std.specs.Prelude.{◌≡◌};
+ghost use Rattle.std.specs.List.{list_any};
 ghost use Rattle.report_lines.specs.Line.{line_words};
 ghost use Rattle.report_lines.specs.Told.{is_field, tells, part_of, told_word};
 
@@ -11,6 +12,9 @@ use crate::texts::{first_word, parts_at};
 pub fn told_word<'a>(field: Field, slots: &[Slot], line: &'a [u8]) -> &'a [u8]
     ensures { result.now ≡ told_word field slots.now (line_words line.now) }
 {
+    if !has_field(slots, field) {
+        return b"";
+    }
     let mut slots = slots;
     let mut text = line;
     let mut more = true;
@@ -29,10 +33,18 @@ pub fn told_word<'a>(field: Field, slots: &[Slot], line: &'a [u8]) -> &'a [u8]
     b""
 }
 
-fn is_field(a: Field, b: Field) -> bool
+/// Whether a line with these slots tells something under a field. It is asked first, so that words are read for what they tell alone.
+fn has_field(slots: &[Slot], field: Field) -> bool
+    ensures { result ≡ list_any (λ slot. tells slot field) slots.now }
+{
+    slots.iter().any(|slot| tells(*slot, field))
+}
+
+/// Whether two fields are one.
+pub fn is_field(a: Field, b: Field) -> bool
     ensures { result ≡ is_field a b }
 {
-    a.name() == b.name()
+    a.number() == b.number()
 }
 
 /// Whether a slot's word tells something under a field.

@@ -1,8 +1,8 @@
 -- Lines as records of JSON (RFC 8259): numbers as they stand, texts as strings, versions as a list.
-use Rattle.std.specs.Prelude.{ℕ, ◌==◌, ◌||◌, List, [], ◌∷◌, ◌++◌, codes, if◌then◌else◌}
+use Rattle.std.specs.Prelude.{ℕ, ◌==◌, List, [], ◌∷◌, ◌++◌, codes, Option, Some, None, if◌then◌else◌}
 use Rattle.std.specs.Fmt.{decimal}
 use Rattle.std.specs.Str.{bytes_eq}
-use Rattle.std.specs.List.{flat_map, before_first, after_first}
+use Rattle.std.specs.List.{before_first, after_first}
 use Rattle.mls_range.specs.LabelText.{dot}
 use Rattle.report_lines.specs.declared.form.Form.{Form}
 use Rattle.report_lines.specs.declared.slot.Field.{Field}
@@ -12,14 +12,11 @@ use Rattle.report_lines.specs.declared.slot.Slot.TheVariants as slot
 use Rattle.report_lines.specs.Slot.{field_name}
 use Rattle.report_lines.specs.Form.{slots_of, form_name}
 use Rattle.report_lines.specs.Line.{line_words}
-
--- a quote and a backslash stand behind a backslash
-abbrev pub escaped : ℕ → List ℕ
-escaped octet = if octet == 34 || octet == 92 then 92 ∷ octet ∷ [] else octet ∷ []
+use Rattle.report_telling.specs.Quoted.{quoted}
 
 -- a text of printable ASCII as a string
 abbrev pub string_text : List ℕ → List ℕ
-string_text text = 34 ∷ flat_map escaped text ++ 34 ∷ []
+string_text text = quoted 92 text
 
 -- a member's name
 abbrev pub member_name : Field → List ℕ
@@ -47,8 +44,14 @@ members_text slots words = []
 abbrev pub record_begin : ℕ → List ℕ → List ℕ
 record_begin report name = codes "{\"report\":" ++ decimal report ++ codes ",\"line\":\"" ++ name ++ codes "\""
 
-unfoldable pub json_text : ℕ → Form → List ℕ → List ℕ
-json_text report form line = record_begin report (form_name form) ++ members_text (slots_of form) (line_words line) ++ codes "}\n"
+-- the line in the script at which a line's command stands
+abbrev pub script_member : Option ℕ → List ℕ
+script_member None = []
+script_member (Some at) = member_name name.Line ++ decimal at
+
+-- a line of the report of this number
+unfoldable pub json_text : Option ℕ → ℕ → Form → List ℕ → List ℕ
+json_text at report form line = record_begin report (form_name form) ++ members_text (slots_of form) (line_words line) ++ script_member at ++ codes "}\n"
 
 -- a line of a listing
 unfoldable pub listed_json : ℕ → List ℕ → List ℕ

@@ -1,4 +1,7 @@
 pub mod Counts
+pub mod Fields
+pub mod Commands
+pub mod Quoted
 pub mod Json
 pub mod Csv
 pub mod Summary

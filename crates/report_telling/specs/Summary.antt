@@ -1,7 +1,7 @@
 -- The table of what was added up.
-use Rattle.std.specs.Prelude.{ℕ, ◌+◌, ◌-◌, ◌==◌, nat_le, List, [], ◌∷◌, ◌++◌, codes, if◌then◌else◌}
+use Rattle.std.specs.Prelude.{ℕ, ◌+◌, ◌-◌, ◌==◌, nat_le, List, [], ◌∷◌, ◌++◌, codes, Option, Some, None, if◌then◌else◌}
 use Rattle.std.specs.Fmt.{decimal}
-use Rattle.std.specs.List.{flat_map}
+use Rattle.std.specs.List.{flat_map, before_first, after_first}
 use Rattle.report_telling.specs.declared.counts.Progress.{Progress}
 use Rattle.report_telling.specs.declared.counts.Tally.{Tally}
 
@@ -9,9 +9,14 @@ use Rattle.report_telling.specs.declared.counts.Tally.{Tally}
 abbrev pub count_text : List ℕ → ℕ → List ℕ
 count_text text count = text ++ decimal count
 
+-- the text of a reply's line behind `command `, with the line in the script behind the command's number
+abbrev pub placed_reply : Option ℕ → List ℕ → List ℕ
+placed_reply None reply = reply
+placed_reply (Some at) reply = before_first (λ c. c == 32) reply ++ count_text (codes " line ") at ++ codes " " ++ after_first (λ c. c == 32) reply
+
 -- a command that was refused, by the text of its line behind `command `
-unfoldable pub refused_text : ℕ → List ℕ → List ℕ
-refused_text report reply = count_text (codes "refused ") report ++ codes "." ++ reply ++ codes "\n"
+unfoldable pub refused_text : Option ℕ → ℕ → List ℕ → List ℕ
+refused_text at report reply = count_text (codes "refused ") report ++ codes "." ++ placed_reply at reply ++ codes "\n"
 
 -- a sum, at most the greatest number
 abbrev pub sum_of : ℕ → ℕ → ℕ

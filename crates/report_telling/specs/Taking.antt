@@ -1,23 +1,23 @@
 -- What becomes of each line of a report, and of its end.
-use Rattle.std.specs.Prelude.{ℕ, ◌-◌, Bool, true, false, not, ◌==◌, ◌&&◌, nat_lt, List, [], ◌∷◌, ◌++◌, drop, codes, Option, Some, None, unwrap_or, position, Result, Ok, Err, if◌then◌else◌}
+use Rattle.std.specs.Prelude.{ℕ, ◌-◌, Bool, true, false, not, ◌==◌, ◌&&◌, nat_lt, List, [], ◌∷◌, ◌++◌, drop, codes, Option, Some, None, position, Result, Ok, Err, if◌then◌else◌}
 use Rattle.std.specs.Fmt.{decimal}
 use Rattle.script_lines.specs.Octet.{is_plain}
 use Rattle.address_text.specs.Name.{is_name}
 use Rattle.report_lines.specs.declared.form.Form.{Form}
 use Rattle.report_lines.specs.declared.form.Form.TheVariants as form
-use Rattle.report_lines.specs.declared.slot.Field.{Field}
 use Rattle.report_lines.specs.declared.slot.Field.TheVariants as name
-use Rattle.report_lines.specs.Slot.{whole_number}
-use Rattle.report_lines.specs.Form.{slots_of}
-use Rattle.report_lines.specs.Line.{line_form, line_words}
-use Rattle.report_lines.specs.Told.{told_word}
+use Rattle.report_lines.specs.Line.{line_form}
 use Rattle.report_telling.specs.declared.counts.Progress.{Progress}
 use Rattle.report_telling.specs.declared.counts.Tally.{Tally}
+use Rattle.report_telling.specs.declared.way.Manner.{Manner}
 use Rattle.report_telling.specs.declared.way.Way.{Way}
 use Rattle.report_telling.specs.declared.way.Way.TheVariants.{Summary, Denied, Json, Csv}
 use Rattle.report_telling.specs.declared.taking.LineKind.{LineKind}
 use Rattle.report_telling.specs.declared.taking.LineKind.TheVariants.{Listed, Of}
+use Rattle.report_telling.specs.declared.commands.CommandPlace.{CommandPlace}
+use Rattle.report_telling.specs.Commands.{answered_at, stranger_at}
 use Rattle.report_telling.specs.Counts.{risen, tallied, is_counted}
+use Rattle.report_telling.specs.Fields.{told_in, number_told}
 use Rattle.report_telling.specs.Json.{json_text, listed_json, unfinished_json}
 use Rattle.report_telling.specs.Csv.{csv_text, listed_csv, unfinished_csv}
 use Rattle.report_telling.specs.Summary.{refused_text}
@@ -32,15 +32,20 @@ abbrev pub listed_kind : Option ℕ → Result LineKind ℕ
 listed_kind None = Ok Listed
 listed_kind (Some octet) = Err octet
 
-abbrev pub form_kind : Result Form ℕ → Result LineKind ℕ
-form_kind (Ok form) = Ok (Of form)
-form_kind (Err octet) = Err octet
+abbrev pub kind_unless : Option ℕ → Form → Result LineKind ℕ
+kind_unless None form = Ok (Of form)
+kind_unless (Some octet) form = Err octet
+
+-- by the form of a line; an answer has to be that of a command of the script, where there is one
+abbrev pub form_kind : Option (List CommandPlace) → List ℕ → Result Form ℕ → Result LineKind ℕ
+form_kind commands line (Ok form) = kind_unless (stranger_at commands form line) form
+form_kind commands line (Err octet) = Err octet
 
 -- What a line is, or the octet at fault: nothing comes behind a report's last line, and as many lines of a listing as were told.
-abbrev pub line_kind : Progress → List ℕ → Result LineKind ℕ
-line_kind p line =
+abbrev pub line_kind : Option (List CommandPlace) → Progress → List ℕ → Result LineKind ℕ
+line_kind commands p line =
     if p.finished then Err 0
-    else if p.due == 0 then form_kind (line_form line)
+    else if p.due == 0 then form_kind commands line (line_form line)
     else listed_kind (listed_stop line)
 
 -- a packet was denied
@@ -51,13 +56,13 @@ is_denial_form form.DeniedCategory = true
 is_denial_form form.DeniedCause = true
 is_denial_form form = false
 
--- how a line of a form is told
-abbrev pub form_text : Way → ℕ → Form → List ℕ → List ℕ
-form_text Summary report form.Refused line = refused_text report (drop 8 line)
-form_text Summary report form line = []
-form_text Denied report form line = if is_denial_form form then line ++ 10 ∷ [] else []
-form_text Json report form line = json_text report form line
-form_text Csv report form line = csv_text report form line
+-- how a line of a form is told, with the line in the script at which its command stands
+abbrev pub form_text : Way → Option ℕ → ℕ → Form → List ℕ → List ℕ
+form_text Summary at report form.Refused line = refused_text at report (drop 8 line)
+form_text Summary at report form line = []
+form_text Denied at report form line = if is_denial_form form then line ++ 10 ∷ [] else []
+form_text Json at report form line = json_text at report form line
+form_text Csv at report form line = csv_text at report form line
 
 abbrev pub listed_text : Way → ℕ → List ℕ → List ℕ
 listed_text Summary report line = []
@@ -66,9 +71,9 @@ listed_text Json report line = listed_json report (drop 2 line)
 listed_text Csv report line = listed_csv report (drop 2 line)
 
 -- how a line of the report of this number is told
-abbrev pub line_text : Way → ℕ → LineKind → List ℕ → List ℕ
-line_text way report Listed line = listed_text way report line
-line_text way report (Of form) line = form_text way report form line
+abbrev pub line_text : Manner → ℕ → LineKind → List ℕ → List ℕ
+line_text manner report Listed line = listed_text manner.way report line
+line_text manner report (Of form) line = form_text manner.way (answered_at manner.commands form line) report form line
 
 -- how it is told that a report isn't finished, where it isn't
 abbrev pub unfinished_text : Way → ℕ → Bool → List ℕ
@@ -77,14 +82,6 @@ unfinished_text Summary report false = []
 unfinished_text Denied report false = codes "unfinished " ++ decimal report ++ codes "\n"
 unfinished_text Json report false = unfinished_json report
 unfinished_text Csv report false = unfinished_csv report
-
--- what a line tells under a field
-abbrev pub told_in : Field → Form → List ℕ → List ℕ
-told_in field form line = told_word field (slots_of form) (line_words line)
-
--- and its number
-abbrev pub number_told : Field → Form → List ℕ → ℕ
-number_told field form line = unwrap_or (whole_number (told_in field form line)) 0
 
 -- what a form counts for
 abbrev pub counted : Form → List ℕ → Progress → Progress

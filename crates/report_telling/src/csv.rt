@@ -1,12 +1,16 @@
 //! A line as a record of CSV.
 
 ghost use Rattle.std.specs.Prelude.{◌≡◌, ◌++◌, OnOk};
-ghost use Rattle.std.specs.List.{flat_map};
-ghost use Rattle.report_telling.specs.Csv.{columns, heading, doubled, quoted, cell_text, cells_text, row_begin, csv_text, listed_csv, unfinished_csv};
+ghost use Rattle.report_telling.specs.Quoted.{quoted};
+ghost use Rattle.report_telling.specs.Csv.{columns, heading, cell_text, cell_in, cells_text, row_begin, csv_text, listed_csv, unfinished_csv};
 
+use crate::quoted::append_quoted;
 use mls_label::OutOfMemory;
 use octet_grammar::write_decimal;
-use report_lines::{Field, Form, told_word, whole_number};
+use report_lines::{Field, Form, is_field, told_word, whole_number};
+
+/// What stands in front of a quote in a text (RFC 4180, section 2).
+const MARK: u8 = b'"';
 
 /// The columns between the name of the line and the text of a listed one.
 const COLUMNS: [Field; 26] = [
@@ -53,13 +57,19 @@ pub fn heading() -> &'static [u8]
     b"report,line,step,node,answer,lines,flow,input,number,became,label,receiver,carrier,denial,name,octet,category,cause,hop,versions,packets,passed,denied,capture,kind,at,limit,most,text\n"
 }
 
-/// Appends a line of this form, of the report of this number, as a record.
+/// Appends a line of this form, of the report of this number, as a record, with the line in the script at which its command stands.
 #[tactic(auto, unfolding(crate::specs::Csv::csv_text))]
-pub fn write_csv(report: u64, form: Form, line: &[u8], out: &mut Vec<u8>) -> Result<(), OutOfMemory>
-    ensures { OnOk result (out.new.items ≡ out.old.items ++ csv_text report form line.now) }
+pub fn write_csv(
+    at: Option<u64>,
+    report: u64,
+    form: Form,
+    line: &[u8],
+    out: &mut Vec<u8>,
+) -> Result<(), OutOfMemory>
+    ensures { OnOk result (out.new.items ≡ out.old.items ++ csv_text at report form line.now) }
 {
     begin_record(report, form.name(), out)?;
-    append_cells(form, line, out)?;
+    append_cells(at, form, line, out)?;
     out.extend_from_slice(b",\n")?;
     Ok(())
 }
@@ -71,7 +81,7 @@ pub fn write_listed_csv(report: u64, line: &[u8], out: &mut Vec<u8>) -> Result<(
 {
     begin_record(report, b"listed", out)?;
     out.extend_from_slice(b",,,,,,,,,,,,,,,,,,,,,,,,,,,")?;
-    append_quoted(line, out)?;
+    append_quoted(MARK, line, out)?;
     out.push(b'\n')?;
     Ok(())
 }
@@ -96,16 +106,43 @@ fn begin_record(report: u64, name: &[u8], out: &mut Vec<u8>) -> Result<(), OutOf
     Ok(())
 }
 
-fn append_cells(form: Form, line: &[u8], out: &mut Vec<u8>) -> Result<(), OutOfMemory>
-    ensures { OnOk result (out.new.items ≡ out.old.items ++ cells_text columns form line.now) }
+fn append_cells(
+    at: Option<u64>,
+    form: Form,
+    line: &[u8],
+    out: &mut Vec<u8>,
+) -> Result<(), OutOfMemory>
+    ensures { OnOk result (out.new.items ≡ out.old.items ++ cells_text columns at form line.now) }
 {
     let mut fields = columns();
     while let [field, others @ ..] = fields {
         out.push(b',')?;
-        append_cell(told_word(*field, form.slots(), line), out)?;
+        append_cell_in(at, *field, form, line, out)?;
         fields = others;
     }
     Ok(())
+}
+
+/// Appends the cell of a column.
+fn append_cell_in(
+    at: Option<u64>,
+    field: Field,
+    form: Form,
+    line: &[u8],
+    out: &mut Vec<u8>,
+) -> Result<(), OutOfMemory>
+    ensures { OnOk result (out.new.items ≡ out.old.items ++ cell_in at field form line.now) }
+{
+    match at {
+        Some(number) => {
+            if is_field(Field::Line, field) {
+                write_decimal(number, out)?;
+                return Ok(());
+            }
+            append_cell(told_word(field, form.slots(), line), out)
+        }
+        None => append_cell(told_word(field, form.slots(), line), out),
+    }
 }
 
 /// Appends nothing for nothing, a number as it is, and each other text in quotes.
@@ -119,36 +156,5 @@ fn append_cell(text: &[u8], out: &mut Vec<u8>) -> Result<(), OutOfMemory>
         out.extend_from_slice(text)?;
         return Ok(());
     }
-    append_quoted(text, out)
-}
-
-/// Appends a text in quotes, each quote in it twice (RFC 4180, section 2).
-fn append_quoted(text: &[u8], out: &mut Vec<u8>) -> Result<(), OutOfMemory>
-    ensures { OnOk result (out.new.items ≡ out.old.items ++ quoted text.now) }
-{
-    out.push(b'"')?;
-    append_octets(text, out)?;
-    out.push(b'"')?;
-    Ok(())
-}
-
-fn append_octets(text: &[u8], out: &mut Vec<u8>) -> Result<(), OutOfMemory>
-    ensures { OnOk result (out.new.items ≡ out.old.items ++ flat_map doubled text.now) }
-{
-    let mut rest = text;
-    while let [octet, behind @ ..] = rest {
-        append_octet(*octet, out)?;
-        rest = behind;
-    }
-    Ok(())
-}
-
-fn append_octet(octet: u8, out: &mut Vec<u8>) -> Result<(), OutOfMemory>
-    ensures { OnOk result (out.new.items ≡ out.old.items ++ doubled octet) }
-{
-    if octet == b'"' {
-        out.push(b'"')?;
-    }
-    out.push(octet)?;
-    Ok(())
+    append_quoted(MARK, text, out)
 }

@@ -1,27 +1,42 @@
 //! A line as a record of JSON.
 
 ghost use Rattle.std.specs.Prelude.{◌≡◌, ◌++◌, OnOk};
-ghost use Rattle.std.specs.List.{flat_map};
 ghost use Rattle.report_lines.specs.Line.{line_words};
-ghost use Rattle.report_telling.specs.Json.{escaped, string_text, member_name, versions_list, member_text, members_text, record_begin, json_text, listed_json, unfinished_json};
+ghost use Rattle.report_telling.specs.Json.{string_text, member_name, versions_list, member_text, members_text, record_begin, script_member, json_text, listed_json, unfinished_json};
 
+use crate::quoted::append_quoted;
 use mls_label::OutOfMemory;
 use octet_grammar::write_decimal;
 use report_lines::{Field, Form, Slot, first_word, parts_at};
 
-/// Appends a line of this form, of the report of this number, as a record.
+/// What stands in front of a quote in a text, and in front of itself (RFC 8259, section 7).
+const MARK: u8 = b'\\';
+
+/// Appends a line of this form, of the report of this number, as a record, with the line in the script at which its command stands.
 #[tactic(auto, unfolding(crate::specs::Json::json_text))]
 pub fn write_json(
+    at: Option<u64>,
     report: u64,
     form: Form,
     line: &[u8],
     out: &mut Vec<u8>,
 ) -> Result<(), OutOfMemory>
-    ensures { OnOk result (out.new.items ≡ out.old.items ++ json_text report form line.now) }
+    ensures { OnOk result (out.new.items ≡ out.old.items ++ json_text at report form line.now) }
 {
     begin_record(report, form.name(), out)?;
     append_members(form.slots(), line, out)?;
+    append_script_line(at, out)?;
     out.extend_from_slice(b"}\n")?;
+    Ok(())
+}
+
+fn append_script_line(at: Option<u64>, out: &mut Vec<u8>) -> Result<(), OutOfMemory>
+    ensures { OnOk result (out.new.items ≡ out.old.items ++ script_member at) }
+{
+    if let Some(line) = at {
+        append_name(Field::Line, out)?;
+        write_decimal(line, out)?;
+    }
     Ok(())
 }
 
@@ -32,7 +47,7 @@ pub fn write_listed_json(report: u64, line: &[u8], out: &mut Vec<u8>) -> Result<
 {
     begin_record(report, b"listed", out)?;
     out.extend_from_slice(b",\"text\":")?;
-    append_string(line, out)?;
+    append_quoted(MARK, line, out)?;
     out.extend_from_slice(b"}\n")?;
     Ok(())
 }
@@ -115,7 +130,7 @@ fn append_text(field: Field, text: &[u8], out: &mut Vec<u8>) -> Result<(), OutOf
         ≡ out.old.items ++ (member_name field ++ string_text text.now)) }
 {
     append_name(field, out)?;
-    append_string(text, out)
+    append_quoted(MARK, text, out)
 }
 
 fn append_place(word: &[u8], out: &mut Vec<u8>) -> Result<(), OutOfMemory>
@@ -136,36 +151,5 @@ fn append_versions(word: &[u8], out: &mut Vec<u8>) -> Result<(), OutOfMemory>
         out.extend_from_slice(word)?;
     }
     out.push(b']')?;
-    Ok(())
-}
-
-/// Appends a text of printable ASCII as a string (RFC 8259, section 7).
-fn append_string(text: &[u8], out: &mut Vec<u8>) -> Result<(), OutOfMemory>
-    ensures { OnOk result (out.new.items ≡ out.old.items ++ string_text text.now) }
-{
-    out.push(b'"')?;
-    append_octets(text, out)?;
-    out.push(b'"')?;
-    Ok(())
-}
-
-fn append_octets(text: &[u8], out: &mut Vec<u8>) -> Result<(), OutOfMemory>
-    ensures { OnOk result (out.new.items ≡ out.old.items ++ flat_map escaped text.now) }
-{
-    let mut rest = text;
-    while let [octet, behind @ ..] = rest {
-        append_octet(*octet, out)?;
-        rest = behind;
-    }
-    Ok(())
-}
-
-fn append_octet(octet: u8, out: &mut Vec<u8>) -> Result<(), OutOfMemory>
-    ensures { OnOk result (out.new.items ≡ out.old.items ++ escaped octet) }
-{
-    if octet == b'"' || octet == b'\\' {
-        out.push(b'\\')?;
-    }
-    out.push(octet)?;
     Ok(())
 }

@@ -3,19 +3,22 @@
 //! report's end. The lines are those of `report_lines`. Another way is a variant of `Way`, its text of a line in `specs/Taking.antt`, and its writer.
 #![tactic(auto)]
 
+mod commands;
 mod counts;
 mod csv;
 mod json;
+mod quoted;
 mod summary;
 mod taking;
 mod way;
 
+pub use commands::{CommandPlace, Commands};
 pub use counts::{Progress, Tally, risen, start};
 pub use csv::heading;
 pub use mls_label::OutOfMemory;
 pub use summary::write_summary;
 pub use taking::{LineKind, count_end, count_line, line_kind, tell_end, tell_line, write_fault};
-pub use way::Way;
+pub use way::{Manner, Way};
 
 #[cfg(test)]
 mod tests;

@@ -1,22 +1,52 @@
 //! The table of what was added up.
 
-ghost use Rattle.std.specs.Prelude.{◌≡◌, ◌++◌, codes, OnOk};
+ghost use Rattle.std.specs.Prelude.{◌≡◌, ◌++◌, codes, Some, OnOk};
 ghost use Rattle.std.specs.List.{flat_map};
-ghost use Rattle.report_telling.specs.Summary.{count_text, refused_text, reports_text, early_text, commands_text, packets_text, others_text, sum_of, tally_text, elsewhere_text, summary_text};
+ghost use Rattle.report_telling.specs.Summary.{count_text, placed_reply, refused_text, reports_text, early_text, commands_text, packets_text, others_text, sum_of, tally_text, elsewhere_text, summary_text};
 
 use crate::counts::{Progress, Tally};
 use mls_label::OutOfMemory;
 use octet_grammar::write_decimal;
+use report_lines::parts_at;
 
-/// Appends that a command was refused, by the text of its line behind `command `.
+/// Appends that a command was refused, by the text of its line behind `command `, with the line in the script at which the command stands.
 #[tactic(auto, unfolding(crate::specs::Summary::refused_text))]
-pub fn write_refused(report: u64, reply: &[u8], out: &mut Vec<u8>) -> Result<(), OutOfMemory>
-    ensures { OnOk result (out.new.items ≡ out.old.items ++ refused_text report reply.now) }
+pub fn write_refused(
+    at: Option<u64>,
+    report: u64,
+    reply: &[u8],
+    out: &mut Vec<u8>,
+) -> Result<(), OutOfMemory>
+    ensures { OnOk result (out.new.items ≡ out.old.items ++ refused_text at report reply.now) }
 {
     append_count(b"refused ", report, out)?;
     out.push(b'.')?;
-    out.extend_from_slice(reply)?;
+    append_reply(at, reply, out)?;
     out.push(b'\n')?;
+    Ok(())
+}
+
+fn append_reply(at: Option<u64>, reply: &[u8], out: &mut Vec<u8>) -> Result<(), OutOfMemory>
+    ensures { OnOk result (out.new.items ≡ out.old.items ++ placed_reply at reply.now) }
+{
+    match at {
+        Some(line) => append_placed(line, reply, out),
+        None => {
+            out.extend_from_slice(reply)?;
+            Ok(())
+        }
+    }
+}
+
+/// Appends the text of a reply, with the line in the script behind the command's number.
+fn append_placed(line: u64, reply: &[u8], out: &mut Vec<u8>) -> Result<(), OutOfMemory>
+    ensures { OnOk result (out.new.items ≡ out.old.items ++ placed_reply (Some line) reply.now) }
+{
+    let (number, answer) = parts_at(reply, b' ');
+    out.extend_from_slice(number)?;
+    append_count(b" line ", line, out)?;
+    out.push(b' ')?;
+    out.extend_from_slice(answer)?;
     Ok(())
 }
 

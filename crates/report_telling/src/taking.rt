@@ -1,18 +1,20 @@
 //! What becomes of a line: what it is, how it is told, and what it counts for.
 
-ghost use Rattle.std.specs.Prelude.{◌≡◌, ◌++◌, drop, OnOk, IfOk, if◌then◌else◌};
-ghost use Rattle.report_telling.specs.Taking.{Standing, listed_stop, line_kind, is_denial_form, form_text, listed_text, line_text, unfinished_text, told_in, number_told, counted, has_place, with_tally, with_denied, one_line, after_form, after_line, after_end, no_report_text};
+ghost use Rattle.std.specs.Prelude.{◌≡◌, ◌++◌, drop, None, OnOk, IfOk, if◌then◌else◌};
+ghost use Rattle.report_lines.specs.Line.{line_form};
+ghost use Rattle.report_telling.specs.Taking.{Standing, listed_stop, form_kind, line_kind, is_denial_form, form_text, listed_text, line_text, unfinished_text, counted, has_place, with_tally, with_denied, one_line, after_form, after_line, after_end, no_report_text};
 ghost use Rattle.report_telling.specs.Counts.{risen};
 
+use crate::commands::{Commands, number_told};
 use crate::counts::{Progress, Tally, count_at, risen};
 use crate::csv::{write_csv, write_listed_csv, write_unfinished_csv};
 use crate::json::{write_json, write_listed_json, write_unfinished_json};
 use crate::summary::write_refused;
-use crate::way::Way;
+use crate::way::{Manner, Way};
 use address_text::read_name;
 use mls_label::{Label, OutOfMemory};
 use octet_grammar::write_decimal;
-use report_lines::{Field, Form, read_line, told_word, whole_number};
+use report_lines::{Field, Form, read_line, told_word};
 use script_lines::first_unfit;
 
 /// What a line is.
@@ -23,22 +25,37 @@ pub enum LineKind {
     Of { form: Form },
 }
 
-/// What a line is, or the octet at fault. A report's last line has nothing behind it, and as many listed lines come as were told.
-pub fn line_kind(progress: &Progress, line: &[u8], label: &mut Label) -> Result<LineKind, usize>
-    ensures { result ≡ line_kind progress.now line.now }
+/// What a line is, or the octet at fault. A report's last line has nothing behind it, as many listed lines come as were told, and where there is a
+/// script each answer is that of one of its commands.
+pub fn line_kind(
+    commands: &Commands,
+    progress: &Progress,
+    line: &[u8],
+    label: &mut Label,
+) -> Result<LineKind, usize>
+    ensures { result ≡ line_kind commands.now progress.now line.now }
 {
     if progress.finished {
         return Err(0);
     }
     if progress.due == 0 {
-        return match read_line(line, label) {
-            Ok(form) => Ok(LineKind::Of { form }),
-            Err(octet) => Err(octet),
-        };
+        return form_kind(commands, line, label);
     }
     match listed_stop(line) {
         Some(octet) => Err(octet),
         None => Ok(LineKind::Listed),
+    }
+}
+
+fn form_kind(commands: &Commands, line: &[u8], label: &mut Label) -> Result<LineKind, usize>
+    ensures { result ≡ form_kind commands.now line.now (line_form line.now) }
+{
+    match read_line(line, label) {
+        Ok(form) => match commands.stranger_at(form, line) {
+            Some(octet) => Err(octet),
+            None => Ok(LineKind::Of { form }),
+        },
+        Err(octet) => Err(octet),
     }
 }
 
@@ -63,17 +80,21 @@ fn listed_stop(line: &[u8]) -> Option<usize>
 
 /// Appends how a line is told.
 pub fn tell_line(
-    way: Way,
+    manner: &Manner,
     report: u64,
     kind: LineKind,
     line: &[u8],
     out: &mut Vec<u8>,
 ) -> Result<(), OutOfMemory>
-    ensures { OnOk result (out.new.items ≡ out.old.items ++ line_text way report kind line.now) }
+    ensures { OnOk result (out.new.items
+        ≡ out.old.items ++ line_text manner.now report kind line.now) }
 {
     match kind {
-        LineKind::Listed => tell_listed(way, report, line, out),
-        LineKind::Of { form } => tell_form(way, report, form, line, out),
+        LineKind::Listed => tell_listed(manner.way, report, line, out),
+        LineKind::Of { form } => {
+            let at = manner.commands.answered_at(form, line);
+            tell_form(manner.way, at, report, form, line, out)
+        }
     }
 }
 
@@ -100,27 +121,29 @@ fn behind(text: &[u8], count: usize) -> &[u8]
 
 fn tell_form(
     way: Way,
+    at: Option<u64>,
     report: u64,
     form: Form,
     line: &[u8],
     out: &mut Vec<u8>,
 ) -> Result<(), OutOfMemory>
-    ensures { OnOk result (out.new.items ≡ out.old.items ++ form_text way report form line.now) }
+    ensures { OnOk result (out.new.items
+        ≡ out.old.items ++ form_text way at report form line.now) }
 {
     match way {
         Way::Summary => match form {
-            Form::Refused => write_refused(report, behind(line, 8), out),
+            Form::Refused => write_refused(at, report, behind(line, 8), out),
             _ => Ok(()),
         },
         Way::Denied => tell_denied(form, line, out),
-        Way::Json => write_json(report, form, line, out),
-        Way::Csv => write_csv(report, form, line, out),
+        Way::Json => write_json(at, report, form, line, out),
+        Way::Csv => write_csv(at, report, form, line, out),
     }
 }
 
 fn tell_denied(form: Form, line: &[u8], out: &mut Vec<u8>) -> Result<(), OutOfMemory>
     ensures { OnOk result (out.new.items
-        ≡ out.old.items ++ form_text Way.Denied 0 form line.now) }
+        ≡ out.old.items ++ form_text Way.Denied None 0 form line.now) }
 {
     if is_denial_form(form) {
         out.extend_from_slice(line)?;
@@ -185,15 +208,6 @@ fn count_form(form: Form, line: &[u8], progress: &mut Progress)
         }
         Form::Flow | Form::End => {}
         Form::Capture | Form::Limit | Form::Script | Form::Finished => progress.finished = true,
-    }
-}
-
-fn number_told(field: Field, form: Form, line: &[u8]) -> u64
-    ensures { result ≡ number_told field form line.now }
-{
-    match whole_number(told_word(field, form.slots(), line)) {
-        Some(number) => number,
-        None => 0,
     }
 }
 

@@ -48,8 +48,12 @@ const SUM: &str =
     "reports 1 unfinished 0\ncommands 3 refused 1\npackets 2 delivered 1 sent 0 denied 1\ndenied 22 NotIp hop 0 node - packets 1\n";
 
 fn told(rt: &impl Abort, alloc: Global, way: Way, kind: LineKind, line: &str) -> Vec<u8> {
+    let manner = Manner {
+        way,
+        commands: Commands::unknown(),
+    };
     let mut text = Vec::new(alloc);
-    tell_line(way, 1, kind, line.as_bytes(), &mut text).expect(rt, "there is memory");
+    tell_line(&manner, 1, kind, line.as_bytes(), &mut text).expect(rt, "there is memory");
     text
 }
 
@@ -57,10 +61,14 @@ fn told(rt: &impl Abort, alloc: Global, way: Way, kind: LineKind, line: &str) ->
 fn tells_lines(rt: HostRuntime) {
     let alloc = rt.alloc();
     let mut label = Label::lowest();
+    let commands = Commands::unknown();
     let mut progress = start();
     let mut tallies = Vec::new(alloc);
     for (line, summary, denied, json) in LINES {
-        let kind = line_kind(&progress, line.as_bytes(), &mut label).expect(&rt, "it is a line");
+        let kind = line_kind(&commands, &progress, line.as_bytes(), &mut label).expect(
+            &rt,
+            "it is a line",
+        );
         assert_eq!(rt;
             told(&rt, alloc, Way::Summary, kind, line).as_slice(),
             summary.as_bytes()

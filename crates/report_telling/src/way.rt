@@ -1,5 +1,7 @@
 //! The ways in which reports are told.
 
+use crate::commands::Commands;
+
 /// How reports are told.
 #[derive(Clone, Copy, Debug)]
 pub enum Way {
@@ -10,4 +12,11 @@ pub enum Way {
     /// Each line as a record of JSON (RFC 8259), or of CSV (RFC 4180).
     Json,
     Csv,
+}
+
+/// How reports are told, and by which script's commands.
+#[derive(Drop)]
+pub struct Manner {
+    pub way: Way,
+    pub commands: Commands,
 }

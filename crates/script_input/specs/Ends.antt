@@ -20,6 +20,14 @@ pub record HasScript (file : List ℕ) (before after : Outside) (script : Script
   pub holds : IsTrue before.folder.tells → before.folder.held file ≡ Some text
   pub is : script_read file text ≡ Ok script
 
+-- the same with the text
+pub record HasText (file : List ℕ) (before after : Outside) (script : Script) (text : List ℕ) : Type 0 where
+  pub reads : IsOnlyRead before.folder after.folder
+  pub counts : SameCounts before.folder.reads after.folder.reads
+  pub stream : after.stream ≡ before.stream
+  pub holds : IsTrue before.folder.tells → before.folder.held file ≡ Some text
+  pub is : script_read file text ≡ Ok script
+
 -- how a call is to end whose text is no script
 abbrev pub script_due : ScriptStop → Status
 script_due (stop.Fault fault) = WrongScript

@@ -4,7 +4,7 @@ ghost use Rattle.std.specs.Prelude.{◌≡◌, [], IfOk, IfErr};
 ghost use Rattle.call_report.specs.Lines.Script.{script_stop_line};
 ghost use Rattle.call_report.specs.Outside.{Outside};
 ghost use Rattle.call_report.specs.Printing.{Printed};
-ghost use Rattle.script_input.specs.Ends.{HasScript, IsScriptEnd, script_due};
+ghost use Rattle.script_input.specs.Ends.{HasScript, HasText, IsScriptEnd, script_due};
 
 use call_report::{Report, Status, write_script_stop};
 use label_commands::{LimitName, Script, ScriptStop, read_script};
@@ -36,6 +36,26 @@ pub fn script_of<D: Depot, S: Sink>(
         (record { folder = D.state depot.old; stream = S.state out.old })
         (record { folder = D.state depot.new; stream = S.state out.new })) }
 {
+    match script_with_text(alloc, file, depot, out) {
+        Ok((script, _)) => Ok(script),
+        Err(status) => Err(status),
+    }
+}
+
+/// The same with the script's text.
+pub fn script_with_text<D: Depot, S: Sink>(
+    alloc: Global,
+    file: &str,
+    depot: &mut D,
+    out: &mut S,
+) -> Result<(Script, Vec<u8>), Status>
+    ensures ok { IfOk result (λ read. HasText file.now
+        (record { folder = D.state depot.old; stream = S.state out.old })
+        (record { folder = D.state depot.new; stream = S.state out.new }) read.0 read.1.items) }
+    ensures err { IfErr result (IsScriptEnd file.now
+        (record { folder = D.state depot.old; stream = S.state out.old })
+        (record { folder = D.state depot.new; stream = S.state out.new })) }
+{
     let text = match read_whole(alloc, depot, file, SCRIPT_LIMIT) {
         Ok(text) => text,
         Err(WholeFault::TooLong) => return Err(end_refused(alloc, TOO_LONG, out)),
@@ -43,7 +63,7 @@ pub fn script_of<D: Depot, S: Sink>(
         Err(WholeFault::OutOfMemory) => return Err(Status::OutOfMemory),
     };
     match read_script(alloc, &text, file) {
-        Ok(script) => Ok(script),
+        Ok(script) => Ok((script, text)),
         Err(stop) => Err(end_refused(alloc, stop, out)),
     }
 }

@@ -34,6 +34,3 @@ pub use said::{Said, begins_line, read_said};
 pub use stop::{LimitName, LineFault, LineStop, ScriptKind};
 pub use word::{Word, words_into};
 pub use writing::write_step;
-
-#[cfg(test)]
-mod tests;

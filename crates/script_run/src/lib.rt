@@ -14,6 +14,3 @@ pub use call_report::{FlowSeen, Report, Seen, Status};
 pub use label_flow::{Gate, OpenGate};
 pub use replies::answer_steps;
 pub use run::run_script;
-
-#[cfg(test)]
-mod tests;

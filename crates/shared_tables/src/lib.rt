@@ -17,6 +17,3 @@ pub use note::Note;
 pub use plan::Plan;
 pub use publisher::Publisher;
 pub use viewer::Viewer;
-
-#[cfg(test)]
-mod tests;

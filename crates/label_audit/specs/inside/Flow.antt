@@ -18,6 +18,9 @@ use Rattle.flow_run.specs.Input.{flow_input}
 use Rattle.label_audit.specs.declared.flow.Counted.{Counted}
 use Rattle.label_audit.specs.declared.flow.Read.{Read}
 use Rattle.label_audit.specs.declared.flow.Read.TheVariants.{Packet, End, Broken}
+use Rattle.label_audit.specs.declared.place.Place.{Place}
+use Rattle.label_audit.specs.inside.Awaited.{Awaited}
+use Rattle.label_audit.specs.inside.Reading.{IsJudgedTo}
 use Rattle.label_audit.specs.inside.Grammar.{site_of, PacketsFrom, BehindPackets, FlowsFrom, Then, replies_of}
 
 -- what a worker has met in front of a flow, or since
@@ -39,6 +42,22 @@ behind_flow script workers held flow most line flows =
 abbrev pub packets_awaited : Script → ℕ → Folder → ℕ → ℕ → FlowLine → List FlowLine → Counted → List TablesAt → List PacketIn → Bool → List ℕ → Type 0
 packets_awaited script workers held flow most line flows count tables packets =
     PacketsFrom (site_of script workers (flow + 1) line) (behind_flow script workers held flow most line flows) count (met_by line.before tables) packets
+
+-- what is awaited of a flow, over a folder, where so many packets may be read, by the flow's line and those behind it
+abbrev pub OfFlow : Type 1
+OfFlow = Folder → ℕ → FlowLine → List FlowLine → Awaited
+
+-- these packets, and what may stand behind a flow whose packets were counted
+abbrev pub packets_to_come : Script → ℕ → ℕ → Counted → List TablesAt → List PacketIn → OfFlow
+packets_to_come script workers flow count tables packets = λ held most line flows. packets_awaited script workers held flow most line flows count tables packets
+
+abbrev pub none_to_come : Script → ℕ → ℕ → Counted → OfFlow
+none_to_come script workers flow count = λ held most line flows. behind_flow script workers held flow most line flows count
+
+-- what is awaited of a flow is judged from one place to another, over whatever folder and whatever may be read
+abbrev pub IsFlowJudgedTo : Script → ℕ → OfFlow → OfFlow → List ℕ → Place → Place → Bool → Type 0
+IsFlowJudgedTo script flow may may' file old new met = (held : Folder) (most : ℕ) (line : FlowLine) (flows : List FlowLine) → slice_get script.flows flow ≡ Some line
+    → IsJudgedTo (may held most line flows) (may' held most line flows) file old new met
 
 -- what is awaited behind a flow's last line
 abbrev pub end_awaited : Script → ℕ → Folder → ℕ → ℕ → FlowLine → List FlowLine → Bool → List ℕ → Type 0

@@ -19,6 +19,10 @@ pub record HasRead {T : Type 0} (names : List (List ℕ)) (result : Result T IoF
   pub name : new.name ≡ old.name
   pub only : OnlyReadsAmong Failed result (old.name ∷ names) before after
 
+-- in front of a report's first octet
+abbrev pub front_place : Place
+front_place = record { at = 0; lines = 0 }
+
 -- a place in a file that is no longer than a report may be: no more lines than octets stand in front of it
 abbrev pub StandsIn : List ℕ → Place → Type 0
 StandsIn file place = (place.lines ≤ place.at) × (place.at ≤ length file) × (length file ≤ 268435456)

@@ -1,6 +1,6 @@
 use Rattle.std.proofs.Common.{◌≡◌, ◌⊎◌, ℕ, subst, sym}
 use Rattle.call_report.specs.CallEnds.{MayEnd}
-use Rattle.audit_run.specs.Says.{audit_says}
+use Rattle.netlabel_audit.specs.Says.{audit_says}
 use Rattle.netlabel_audit.proofs.end.Goals as goal
 
 pub returns-in-Ok : goal.returns-in-Ok

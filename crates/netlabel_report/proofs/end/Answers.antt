@@ -1,6 +1,6 @@
 use Rattle.std.proofs.Common.{◌≡◌, ◌⊎◌, ℕ, subst, sym}
 use Rattle.call_report.specs.CallEnds.{MayEnd}
-use Rattle.report_reader.specs.Says.{report_says}
+use Rattle.netlabel_report.specs.Says.{report_says}
 use Rattle.netlabel_report.proofs.end.Goals as goal
 
 pub returns-in-Ok : goal.returns-in-Ok

@@ -1,6 +1,12 @@
-use Rattle.std.proofs.Common.{◌*◌}
+use Rattle.std.proofs.Common.{◌≤◌, ◌-◌, ◌*◌, length}
 use Rattle.category_bitmap.specs.inside.Read.{IsRead}
 use Rattle.category_bitmap.proofs.read.read_bitmap.Given as goal
 
 abbrev pub invariant-loop-at : goal.invariant-loop-at
-invariant-loop-at l = IsRead l.bitmap l.cats l.begun (8 * l.at)
+invariant-loop-at l = record {
+  within : l.at ≤ length l.bitmap;
+  read : IsRead l.bitmap l.cats l.begun (8 * l.at);
+}
+
+abbrev pub decreases-loop-at : goal.decreases-loop-at
+decreases-loop-at l = length l.bitmap - l.at

@@ -1,6 +1,6 @@
 use Rattle.std.proofs.Common.{◌≡◌, None, is_some, ◌+◌, ◌*◌, ap, subst, arith}
 use Rattle.category_bitmap.specs.inside.Read.{IsRead}
-use Rattle.category_bitmap.proofs.Bits.{begun_behind, begun_few, none_read, run_ended, run_read, zeros_read}
+use Rattle.category_bitmap.proofs.Bits.{begun_behind, begun_few, run_ended, run_read, zeros_read}
 use Rattle.category_bitmap.proofs.read.read_runs.Goals as goal
 
 -- up to the end of the run that begins next
@@ -9,9 +9,6 @@ run c =
     let start = c.next_in_octet-start in
     let end = c.next_in_octet-end in
     run_read c.args.bitmap.now c.loop-place.cats c.turn-begun.new.cats c.turn-begun.result c.args.at c.loop-place.place start.result end.result c.loop-place.invariant.read start.ensures.start (omega (arith, start.ensures.end, c.if-start-eq8.false)) start.ensures.before (start.ensures.found (omega (arith, start.ensures.end, c.if-start-eq8.false))) c.turn-begun.ensures.next c.turn-begun.ensures.cats end.ensures.start end.ensures.end end.ensures.before end.ensures.found
-
-pub returns-then-octet-eq0 : goal.returns-then-octet-eq0
-returns-then-octet-eq0 c = none_read c.args.bitmap.now c.args.cats.now c.args.at c.args.from c.requires.read c.requires.place c.if-octet-eq0.true
 
 pub loop-place-init : goal.loop-place-init
 loop-place-init c = record { within = c.requires.place; read = c.requires.read }

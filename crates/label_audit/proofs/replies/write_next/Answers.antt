@@ -4,7 +4,8 @@ use Rattle.std.proofs.lemmas.Option.{slice_get_read}
 use Rattle.std.proofs.lemmas.Result.{on_ok_weaker}
 use Rattle.script_lines.specs.declared.command.Step.{Step}
 use Rattle.call_report.specs.Lines.Reply.{reply_text}
-use Rattle.label_audit.proofs.Replying.{at_place, one_on, as_many, answered, on_ok_of}
+use Rattle.label_audit.proofs.Among.{on_ok_of}
+use Rattle.label_audit.proofs.Replying.{at_place, one_on, as_many, answered}
 use Rattle.label_audit.proofs.replies.write_next.Goals as goal
 
 pub apply-requires : goal.apply-requires
@@ -41,11 +42,10 @@ returns-clause-line c =
 
 pub returns-clause-tables : goal.returns-clause-tables
 returns-clause-tables c =
-    let names = c.args.script.now.nodes in
     let steps = c.args.script.now.steps in
     let done = c.args.replies.now.done in
     let step = c.index-as_slice-replies.result in
     let all = c.as_slice.result.now in
     let there : slice_get all done ≡ Some step = slice_get_read all (length all) done step refl (omega (arith, c.requires.within, ap length c.as_slice.ensures)) c.index-as_slice-replies.is in
     let at : slice_get steps done ≡ Some step = ap (λ xs. slice_get xs done) (sym c.as_slice.ensures) ∙ there in
-    on_ok_of c.write_reply.result (one_on (length names) steps done c.args.replies.now.network c.apply.new.self step at c.requires.tables c.in_ok-reply.ensures.tables)
+    on_ok_of c.write_reply.result (one_on (length c.args.script.now.nodes) steps done c.args.replies.now.network c.apply.new.self step at c.requires.tables c.in_ok-reply.ensures.tables)

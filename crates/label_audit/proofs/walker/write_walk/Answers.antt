@@ -18,7 +18,6 @@ returns-in_err-write_line-in-Ok-clause-most c = λ within.
 pub returns-in_ok-write_line-in-Ok-clause-written : goal.returns-in_ok-write_line-in-Ok-clause-written
 returns-in_ok-write_line-in-Ok-clause-written c =
     let walk = c.in-Ok.ensures in
-    let named = c.args.walker.now.versions.items in
     let versions = walk.named ∙ c.deref-2.ensures.value in
     record {
       walked = c.walk_named-walked.new.walked;
@@ -28,7 +27,7 @@ returns-in_ok-write_line-in-Ok-clause-written c =
       rises = subst (Rises c.args.place.now.low c.args.place.now.high) c.deref.ensures.value (c.rise.ensures.0 c.if-not-rise.false);
       line_is = c.in_ok-write_line-in-Ok.ensures.line;
       denied_is = c.in_ok-write_line-in-Ok.ensures.denied;
-      met_is = met_last c.args.tables.now.version c.walk_named-walked.new.tables.version named (subst (Rises c.args.tables.now.version c.walk_named-walked.new.tables.version) versions walk.ok.rises)
+      met_is = met_last c.args.tables.now.version c.walk_named-walked.new.tables.version c.args.walker.now.versions.items (subst (Rises c.args.tables.now.version c.walk_named-walked.new.tables.version) versions walk.ok.rises)
           (λ high rises. c.walk_named-walked.ensures.no_later high (subst (Rises c.args.tables.now.version high) (sym c.deref-2.ensures.value) rises));
     }
 
@@ -41,10 +40,9 @@ returns-in_ok-write_line-in-Ok-clause-most c = λ within.
 pub returns-in-Err-TooFew : goal.returns-in-Err-TooFew
 returns-in-Err-TooFew c =
     let high = c.args.place.now.high in
-    let named = c.args.walker.now.versions.items in
     let rises = rises_all c.args.place.now.low high c.args.tables.now.version high c.deref.result.now c.requires.low (le_refl high) (c.rise.ensures.0 c.if-not-rise.false) in
     record {
-      written = too_few c.args.tables.now.plan c.args.place.now c.args.packet.now named (rw c.deref-2.ensures.value at (c.walk_named-walked.ensures.few (let stop : c.in-Err-TooFew.field-0 ≡ TooFew = rw c.in-Err-TooFew.is at c.in-Err-TooFew.field-0-is in c.in-Err-TooFew.is ∙ ap Err stop)));
+      written = too_few c.args.tables.now.plan c.args.place.now c.args.packet.now c.args.walker.now.versions.items (rw c.deref-2.ensures.value at (c.walk_named-walked.ensures.few (let stop : c.in-Err-TooFew.field-0 ≡ TooFew = rw c.in-Err-TooFew.is at c.in-Err-TooFew.field-0-is in c.in-Err-TooFew.is ∙ ap Err stop)));
       plan = c.walk_named-walked.ensures.plan;
       most = λ within. c.walk_named-walked.ensures.no_later high (subst (Rises c.args.tables.now.version high) (c.deref.ensures.value ∙ sym c.deref-2.ensures.value) rises);
     }
@@ -52,11 +50,10 @@ returns-in-Err-TooFew c =
 pub returns-in-Err-TooMany : goal.returns-in-Err-TooMany
 returns-in-Err-TooMany c =
     let high = c.args.place.now.high in
-    let named = c.args.walker.now.versions.items in
     let rises = rises_all c.args.place.now.low high c.args.tables.now.version high c.deref.result.now c.requires.low (le_refl high) (c.rise.ensures.0 c.if-not-rise.false) in
     let many = rw c.deref-2.ensures.value at (c.walk_named-walked.ensures.many (let stop : c.in-Err-TooMany.field-0 ≡ TooMany = rw c.in-Err-TooMany.is at c.in-Err-TooMany.field-0-is in c.in-Err-TooMany.is ∙ ap Err stop)) in
     record {
-      written = too_many c.args.tables.now.plan c.args.place.now c.args.packet.now named many.0 many.1 many.2 many.3 many.4;
+      written = too_many c.args.tables.now.plan c.args.place.now c.args.packet.now c.args.walker.now.versions.items many.0 many.1 many.2 many.3 many.4;
       plan = c.walk_named-walked.ensures.plan;
       most = λ within. c.walk_named-walked.ensures.no_later high (subst (Rises c.args.tables.now.version high) (c.deref.ensures.value ∙ sym c.deref-2.ensures.value) rises);
     }

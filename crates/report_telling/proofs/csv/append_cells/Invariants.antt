@@ -6,4 +6,4 @@ abbrev pub decreases-loop-fields : goal.decreases-loop-fields
 decreases-loop-fields l = length l.fields
 
 abbrev pub invariant-loop-fields : goal.invariant-loop-fields
-invariant-loop-fields l = l.out.items ++ cells_text l.fields l.form l.line ≡ l.initial.out.items ++ cells_text columns l.form l.line
+invariant-loop-fields l = l.out.items ++ cells_text l.fields l.at l.form l.line ≡ l.initial.out.items ++ cells_text columns l.at l.form l.line

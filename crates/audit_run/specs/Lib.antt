@@ -1,6 +1,0 @@
-pub mod Words
-pub mod Lines
-pub mod Inputs
-pub mod Outcome
-pub mod Says
-pub mod inside

@@ -1,0 +1,171 @@
+//! Boards of small plans, with ample memory.
+
+ghost use Rattle.std.specs.Prelude.{◌≡◌, ◌+◌, ◌<◌, ◌≤◌, ◌^◌, length};
+ghost use Rattle.std.specs.Arc.{arc_value};
+ghost use Rattle.shared_tables.specs.Plan.{network_after};
+
+use mls_label::Proto;
+use node_tables::{Network, Reply};
+use shared_tables::*;
+use std::alloc::Global;
+use std::process::Abort;
+use std::sync::{Arc, Wait};
+use std::thread::join;
+use worked_networks::steps_of;
+
+/// Commands to one node. The fifth lists lines, and the last is refused.
+const LINES: [(usize, &str); 6] = [
+    (0, "cipsov4 add pass doi:16 tags:1"),
+    (0, "map add default protocol:cipsov4,16"),
+    (
+        0,
+        "receiver add address:10.0.0.2 domain:sink_t level:s2:c0.c5",
+    ),
+    (0, "unlbl accept on"),
+    (0, "unlbl list"),
+    (0, "cipsov4 del doi:16"),
+];
+
+fn plan_of(rt: &impl Abort, alloc: Global, lines: &[(usize, &str)]) -> Arc<Plan>
+    requires { length lines.now < 2 ^ 32 }
+    ensures { ((arc_value result).nodes ≡ 1)
+        × (length (arc_value result).steps ≡ length lines.now) }
+{
+    let steps = steps_of(alloc, 1, lines).expect(rt, "commands");
+    Plan::from_steps(alloc, steps, 1).expect(rt, "memory")
+}
+
+fn fresh(rt: &impl Abort, alloc: Global, plan: &Arc<Plan>) -> Network
+    requires { (arc_value plan.now).nodes ≡ 1 }
+    ensures { result ≡ network_after (arc_value plan.now) 0 }
+{
+    Network::fresh(alloc, 1).expect(rt, "memory")
+}
+
+// A board with one viewer.
+fn begun<R: Wait + Abort>(
+    rt: &R,
+    alloc: Global,
+    network: Network,
+    plan: Arc<Plan>,
+    version: u32,
+) -> (Publisher, Viewer)
+    requires version { version ≤ length (arc_value plan).steps }
+    requires network { network ≡ network_after (arc_value plan) version }
+    ensures publisher { (result.0.plan ≡ arc_value plan) × (result.0.version ≡ version) }
+    ensures viewer { result.1
+        ≡ record { board = result.0.board; plan = arc_value plan; seen = version } }
+{
+    let Ok((publisher, mut viewers)) = Board::begin(rt, alloc, network, plan, version, 1) else {
+        panic!(rt; "memory")
+    };
+    let viewer = viewers.pop().expect(rt, "a viewer");
+    (publisher, viewer)
+}
+
+// Which version a viewer finds, whether the node defines the DOI there, and whether it accepts unlabelled packets.
+fn looked(rt: &impl Abort, viewer: &mut Viewer) -> (u32, bool, bool)
+    requires { viewer.old.plan.nodes ≡ 1 }
+    ensures kept { (viewer.new.board ≡ viewer.old.board) × (viewer.new.plan ≡ viewer.old.plan) }
+    ensures seen { viewer.old.seen ≤ result.0 }
+{
+    viewer
+        .look(
+            |version, network| -> (u32, bool, bool)
+                requires { 0 < length network.now }
+                ensures { result.0 ≡ version }
+            {
+                let tables = network.node(0);
+                (
+                    version,
+                    tables.dois().find(Proto::Cipso, 16).is_some(),
+                    tables.accepts(),
+                )
+            },
+        )
+        .expect(rt, "a look")
+}
+
+fn name_of(reply: &Reply) -> &'static str {
+    match reply {
+        Reply::Done => "done",
+        Reply::Listed(_) => "listed",
+        Reply::Refused(why) => why.name(),
+    }
+}
+
+// The next step's reply.
+fn stepped<R: Wait + Abort>(rt: &R, publisher: &mut Publisher) -> &'static str
+    requires { publisher.old.version < length publisher.old.plan.steps }
+    ensures { publisher.new ≡ record publisher.old { version = publisher.old.version + 1 } }
+{
+    let reply = publisher.step(rt).expect(rt, "memory");
+    name_of(&reply)
+}
+
+// After a step and the note of it the next look gives version 1 and the tables after that step.
+#[test]
+fn a_viewer_learns_of_a_step(rt: HostRuntime) {
+    let plan = plan_of(&rt, rt.alloc(), &LINES);
+    let network = fresh(&rt, rt.alloc(), &plan);
+    let (mut publisher, mut viewer) = begun(&rt, rt.alloc(), network, plan, 0);
+    assert_eq!(rt; looked(&rt, &mut viewer), (0, false, false));
+    assert_eq!(rt; stepped(&rt, &mut publisher), "done");
+    viewer.learn(publisher.tell());
+    assert_eq!(rt; viewer.seen(), 1);
+    assert_eq!(rt; looked(&rt, &mut viewer), (1, true, false));
+    drop(publisher.close(&rt));
+}
+
+// A listing and a refusal are versions too. A board goes on with the tables of the one before.
+#[test]
+fn each_step_is_a_version(rt: HostRuntime) {
+    let plan = plan_of(&rt, rt.alloc(), &LINES);
+    let again = Arc::try_clone(&plan).expect(&rt, "memory");
+    let network = fresh(&rt, rt.alloc(), &plan);
+    let (mut publisher, viewer) = begun(&rt, rt.alloc(), network, plan, 0);
+    assert_eq!(rt; stepped(&rt, &mut publisher), "done");
+    assert_eq!(rt; stepped(&rt, &mut publisher), "done");
+    drop(viewer);
+    let network = publisher.close(&rt);
+    let (mut publisher, mut viewer) = begun(&rt, rt.alloc(), network, again, 2);
+    assert_eq!(rt; (publisher.version(), viewer.seen()), (2, 2));
+    assert_eq!(rt; looked(&rt, &mut viewer), (2, true, false));
+    assert_eq!(rt; stepped(&rt, &mut publisher), "done");
+    assert_eq!(rt; stepped(&rt, &mut publisher), "done");
+    assert_eq!(rt; looked(&rt, &mut viewer), (4, true, true));
+    assert_eq!(rt; stepped(&rt, &mut publisher), "listed");
+    assert_eq!(rt; looked(&rt, &mut viewer), (5, true, true));
+    assert_eq!(rt; stepped(&rt, &mut publisher), "DoiInUse");
+    assert_eq!(rt; looked(&rt, &mut viewer), (6, true, true));
+    let network = publisher.close(&rt);
+    assert!(rt; network.nodes() == 1 && network.node(0).accepts());
+}
+
+fn steps_twice<R: Wait + Abort>(rt: &R, publisher: &mut Publisher) -> (&'static str, &'static str)
+    requires { publisher.old.version + 1 < length publisher.old.plan.steps }
+{
+    (stepped(rt, publisher), stepped(rt, publisher))
+}
+
+fn looks_twice(rt: &impl Abort, viewer: &mut Viewer) -> (u32, u32)
+    requires { viewer.old.plan.nodes ≡ 1 }
+{
+    (looked(rt, viewer).0, looked(rt, viewer).0)
+}
+
+// A publisher and a viewer, each in a thread of its own.
+#[test]
+fn looks_go_beside_steps(rt: HostRuntime) {
+    let plan = plan_of(&rt, rt.alloc(), &LINES);
+    let network = fresh(&rt, rt.alloc(), &plan);
+    let (mut publisher, mut viewer) = begun(&rt, rt.alloc(), network, plan, 0);
+    let (replies, versions) = join(
+        &rt,
+        || steps_twice(&rt, &mut publisher),
+        || looks_twice(&rt, &mut viewer),
+    );
+    assert_eq!(rt; replies, ("done", "done"));
+    assert!(rt; versions.0 <= versions.1 && versions.1 <= 2);
+    drop(publisher.close(&rt));
+}

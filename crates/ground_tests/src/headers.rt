@@ -1,0 +1,642 @@
+// Worked values: packets made by hand from RFC 791 and RFC 8200, and the first test that fails of broken ones.
+
+ghost use Rattle.std.specs.Prelude.{IsTrue};
+ghost use Rattle.ip_headers.specs.declared.version.Version.TheVariants.{V4, V6};
+ghost use Rattle.ip_headers.specs.Swapped.{IsWholeOption};
+ghost use Rattle.ip_headers.specs.Written.{IsLabelOption};
+
+use ip_headers::*;
+use std::test::*;
+use worked_values::octets_of;
+use worked_values::packets::{ALERT_6, BITMAP_16, CUT_4, LABELLED_4, PLAIN_4, WRONG_SUM_4};
+
+const FAULTS4: [(&str, &str, usize, HeadKind); 27] = [
+    ("no octet", "", 0, HeadKind::Short),
+    ("one octet", "45", 1, HeadKind::Short),
+    (
+        "19 octets",
+        "480000280000000040118ca00a0000010a0000",
+        19,
+        HeadKind::Short,
+    ),
+    (
+        "version 5",
+        "580000280000000040118ca00a0000010a000002860b0000001001050002500003e8003500080000",
+        0,
+        HeadKind::Version,
+    ),
+    (
+        "version 0",
+        "080000280000000040118ca00a0000010a000002860b0000001001050002500003e8003500080000",
+        0,
+        HeadKind::Version,
+    ),
+    (
+        "version 6",
+        "680000280000000040118ca00a0000010a000002860b0000001001050002500003e8003500080000",
+        0,
+        HeadKind::Version,
+    ),
+    (
+        "IHL 0",
+        "400000280000000040118ca00a0000010a000002860b0000001001050002500003e8003500080000",
+        0,
+        HeadKind::HeaderLength,
+    ),
+    (
+        "IHL 4",
+        "440000280000000040118ca00a0000010a000002860b0000001001050002500003e8003500080000",
+        0,
+        HeadKind::HeaderLength,
+    ),
+    (
+        "total length 0",
+        "480000000000000040118ca00a0000010a000002860b0000001001050002500003e8003500080000",
+        2,
+        HeadKind::TotalLength,
+    ),
+    (
+        "total length below the header",
+        "4800001f0000000040118ca00a0000010a000002860b0000001001050002500003e8003500080000",
+        2,
+        HeadKind::TotalLength,
+    ),
+    (
+        "header past the octets",
+        "4800001c00004000401126cf0a0000010a00000203e800350008e7be",
+        2,
+        HeadKind::TotalLength,
+    ),
+    ("without the last octet", CUT_4, 2, HeadKind::TotalLength),
+    ("checksum octet 10", WRONG_SUM_4, 10, HeadKind::Checksum),
+    (
+        "checksum octet 11",
+        "480000280000000040118ca10a0000010a000002860b0000001001050002500003e8003500080000",
+        10,
+        HeadKind::Checksum,
+    ),
+    (
+        "type of service changed",
+        "480100280000000040118ca00a0000010a000002860b0000001001050002500003e8003500080000",
+        10,
+        HeadKind::Checksum,
+    ),
+    (
+        "last octet of the header changed",
+        "480000280000000040118ca00a0000010a000002860b0000001001050002500103e8003500080000",
+        10,
+        HeadKind::Checksum,
+    ),
+    (
+        "first option, length 0",
+        "46000018000000004011dfd20a0000010a00000286000000",
+        21,
+        HeadKind::OptionList,
+    ),
+    (
+        "first option, length 1",
+        "4600001800000000401121d20a0000010a00000244010000",
+        21,
+        HeadKind::OptionList,
+    ),
+    (
+        "first option passes",
+        "4600001800000000401121ce0a0000010a00000244050000",
+        21,
+        HeadKind::OptionList,
+    ),
+    (
+        "middle option passes",
+        "4700001c000000004011de830a0000010a0000020144030082070000",
+        25,
+        HeadKind::OptionList,
+    ),
+    (
+        "last octet has no length octet",
+        "46000018000000004011638e0a0000010a00000201010144",
+        24,
+        HeadKind::OptionList,
+    ),
+    (
+        "last option passes",
+        "460000180000000040119bcd0a0000010a00000286024403",
+        23,
+        HeadKind::OptionList,
+    ),
+    (
+        "second label and then a broken option",
+        "4700001c00000000401114c10a0000010a0000028602860244090000",
+        25,
+        HeadKind::OptionList,
+    ),
+    (
+        "second label behind the first",
+        "4600001800000000401159ce0a0000010a00000286028602",
+        22,
+        HeadKind::SecondLabel,
+    ),
+    (
+        "second label in the middle",
+        "480000200000000040114eb60a0000010a0000028604aabb018604ccdd010101",
+        25,
+        HeadKind::SecondLabel,
+    ),
+    (
+        "second label at the end",
+        "4700001c00000000401156c80a0000010a0000028602010101018602",
+        26,
+        HeadKind::SecondLabel,
+    ),
+    (
+        "third label",
+        "4700001c000000004011d1c60a0000010a0000028602860286020101",
+        22,
+        HeadKind::SecondLabel,
+    ),
+];
+
+const FAULTS6: [(&str, &str, usize, HeadKind); 23] = [
+    ("no octet", "", 0, HeadKind::Short),
+    ("one octet", "60", 1, HeadKind::Short),
+    (
+        "39 octets",
+        "6000000000081140fd000000000000000000000000000001fd0000000000000000000000000000",
+        39,
+        HeadKind::Short,
+    ),
+    (
+        "version 4",
+        "4000000000081140fd000000000000000000000000000001fd00000000000000000000000000000203e8003500080000",
+        0,
+        HeadKind::Version,
+    ),
+    (
+        "version 15",
+        "f000000000081140fd000000000000000000000000000001fd00000000000000000000000000000203e8003500080000",
+        0,
+        HeadKind::Version,
+    ),
+    (
+        "payload length above the octets",
+        "6000000000081140fd000000000000000000000000000001fd00000000000000000000000000000203e80035000800",
+        4,
+        HeadKind::TotalLength,
+    ),
+    (
+        "header alone, payload length 1",
+        "6000000000011140fd000000000000000000000000000001fd000000000000000000000000000002",
+        4,
+        HeadKind::TotalLength,
+    ),
+    (
+        "Hop-by-Hop in 7 octets",
+        "6000000000070040fd000000000000000000000000000001fd00000000000000000000000000000203e8003500080000",
+        4,
+        HeadKind::TotalLength,
+    ),
+    (
+        "Hop-by-Hop in no octet",
+        "6000000000000040fd000000000000000000000000000001fd00000000000000000000000000000203e8003500080000",
+        4,
+        HeadKind::TotalLength,
+    ),
+    (
+        "Hop-by-Hop passes the payload",
+        "6000000000080040fd000000000000000000000000000001fd0000000000000000000000000000021101010400000000",
+        41,
+        HeadKind::HeaderLength,
+    ),
+    (
+        "Hop-by-Hop of 2048 octets passes",
+        "6000000000100040fd000000000000000000000000000001fd00000000000000000000000000000211ff01040000000003e8003500080000",
+        41,
+        HeadKind::HeaderLength,
+    ),
+    (
+        "first option passes",
+        "6000000000080040fd000000000000000000000000000001fd0000000000000000000000000000021100050500000000",
+        43,
+        HeadKind::OptionList,
+    ),
+    (
+        "middle option passes",
+        "6000000000080040fd000000000000000000000000000001fd000000000000000000000000000002110000000005ff00",
+        46,
+        HeadKind::OptionList,
+    ),
+    (
+        "last octet has no length octet",
+        "6000000000080040fd000000000000000000000000000001fd0000000000000000000000000000021100000000000005",
+        48,
+        HeadKind::OptionList,
+    ),
+    (
+        "last option passes",
+        "6000000000080040fd000000000000000000000000000001fd0000000000000000000000000000021100010200000501",
+        47,
+        HeadKind::OptionList,
+    ),
+    (
+        "jumbo and second label and then a broken option",
+        "6000000000100040fd000000000000000000000000000001fd0000000000000000000000000000021101c204000100000700070005080000",
+        53,
+        HeadKind::OptionList,
+    ),
+    (
+        "jumbo first",
+        "6000000000080040fd000000000000000000000000000001fd0000000000000000000000000000021100c20400010000",
+        42,
+        HeadKind::Jumbo,
+    ),
+    (
+        "jumbo in the middle",
+        "6000000000100040fd000000000000000000000000000001fd00000000000000000000000000000211010000c20400010000010400000000",
+        44,
+        HeadKind::Jumbo,
+    ),
+    (
+        "jumbo last",
+        "6000000000100040fd000000000000000000000000000001fd0000000000000000000000000000021101010800000000000000000000c200",
+        54,
+        HeadKind::Jumbo,
+    ),
+    (
+        "jumbo behind two labels",
+        "6000000000080040fd000000000000000000000000000001fd000000000000000000000000000002110007000700c200",
+        46,
+        HeadKind::Jumbo,
+    ),
+    (
+        "second label behind the first",
+        "6000000000080040fd000000000000000000000000000001fd0000000000000000000000000000021100070007000100",
+        44,
+        HeadKind::SecondLabel,
+    ),
+    (
+        "second label in the middle",
+        "6000000000100040fd000000000000000000000000000001fd00000000000000000000000000000211010702aabb000702ccdd0103000000",
+        47,
+        HeadKind::SecondLabel,
+    ),
+    (
+        "second label at the end",
+        "6000000000100040fd000000000000000000000000000001fd00000000000000000000000000000211010708000000100002bfd901000700",
+        54,
+        HeadKind::SecondLabel,
+    ),
+];
+
+/// Packets of version 4, the octet of the first option of type 130 and that option, and the octet of the second; 0 where there is none.
+const SOUGHT: [(&str, &str, usize, &str, usize); 8] = [
+    (
+        "no option",
+        "4500001c00000000401166cf0a0000010a00000203e8003500080000",
+        0,
+        "",
+        0,
+    ),
+    (
+        "another type",
+        "46000020000000004011d1c60a0000010a0000029404000003e8003500080000",
+        0,
+        "",
+        0,
+    ),
+    (
+        "first",
+        "4600002000000000401189460a0000010a00000282045a8003e8003500080000",
+        20,
+        "82045a80",
+        0,
+    ),
+    (
+        "behind no-operations and another type",
+        "480000280000000040110eb80a0000010a00000201019404000082033d01010103e8003500080000",
+        26,
+        "82033d",
+        0,
+    ),
+    (
+        "two",
+        "4800002800000000401134350a0000010a00000282045a809404000082033d0103e8003500080000",
+        20,
+        "82045a80",
+        28,
+    ),
+    (
+        "three",
+        "480000280000000040112d350a0000010a0000028203ab0182045a808203ab0003e8003500080000",
+        20,
+        "8203ab",
+        24,
+    ),
+    (
+        "behind a label option",
+        "4900002c000000004011ab100a0000010a0000028606000000108203ab9404000000000003e8003500080000",
+        26,
+        "8203ab",
+        0,
+    ),
+    (
+        "behind the end of the list",
+        "47000024000000004011cd030a0000010a000002940400000082033d03e8003500080000",
+        0,
+        "",
+        0,
+    ),
+];
+
+/// Packets of version 4, an option, and the packet with it in place of those of type 130.
+const SWAPPED: [(&str, &str, &str, &str); 11] = [
+    (
+        "alone, for a label option",
+        "4600002000000000401189460a0000010a00000282045a8003e8003500080000",
+        "860b000000100105000240",
+        "480000280000000040119ca00a0000010a000002860b0000001001050002400003e8003500080000",
+    ),
+    (
+        "in place of a label option",
+        "480000280000000040119ca00a0000010a000002860b0000001001050002400003e8003500080000",
+        "82045a80",
+        "4600002000000000401189460a0000010a00000282045a8003e8003500080000",
+    ),
+    (
+        "no option before",
+        "4500001c00000000401166cf0a0000010a00000203e8003500080000",
+        "82045a80",
+        "4600002000000000401189460a0000010a00000282045a8003e8003500080000",
+    ),
+    (
+        "between others, with no-operations and padding",
+        "4900002c00000000401144940a0000010a000002014404050082045a800194040000000003e8003500080000",
+        "860b000000100105000240",
+        "4a00003000000000401191bb0a0000010a000002860b00000010010500024044040500940400000003e8003500080000",
+    ),
+    (
+        "behind others, and one hop",
+        "4800002800000000011198b60a0000010a00000244040500940400008203ab0003e8003500080000",
+        "82045a80",
+        "48000028000000000111e9350a0000010a00000282045a80440405009404000003e8003500080000",
+    ),
+    (
+        "two of the type",
+        "4800002800000000401134350a0000010a00000282045a809404000082033d0103e8003500080000",
+        "860b000000100105000240",
+        "4900002c00000000401197080a0000010a000002860b000000100105000240940400000003e8003500080000",
+    ),
+    (
+        "the type behind a label option",
+        "4900002c000000004011ab100a0000010a0000028606000000108203ab9404000000000003e8003500080000",
+        "82045a80",
+        "47000024000000004011f43d0a0000010a00000282045a809404000003e8003500080000",
+    ),
+    (
+        "the type behind the end of the list",
+        "47000024000000004011cd030a0000010a000002940400000082033d03e8003500080000",
+        "0702",
+        "47000024000000004011c9c00a0000010a000002070294040000000003e8003500080000",
+    ),
+    (
+        "20 octets beside 20 others",
+        "4b0000340000000040113b1e0a0000010a000002441405000000000000000000000000000000000082045a8003e8003500080000",
+        "8614000000100110000200000000000000000000",
+        "4f0000440000000040118c5c0a0000010a0000028614000000100110000200000000000000000000441405000000000000000000000000000000000003e8003500080000",
+    ),
+    (
+        "2 octets beside 38 others",
+        "4f00004400000000401112800a0000010a0000024426050000000000000000000000000000000000000000000000000000000000000000000000010103e8003500080000",
+        "8602",
+        "4f0000440000000040118d7e0a0000010a0000028602442605000000000000000000000000000000000000000000000000000000000000000000000003e8003500080000",
+    ),
+    (
+        "40 octets alone",
+        "4600002000000000401189460a0000010a00000282045a8003e8003500080000",
+        "86280000001001240002000000000000000000000000000000000000000000000000000000000000",
+        "4f000044000000004011d5480a0000010a0000028628000000100124000200000000000000000000000000000000000000000000000000000000000003e8003500080000",
+    ),
+];
+
+/// Packets of version 4 and an option for which they have no room beside their others.
+const NO_ROOM: [(&str, &str, &str); 2] = [
+    (
+        "21 octets beside 20 others",
+        "4b0000340000000040113b1e0a0000010a000002441405000000000000000000000000000000000082045a8003e8003500080000",
+        "861500000010011100020000000000000000000000",
+    ),
+    (
+        "2 octets beside 40 others",
+        "4f000044000000004011137f0a0000010a0000024428050000000000000000000000000000000000000000000000000000000000000000000000000003e8003500080000",
+        "8602",
+    ),
+];
+
+/// DOI 16, tag 1, level 2, categories 1 and 3.
+fn cipso() -> [u8; 11]
+    ensures { IsLabelOption V4 result }
+{
+    [134, 11, 0, 0, 0, 16, 1, 5, 0, 2, 80]
+}
+
+/// DOI 16, level 2, no category.
+fn calipso() -> [u8; 10]
+    ensures { IsLabelOption V6 result }
+{
+    [7, 8, 0, 0, 0, 16, 0, 2, 0xbf, 0xd9]
+}
+
+#[test]
+fn first_faults_of_version_4(rt: HostRuntime) -> Result<(), Fail> {
+    for (name, text, octet, kind) in FAULTS4 {
+        let bytes = octets_of(rt.alloc(), text)?;
+        let got = read4(&bytes).err();
+        assert_eq!(rt; got, Some(HeadFault { octet, kind }), "{name}");
+        let front = front4(&bytes).err();
+        assert_eq!(rt; front.is_none(), kind == HeadKind::SecondLabel, "{name}");
+    }
+    Ok(())
+}
+
+#[test]
+fn first_faults_of_version_6(rt: HostRuntime) -> Result<(), Fail> {
+    for (name, text, octet, kind) in FAULTS6 {
+        let bytes = octets_of(rt.alloc(), text)?;
+        let got = read6(&bytes).err();
+        assert_eq!(rt; got, Some(HeadFault { octet, kind }), "{name}");
+        let front = front6(&bytes).err();
+        assert_eq!(rt; front.is_none(), kind == HeadKind::SecondLabel, "{name}");
+    }
+    Ok(())
+}
+
+#[test]
+fn a_labelled_packet_of_version_4(rt: HostRuntime) -> Result<(), Fail> {
+    let bytes = octets_of(rt.alloc(), LABELLED_4)?;
+    let option = cipso();
+    let packet = read4(&bytes).ok().ok_or("a packet")?;
+    assert_eq!(rt; packet.hops(), 64);
+    assert_eq!(rt; packet.protocol(), 17);
+    assert_eq!(rt; packet.source(), [10, 0, 0, 1]);
+    assert_eq!(rt; packet.destination(), [10, 0, 0, 2]);
+    assert_eq!(rt; packet.has_others(), false);
+    assert_eq!(rt; packet.payload().len(), 8);
+    let (place, found) = packet.label_option().ok_or("a label option")?;
+    assert_eq!(rt; place, 20);
+    assert_eq!(rt; found, &option[..]);
+    let mut out = Vec::new(rt.alloc());
+    assert_eq!(rt; rebuild4(&packet, Some(&option), 64, &mut out), Ok(()));
+    assert_eq!(rt; out.as_slice(), bytes.as_slice());
+    let bare = octets_of(
+        rt.alloc(),
+        "4500001c00000000401166cf0a0000010a00000203e8003500080000",
+    )?;
+    assert_eq!(rt; rebuild4(&packet, None, 64, &mut out), Ok(()));
+    assert_eq!(rt; out.as_slice(), bare.as_slice());
+    Ok(())
+}
+
+#[test]
+fn a_plain_packet_of_version_4(rt: HostRuntime) -> Result<(), Fail> {
+    let bytes = octets_of(rt.alloc(), PLAIN_4)?;
+    let option = cipso();
+    let packet = front4(&bytes).ok().ok_or("a packet")?;
+    assert_eq!(rt; packet.tos(), 0);
+    assert_eq!(rt; packet.id(), 0);
+    assert_eq!(rt; packet.flags_offset(), 0x4000);
+    assert_eq!(rt; packet.label_option().is_none(), true);
+    let mut out = Vec::new(rt.alloc());
+    assert_eq!(rt; rebuild4(&packet, Some(&option), 64, &mut out), Ok(()));
+    let labelled = octets_of(rt.alloc(), BITMAP_16)?;
+    assert_eq!(rt; out.as_slice(), labelled.as_slice());
+    Ok(())
+}
+
+#[test]
+fn options_of_one_type(rt: HostRuntime) {
+    for (name, text, at, octets, behind) in SOUGHT {
+        let bytes = octets_of(rt.alloc(), text).expect(&rt, "memory");
+        let wanted = octets_of(rt.alloc(), octets).expect(&rt, "memory");
+        let packet = front4(&bytes).expect(&rt, "a packet");
+        let (first, second) = packet.others(130);
+        let (place, option) = first.unwrap_or((0, &[]));
+        assert_eq!(rt; place, at, "{name}");
+        assert_eq!(rt; option, wanted.as_slice(), "{name}");
+        assert_eq!(rt; second.unwrap_or(0), behind, "{name}");
+    }
+}
+
+/// Whether an option may be written.
+fn is_whole(option: &[u8]) -> bool
+    ensures { IsTrue result → IsWholeOption option.now }
+{
+    option.len() >= 2 && option.len() <= 40 && usize::from(option[1]) == option.len()
+}
+
+#[test]
+fn another_option_in_place_of_those_of_one_type(rt: HostRuntime) {
+    for (name, text, option, swapped) in SWAPPED {
+        let bytes = octets_of(rt.alloc(), text).expect(&rt, "memory");
+        let option = octets_of(rt.alloc(), option).expect(&rt, "memory");
+        let wanted = octets_of(rt.alloc(), swapped).expect(&rt, "memory");
+        let packet = read4(&bytes).expect(&rt, "a packet");
+        assert!(rt; is_whole(&option), "{name}");
+        let mut out = Vec::new(rt.alloc());
+        assert_eq!(rt;
+            rebuild_swap4(&packet, 130, &option, &mut out),
+            Ok(()),
+            "{name}"
+        );
+        assert_eq!(rt; out.as_slice(), wanted.as_slice(), "{name}");
+    }
+}
+
+#[test]
+fn no_room_for_another_option(rt: HostRuntime) {
+    for (name, text, option) in NO_ROOM {
+        let bytes = octets_of(rt.alloc(), text).expect(&rt, "memory");
+        let option = octets_of(rt.alloc(), option).expect(&rt, "memory");
+        let packet = read4(&bytes).expect(&rt, "a packet");
+        assert!(rt; is_whole(&option), "{name}");
+        let mut out = octets_of(rt.alloc(), "00").expect(&rt, "memory");
+        let done = rebuild_swap4(&packet, 130, &option, &mut out);
+        assert_eq!(rt; done, Err(Rebuild::NoRoom), "{name}");
+        assert_eq!(rt; out.len(), 0, "{name}");
+    }
+}
+
+#[test]
+fn a_router_alert_keeps_its_place(rt: HostRuntime) -> Result<(), Fail> {
+    let bytes = octets_of(rt.alloc(), ALERT_6)?;
+    let option = calipso();
+    let packet = read6(&bytes).ok().ok_or("a packet")?;
+    assert_eq!(rt; packet.class(), 0);
+    assert_eq!(rt; packet.flow_label(), 0);
+    assert_eq!(rt; packet.hops(), 64);
+    assert_eq!(rt; packet.protocol(), 17);
+    assert_eq!(rt; packet.source()[15], 1);
+    assert_eq!(rt; packet.destination()[15], 2);
+    assert_eq!(rt; packet.has_others(), true);
+    assert_eq!(rt; packet.label_option().is_none(), true);
+    assert_eq!(rt; packet.payload().len(), 8);
+    let mut out = Vec::new(rt.alloc());
+    assert_eq!(rt; rebuild6(&packet, Some(&option), 64, &mut out), Ok(()));
+    let labelled = octets_of(
+        rt.alloc(),
+        "6000000000200040fd000000000000000000000000000001fd00000000000000000000000000000211020708000000100002bfd901040000000005020000010003e8003500080000",
+    )?;
+    assert_eq!(rt; out.as_slice(), labelled.as_slice());
+    assert_eq!(rt; rebuild6(&packet, None, 64, &mut out), Ok(()));
+    assert_eq!(rt; out.as_slice(), bytes.as_slice());
+    Ok(())
+}
+
+#[test]
+fn packets_by_their_fields(rt: HostRuntime) -> Result<(), Fail> {
+    let payload = octets_of(rt.alloc(), "03e800350008e7be")?;
+    let fields = Fields4 {
+        tos: 0,
+        id: 0,
+        flags_offset: 0x4000,
+        hops: 64,
+        protocol: 17,
+        source: [10, 0, 0, 1],
+        destination: [10, 0, 0, 2],
+    };
+    let option = cipso();
+    let want = octets_of(rt.alloc(), BITMAP_16)?;
+    let mut out = Vec::new(rt.alloc());
+    assert_eq!(rt; write4(&fields, Some(&option), &payload, &mut out), Ok(()));
+    assert_eq!(rt; out.as_slice(), want.as_slice());
+    let fields = Fields6 {
+        class: 0x12,
+        flow_label: 0x34567,
+        hops: 63,
+        protocol: 17,
+        source: [0xfd, 0, 0, 0, 0, 0, 0, 0, 0, 0, 0, 0, 0, 0, 0, 1],
+        destination: [0xfd, 0, 0, 0, 0, 0, 0, 0, 0, 0, 0, 0, 0, 0, 0, 2],
+    };
+    let option = calipso();
+    let want = octets_of(
+        rt.alloc(),
+        "612345670018003ffd000000000000000000000000000001fd00000000000000000000000000000211010708000000100002bfd90102000003e800350008e7be",
+    )?;
+    assert_eq!(rt; write6(&fields, Some(&option), &payload, &mut out), Ok(()));
+    assert_eq!(rt; out.as_slice(), want.as_slice());
+    Ok(())
+}
+
+// The worked sum of RFC 1071, section 3, and a last octet with no partner.
+#[test]
+fn sums_of_words(rt: HostRuntime) -> Result<(), Fail> {
+    assert_eq!(rt;
+        ones_sum(&[0x00, 0x01, 0xf2, 0x03, 0xf4, 0xf5, 0xf6, 0xf7]),
+        0xddf2
+    );
+    assert_eq!(rt; ones_sum(&[0x12]), 0x1200);
+    assert_eq!(rt; ones_sum(&[0x12, 0x34, 0x56]), 0x6834);
+    assert_eq!(rt; ones_sum(&[0xff, 0xff, 0, 1, 0xff, 0xff]), 1);
+    assert_eq!(rt; ones_sum(&[0xff; 7]), 0xff00);
+    assert_eq!(rt; ones_sum(&[0xff; 8]), 0xffff);
+    assert_eq!(rt; ones_sum(&[]), 0);
+    assert_eq!(rt; ones_add(0xffff, 1), 1);
+    Ok(())
+}

@@ -1,0 +1,7 @@
+pub mod Words
+pub mod Lines
+pub mod Inputs
+pub mod Outcome
+pub mod Says
+pub mod OfRun
+pub mod inside

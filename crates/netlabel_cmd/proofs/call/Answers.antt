@@ -1,5 +1,0 @@
-use Rattle.std.proofs.Common.{inl}
-use Rattle.netlabel_cmd.proofs.call.Goals as goal
-
-pub returns : goal.returns
-returns g c = inl (c.netlabel.ensures.0, _, _, _, c.netlabel.ensures.2)

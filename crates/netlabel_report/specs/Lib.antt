@@ -1,0 +1,6 @@
+pub mod Names
+pub mod Asked
+pub mod Places
+pub mod Course
+pub mod Says
+pub mod inside

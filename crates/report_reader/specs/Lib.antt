@@ -1,5 +1,0 @@
-pub mod Names
-pub mod Asked
-pub mod Course
-pub mod Says
-pub mod inside

@@ -1,0 +1,15 @@
+pub mod Made
+pub mod Leading
+pub mod Stopping
+pub mod Ending
+pub mod Ended
+pub mod Early
+pub mod Appending
+pub mod Planning
+pub mod Beginning
+pub mod Tables
+pub mod Turning
+pub mod Proceeding
+pub mod Short
+pub mod Origin
+pub mod Law
