@@ -25,7 +25,7 @@ from typing import Dict, FrozenSet, List, NamedTuple, Optional
 import networks
 import scratch
 
-PROGRAM = scratch.TOP / "crates/netlabel_cmd/out/netlabel_cmd"
+PROGRAM = scratch.TOP / "crates/netlabel_run/out/netlabel_run"
 SCRIPT, CAPTURE = "network", "in.pcap"
 # Numbers that a protocol can carry are below these.
 CARRIED = {"cipsov4": {"levels": 256, "categories": 65535}, "calipso": {"levels": 256, "categories": 1952}}

@@ -28,7 +28,7 @@ from typing import List, NamedTuple
 import networks
 import scratch
 
-PROGRAM = scratch.TOP / "crates/netlabel_cmd/out/netlabel_cmd"
+PROGRAM = scratch.TOP / "crates/netlabel_run/out/netlabel_run"
 AUDIT = scratch.TOP / "crates/netlabel_audit/out/netlabel_audit"
 SCRIPT, REPORT, FROZEN, CAPTURE = "network", "report", "frozen", "in.pcap"
 MOST_NODES, MOST_FLOWS = 32, 256

@@ -15,7 +15,7 @@ from typing import NamedTuple
 import scratch
 
 TOP = scratch.TOP
-PROGRAM = TOP / "crates/netlabel_cmd/out/netlabel_cmd"
+PROGRAM = TOP / "crates/netlabel_run/out/netlabel_run"
 
 PIPE = 4096  # octets that a pipe holds, while memory is read
 SPIN = "import os\nbegun = os.getppid()\nwhile os.getppid() == begun:\n    for _ in range(1_000_000): pass"

@@ -86,7 +86,7 @@ def example(name, end):
 
 def built(program):
     """Where a program is built, by its name."""
-    rooms = [scratch.TOP / "crates" / room / "out" / room for room in (f"{program}_cmd", program)]
+    rooms = [scratch.TOP / "crates" / room / "out" / room for room in (f"{program}_run", program)]
     return next(path for path in rooms if path.exists())
 
 
