@@ -10,12 +10,12 @@ _netlabel_report_files() {
 }
 
 _netlabel_report() {
-    local current=${COMP_WORDS[COMP_CWORD]} way=1
+    local current=${COMP_WORDS[COMP_CWORD]} way=1 options='-e -s'
     COMPREPLY=()
-    [[ $COMP_CWORD == 1 || ${COMP_WORDS[1]} != -e ]] || way=2
+    if [[ $COMP_CWORD -gt 1 && ${COMP_WORDS[1]} == -e ]]; then way=2 options=-s; fi
+    if [[ $COMP_CWORD -gt $way && ${COMP_WORDS[way]} == -s ]]; then way=$((way + 2)) options=; fi
     case $COMP_CWORD in
-    1) mapfile -t COMPREPLY < <(compgen -W '-e summary denied json csv' -- "$current") ;;
-    "$way") mapfile -t COMPREPLY < <(compgen -W 'summary denied json csv' -- "$current") ;;
+    "$way") mapfile -t COMPREPLY < <(compgen -W "$options summary denied json csv" -- "$current") ;;
     *) _netlabel_report_files "$current" ;;
     esac
 }

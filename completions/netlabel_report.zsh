@@ -3,10 +3,11 @@
 
 _netlabel_report() {
     local way=2
-    [[ $CURRENT -gt 2 && ${words[2]} == -e ]] && way=3
+    local -a options=(-e -s)
+    if [[ $CURRENT -gt 2 && ${words[2]} == -e ]]; then way=3 options=(-s); fi
+    if [[ $CURRENT -gt $way && ${words[way]} == -s ]]; then way=$((way + 2)) options=(); fi
     case $CURRENT in
-    2) compadd -- -e summary denied json csv ;;
-    $way) compadd -- summary denied json csv ;;
+    $way) compadd -- $options summary denied json csv ;;
     *) _files ;;
     esac
 }
