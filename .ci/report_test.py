@@ -1,5 +1,6 @@
 """`netlabel_report json` and `csv` of every report of `run` among the examples, read by Python's own json and csv, against what the report says, field by
-field. What it says is read here by docs/formats.md alone. Prints `N passed, M failed`.
+field; then of each with the script that was run. What report and script say is read here by docs/formats.md and docs/scripts.md alone. Prints
+`N passed, M failed`.
 
     python3 .ci/report_test.py [PROGRAM]
 """
@@ -59,8 +60,18 @@ def line_of(words):
     return {"line": words[0]}
 
 
-def records(report, text):
-    """A record for each line of the report of this number."""
+def commands_of(script):
+    """The numbers of the lines of a script that are commands."""
+    found = []
+    for number, line in enumerate(script.split("\n"), 1):
+        words = line.split()
+        if words and not words[0].startswith("#") and words[0] not in ("node", "reading", "flow"):
+            found.append(number)
+    return found
+
+
+def records(report, text, commands=None):
+    """A record for each line of the report of this number, with the line of each command where the script's commands are given."""
     listed, told = 0, []
     for line in text.splitlines():
         if listed:
@@ -70,6 +81,8 @@ def records(report, text):
         words = line.split(" ")
         said = packet_of(words) if words[0] == "packet" else line_of(words)
         listed = said.get("lines", 0)
+        if commands is not None and said["line"] == "command":
+            said["at"] = commands[said["step"] - 1]
         told.append({"report": report, **said})
     if not told or told[-1]["line"] not in ("done", "capture", "limit", "script"):
         told.append({"report": report, "line": "unfinished"})
@@ -83,37 +96,52 @@ def cell_of(value):
 
 
 def report_files():
-    """The reports of `run` among the examples."""
+    """The reports of `run` among the examples, each with its script, which is right in each of them."""
     files = []
     for words in calls.some(TOP, "examples/*/words*"):
         end = words.name[len("words"):]
         program = words.parent / f"program{end}"
-        is_run = words.read_text().split("\n")[0] == "run" and (not program.exists() or program.read_text().strip() == "netlabel")
-        if is_run:
-            files.append(words.parent / f"report{end}")
+        said = words.read_text().split("\n")
+        if said[0] == "run" and (not program.exists() or program.read_text().strip() == "netlabel"):
+            files.append((words.parent / f"report{end}", words.parent / said[1]))
     return files
+
+
+def differs(program, words, read, wanted):
+    """Whether a call of the program tells something else than what is wanted, and says so."""
+    ran = subprocess.run([program, *words], cwd=TOP, stdin=subprocess.DEVNULL, capture_output=True)
+    told = read(ran.stdout.decode())
+    if not ran.returncode and told == wanted:
+        return False
+    other = next(((a, b) for a, b in zip(told, wanted) if a != b), (len(told), len(wanted)))
+    print(f"failed: {' '.join(words)}: status {ran.returncode}, told and wanted {other}, {ran.stderr[-300:]!r}")
+    return True
+
+
+def read_json(text):
+    return [json.loads(line) for line in text.splitlines()]
+
+
+def read_csv(text):
+    return list(csv.reader(io.StringIO(text)))
+
+
+def cells_of(wanted):
+    return [COLUMNS, *([cell_of(record.get(column)) for column in COLUMNS] for record in wanted)]
 
 
 def main(program):
     files = report_files()
-    wanted = [record for number, file in enumerate(files, 1) for record in records(number, file.read_text())]
-    names = [str(file.relative_to(TOP)) for file in files]
-    failed = 0
-    ran = subprocess.run([program, "json", *names], cwd=TOP, stdin=subprocess.DEVNULL, capture_output=True)
-    told = [json.loads(line) for line in ran.stdout.decode().splitlines()]
-    if ran.returncode or told != wanted:
-        failed += 1
-        other = next(((a, b) for a, b in zip(told, wanted) if a != b), (len(told), len(wanted)))
-        print(f"failed: json: status {ran.returncode}, told and wanted {other}, {ran.stderr[-300:]!r}")
-    ran = subprocess.run([program, "csv", *names], cwd=TOP, stdin=subprocess.DEVNULL, capture_output=True)
-    rows = list(csv.reader(io.StringIO(ran.stdout.decode())))
-    cells = [COLUMNS, *([cell_of(record.get(column)) for column in COLUMNS] for record in wanted)]
-    if ran.returncode or rows != cells:
-        failed += 1
-        other = next(((a, b) for a, b in zip(rows, cells) if a != b), (len(rows), len(cells)))
-        print(f"failed: csv: status {ran.returncode}, told and wanted {other}, {ran.stderr[-300:]!r}")
-    print(f"{2 - failed} passed, {failed} failed")
-    return 1 if failed else 0
+    texts = [report.read_text() for report, _ in files]
+    wanted = [record for number, text in enumerate(texts, 1) for record in records(number, text)]
+    names = [str(report.relative_to(TOP)) for report, _ in files]
+    failed = [differs(program, ["json", *names], read_json, wanted), differs(program, ["csv", *names], read_csv, cells_of(wanted))]
+    for (_, script), text, name in zip(files, texts, names):
+        by_script = ["-s", str(script.relative_to(TOP))]
+        wanted = records(1, text, commands_of(script.read_text()))
+        failed += [differs(program, [*by_script, "json", name], read_json, wanted), differs(program, [*by_script, "csv", name], read_csv, cells_of(wanted))]
+    print(f"{failed.count(False)} passed, {failed.count(True)} failed")
+    return 1 if any(failed) else 0
 
 
 if __name__ == "__main__":
