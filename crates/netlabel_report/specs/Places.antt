@@ -21,8 +21,8 @@ is_command (first ∷ words) = not (is_no_command first.text)
 
 -- the node that is the current one behind a line of these words
 abbrev pub node_behind : Option (List ℕ) → List LineWord → Option (List ℕ)
-node_behind node (first ∷ name ∷ words) = if bytes_eq first.text (codes "node") then name_of_text name.text else node
-node_behind node words = node
+node_behind current (first ∷ name ∷ words) = if bytes_eq first.text (codes "node") then name_of_text name.text else current
+node_behind current words = current
 
 -- a command of a node stands at this line
 abbrev pub place_under : Option (List ℕ) → ℕ → List CommandPlace
@@ -31,12 +31,12 @@ place_under (Some node) number = (record { line = number; node = node }) ∷ []
 
 -- what a line of these words adds
 abbrev pub place_in : Option (List ℕ) → ℕ → List LineWord → List CommandPlace
-place_in node number words = if is_command words then place_under node number else []
+place_in current number words = if is_command words then place_under current number else []
 
 -- line for line, from this number on
 abbrev pub places_from : Option (List ℕ) → ℕ → List (List ℕ) → List CommandPlace
-places_from node number [] = []
-places_from node number (line ∷ rest) = place_in node number (words_of_line line) ++ places_from (node_behind node (words_of_line line)) (number + 1) rest
+places_from current number [] = []
+places_from current number (line ∷ rest) = place_in current number (words_of_line line) ++ places_from (node_behind current (words_of_line line)) (number + 1) rest
 
 -- those of a text; its lines are counted from 1
 abbrev pub places_of : List ℕ → List CommandPlace
