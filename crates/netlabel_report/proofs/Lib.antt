@@ -2,3 +2,5 @@ mod Depots
 mod Cutting
 mod Telling
 mod Ending
+mod Steps
+mod Law

@@ -4,6 +4,7 @@
 #![tactic(auto)]
 
 mod desk;
+pub mod laws;
 mod lines;
 mod names;
 mod question;
