@@ -1,10 +1,14 @@
 -- Decimal numbers below 2^64.
 use Rattle.std.proofs.Common.{◌≡◌, ℕ, ◌^◌, ◌<◌, ◌≤◌, Bool, List, true, false, cond, Option, Some, None, refl, sym, ap, ◌∙◌, arith, decimal}
-use Rattle.std.specs.Prelude.{nat_le, ◌&&◌}
+use Rattle.std.specs.Prelude.{nat_le, ◌&&◌, ◌==◌}
+use Rattle.std.specs.List.{All}
 use Rattle.std.specs.Str.{bytes_eq}
 use Rattle.std.specs.Str.Parse.{digits_value}
 use Rattle.std.proofs.lemmas.Bool.{and_from, and_parts, cond-true, cond-false, false_from_ne_true, le-leb, leb-true}
+use Rattle.std.proofs.lemmas.Bool.Decides.{nat_tests}
+use Rattle.std.proofs.lemmas.List.Elements.{All-from_get_or}
 use Rattle.std.proofs.lemmas.Fmt.{decimal_is_IsNumeral}
+use Rattle.std.proofs.lemmas.Str.Parse.{digit_at}
 use Rattle.std.proofs.lemmas.Slice.Eq.{bytes_eq-Decides}
 use Rattle.address_text.specs.Number.{number_of_text}
 use Rattle.report_lines.specs.Slot.{whole_number}
@@ -28,3 +32,8 @@ tested text none both =
 pub no_number : (text : List ℕ) → ((n : ℕ) → n < 2 ^ 64 → text ≡ decimal n → ⊥) → whole_number text ≡ None
 unfolding whole_number
 no_number text none = cond-false _ _ _ (false_from_ne_true _ (tested text none))
+
+-- the digits of a number are none of the octets below them
+pub digits_but : (b n : ℕ) → b < 48 → n < 2 ^ 64 → All (λ c. (c == b) ≡ false) (decimal n)
+digits_but b n low small = All-from_get_or (λ c. (c == b) ≡ false) (decimal n) 0 λ i h.
+    let digit = digit_at (decimal n) i (decimal_is_IsNumeral n small).0.1 h in grind (arith, nat_tests, digit, low)

@@ -1,11 +1,14 @@
 -- The parts of a text around the first of some octets.
-use Rattle.std.proofs.Common.{◌≡◌, ℕ, ◌+◌, ◌-◌, ◌<◌, ◌≤◌, Bool, true, false, cond, not, List, [], ◌∷◌, length, take, drop, Option, Some, None, refl, sym, ap, ◌∙◌, arith}
+use Rattle.std.proofs.Common.{◌≡◌, ℕ, ◌+◌, ◌-◌, ◌<◌, ◌≤◌, Bool, true, false, cond, not, List, [], ◌∷◌, ◌++◌, length, take, drop, append_assoc, length-append, Option, Some, None, refl, sym, ap, ◌∙◌, arith}
 use Rattle.std.specs.Prelude.{◌==◌}
-use Rattle.std.specs.List.{slice_split, position, position_or_len, onto_first, before_first, after_first}
+use Rattle.std.specs.List.{All, slice_split, position, position_or_len, onto_first, before_first, after_first}
 use Rattle.std.proofs.lemmas.Bool.{ltb-true, ltb-false}
+use Rattle.std.proofs.lemmas.Bool.Decides.{Decides-eqb}
 use Rattle.std.proofs.lemmas.List.{take_rest, take_all, drop_all}
+use Rattle.std.proofs.lemmas.List.Elements.{All-head, All-tail}
 use Rattle.std.proofs.lemmas.List.Splits.{slice_split_first}
 use Rattle.std.proofs.lemmas.Option.{none-some}
+use Rattle.std.proofs.Math.Seq.{take-append_seam, drop-append_seam}
 use Rattle.std.proofs.NetLemmas.Options.{cond_some}
 
 -- a text without such an octet is one part
@@ -52,3 +55,25 @@ front_nowhere p text e = sym (take_all (position_or_len p text) text (nowhere p 
 
 pub behind_nowhere : (p : ℕ → Bool) (text rest : List ℕ) → position p text ≡ None → rest ≡ [] → rest ≡ after_first p text
 behind_nowhere p text rest e none = none ∙ sym (drop_all (position_or_len p text + 1) text (let le = nowhere p text e in omega (arith, le)))
+
+-- ---- a text without some octet, in front of one
+
+self : (b : ℕ) → (b == b) ≡ true
+self b = (Decides-eqb b b).1 refl
+
+module _ (b : ℕ) where
+  first_at : (xs ys : List ℕ) → All (λ c. (c == b) ≡ false) xs → position_or_len (λ c. c == b) (xs ++ b ∷ ys) ≡ length xs
+  first_at [] ys none = rw (self b) refl
+  first_at (x ∷ xs) ys none =
+      let rest = first_at xs ys (All-tail (λ c. (c == b) ≡ false) x xs none) in
+      rw (All-head (λ c. (c == b) ≡ false) x xs none) (omega (arith, rest))
+
+  pub before_it : (xs ys : List ℕ) → All (λ c. (c == b) ≡ false) xs → before_first (λ c. c == b) (xs ++ b ∷ ys) ≡ xs
+  before_it xs ys none = ap (λ k. take k (xs ++ b ∷ ys)) (first_at xs ys none) ∙ take-append_seam xs (b ∷ ys)
+
+  pub behind_it : (xs ys : List ℕ) → All (λ c. (c == b) ≡ false) xs → after_first (λ c. c == b) (xs ++ b ∷ ys) ≡ ys
+  behind_it xs ys none =
+      ap (λ k. drop (k + 1) (xs ++ b ∷ ys)) (first_at xs ys none)
+      ∙ ap (drop (length xs + 1)) (sym (append_assoc xs (b ∷ []) ys))
+      ∙ ap (λ k. drop k ((xs ++ b ∷ []) ++ ys)) (sym (length-append xs (b ∷ [])))
+      ∙ drop-append_seam (xs ++ b ∷ []) ys

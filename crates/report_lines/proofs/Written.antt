@@ -1,17 +1,12 @@
 -- The lines that are written, by their words.
-use Rattle.std.proofs.Common.{◌≡◌, ◌∙◌, ℕ, ◌<◌, ◌^◌, Bool, true, false, not, List, [], ◌∷◌, ◌++◌, length, codes, decimal, append_assoc, Option, Some, None, refl, sym, ap, subst, arith}
-use Rattle.std.specs.Prelude.{◌==◌, ◌&&◌, nat_le, nat_eq, ◌||◌}
-use Rattle.std.specs.List.{All, join_with_byte, list_all}
-use Rattle.std.proofs.lemmas.Bool.{and_parts}
-use Rattle.std.proofs.lemmas.Bool.Decides.{Decides-eqb, nat_tests}
-use Rattle.std.proofs.lemmas.List.Elements.{All-cons, All-nil, All-from_get_or}
-use Rattle.std.proofs.lemmas.Fmt.{decimal_is_IsNumeral}
-use Rattle.std.proofs.lemmas.Str.Parse.{digit_at}
-use Rattle.address_text.specs.Name.{is_name_octet, is_name}
-use Rattle.flow_lines.specs.FileName.{is_file_octet, is_file_name}
+use Rattle.std.proofs.Common.{◌≡◌, ◌∙◌, ℕ, ◌<◌, ◌^◌, true, not, List, [], ◌∷◌, ◌++◌, length, codes, decimal, append_assoc, None, refl, sym, ap, arith}
+use Rattle.std.specs.Prelude.{◌==◌}
+use Rattle.std.specs.List.{join_with_byte, list_all}
+use Rattle.address_text.specs.Name.{is_name}
+use Rattle.flow_lines.specs.FileName.{is_file_name}
 use Rattle.call_report.specs.Lines.Flow.{flow_line, flow_end_line}
-use Rattle.call_report.specs.Lines.Fixed.{done_line, packets_limit_line}
-use Rattle.call_report.specs.Lines.Reply.{reply_text}
+use Rattle.call_report.specs.Lines.Fixed.{done_line}
+use Rattle.call_report.specs.Lines.Reply.{reply_text, listed_lines}
 use Rattle.node_tables.specs.declared.reply.Reply.TheVariants.{Done, Listed, Refused}
 use Rattle.node_tables.specs.declared.reply.Refusal.{Refusal}
 use Rattle.node_tables.specs.declared.reply.Refusal.TheVariants.{DoiExists, DoiUnknown, DoiInUse, NotOneToOne, TooManyPairs, MapExists, MapUnknown, MapPlain, MapHasAddresses, StaticExists, StaticUnknown, ReceiverExists, ReceiverUnknown, RangeExists, RangeUnknown, PairExists, PairUnknown, TableFull}
@@ -20,58 +15,28 @@ use Rattle.report_lines.specs.declared.form.Form.{Form}
 use Rattle.report_lines.specs.declared.form.Form.TheVariants as form
 use Rattle.report_lines.specs.Slot.{may_stand, is_one_of, refusals}
 use Rattle.report_lines.specs.Form.{slots_of}
-use Rattle.report_lines.specs.Line.{line_words, misfit_of, AreWords, IsWrittenAs}
+use Rattle.report_lines.specs.Line.{misfit_of, AreWords, IsWrittenAs}
 use Rattle.report_lines.proofs.Numbers.{a_number}
+use Rattle.report_lines.proofs.Blanks.{fixed, number_word, file_word, name_word}
 use Rattle.report_lines.proofs.Law.{joined_words_are_read_back}
-
--- ---- words without a blank
-
-no_blank : (p : ℕ → Bool) → p 32 ≡ false → (c : ℕ) → p c ≡ true → (c == 32) ≡ false
-no_blank p none c passes =
-    elim (c == 32) as (λ b. (c == 32) ≡ b → b ≡ false) [
-      | true ↦ λ e. absurd (let same : c ≡ 32 = (Decides-eqb c 32).0 e in let blank : p c ≡ false = ap p same ∙ none in cc)
-      | false ↦ λ e. refl
-    ] refl
-
-blank_free : (p : ℕ → Bool) → p 32 ≡ false → (xs : List ℕ) → list_all p xs ≡ true → All (λ c. (c == 32) ≡ false) xs
-blank_free p none [] all = All-nil (λ c. (c == 32) ≡ false)
-blank_free p none (x ∷ xs) all =
-    let parts = and_parts (p x) (list_all p xs) all in
-    All-cons (λ c. (c == 32) ≡ false) x xs (no_blank p none x parts.0) (blank_free p none xs parts.1)
-
-fixed : (word : List ℕ) → list_all (λ c. not (c == 32)) word ≡ true → All (λ c. (c == 32) ≡ false) word
-fixed word plain = blank_free (λ c. not (c == 32)) refl word plain
-
-digits : (n : ℕ) → n < 2 ^ 64 → All (λ c. (c == 32) ≡ false) (decimal n)
-digits n small = All-from_get_or (λ c. (c == 32) ≡ false) (decimal n) 0 λ i h.
-    let digit = digit_at (decimal n) i (decimal_is_IsNumeral n small).0.1 h in grind (arith, nat_tests, digit)
-
-file : (name : List ℕ) → is_file_name name ≡ true → All (λ c. (c == 32) ≡ false) name
-file [] is = absurd (cc)
-file (first ∷ octets) is =
-    blank_free is_file_octet refl (first ∷ octets) (and_parts (not (nat_eq first 45 || nat_eq first 35) && nat_le (length octets) 126) (list_all is_file_octet (first ∷ octets)) is).1
-
-name_words : (name : List ℕ) → is_name name ≡ true → All (λ c. (c == 32) ≡ false) name
-name_words name is =
-    blank_free is_name_octet refl name (and_parts (nat_le 1 (length name) && nat_le (length name) 63) (list_all is_name_octet name) is).1
 
 -- ---- parts of a line, from the left and from the right
 
-abbrev left_join : List ℕ → List (List ℕ) → List ℕ
+abbrev pub left_join : List ℕ → List (List ℕ) → List ℕ
 left_join front [] = front
 left_join front (part ∷ parts) = left_join (front ++ part) parts
 
-abbrev right_join : List (List ℕ) → List ℕ
+abbrev pub right_join : List (List ℕ) → List ℕ
 right_join [] = []
 right_join (part ∷ []) = part
 right_join (part ∷ next ∷ parts) = part ++ right_join (next ∷ parts)
 
-left_right : (front part : List ℕ) (parts : List (List ℕ)) → left_join front (part ∷ parts) ≡ front ++ right_join (part ∷ parts)
+pub left_right : (front part : List ℕ) (parts : List (List ℕ)) → left_join front (part ∷ parts) ≡ front ++ right_join (part ∷ parts)
 left_right front part [] = refl
 left_right front part (next ∷ parts) = left_right (front ++ part) next parts ∙ append_assoc front part (right_join (next ∷ parts))
 
 -- words and the end of their line
-abbrev ended : List (List ℕ) → List ℕ
+abbrev pub ended : List (List ℕ) → List ℕ
 ended [] = 10 ∷ []
 ended (word ∷ []) = word ++ 10 ∷ []
 ended (word ∷ next ∷ words) = word ++ (32 ∷ ended (next ∷ words))
@@ -83,7 +48,7 @@ joined_ended (word ∷ next ∷ words) = append_assoc word (32 ∷ join_with_byt
 
 -- ---- lines of flows
 
-by_words : (form : Form) (words : List (List ℕ)) (front part : List ℕ) (parts : List (List ℕ)) → 0 < length words → AreWords words → front ++ right_join (part ∷ parts) ≡ ended words
+pub by_words : (form : Form) (words : List (List ℕ)) (front part : List ℕ) (parts : List (List ℕ)) → 0 < length words → AreWords words → front ++ right_join (part ∷ parts) ≡ ended words
     → misfit_of 0 [] (slots_of form) words ≡ None → IsWrittenAs form (left_join front (part ∷ parts))
 by_words form words front part parts some are is fit = record {
   line = join_with_byte 32 words;
@@ -98,7 +63,7 @@ flow_fits flow input small is = rw (a_number flow (decimal flow) small refl, is)
 pub flow_written : (flow : ℕ) (input : List ℕ) → flow < 2 ^ 64 → is_file_name input ≡ true → IsWrittenAs form.Flow (flow_line flow input)
 unfolding flow_line
 flow_written flow input small is =
-    by_words form.Flow (codes "flow" ∷ decimal flow ∷ input ∷ []) (codes "flow ") (decimal flow) (codes " " ∷ input ∷ (10 ∷ []) ∷ []) (omega arith) (fixed (codes "flow") refl, (digits flow small, (file input is, tt))) refl (flow_fits flow input small is)
+    by_words form.Flow (codes "flow" ∷ decimal flow ∷ input ∷ []) (codes "flow ") (decimal flow) (codes " " ∷ input ∷ (10 ∷ []) ∷ []) (omega arith) (fixed (codes "flow") refl, (number_word flow small, (file_word input is, tt))) refl (flow_fits flow input small is)
 
 end_fits : (f p q d : ℕ) → f < 2 ^ 64 → p < 2 ^ 64 → q < 2 ^ 64 → d < 2 ^ 64
     → misfit_of 0 [] (slots_of form.End) (codes "end" ∷ decimal f ∷ codes "packets" ∷ decimal p ∷ codes "passed" ∷ decimal q ∷ codes "denied" ∷ decimal d ∷ []) ≡ None
@@ -109,7 +74,7 @@ pub end_written : (f p q d : ℕ) → f < 2 ^ 64 → p < 2 ^ 64 → q < 2 ^ 64 �
 unfolding flow_end_line
 end_written f p q d hf hp hq hd =
     by_words form.End (codes "end" ∷ decimal f ∷ codes "packets" ∷ decimal p ∷ codes "passed" ∷ decimal q ∷ codes "denied" ∷ decimal d ∷ []) (codes "end ") (decimal f) (codes " packets " ∷ decimal p ∷ codes " passed " ∷ decimal q ∷ codes " denied " ∷ decimal d ∷ (10 ∷ []) ∷ []) (omega arith)
-    (fixed (codes "end") refl, (digits f hf, (fixed (codes "packets") refl, (digits p hp, (fixed (codes "passed") refl, (digits q hq, (fixed (codes "denied") refl, (digits d hd, tt)))))))) refl (end_fits f p q d hf hp hq hd)
+    (fixed (codes "end") refl, (number_word f hf, (fixed (codes "packets") refl, (number_word p hp, (fixed (codes "passed") refl, (number_word q hq, (fixed (codes "denied") refl, (number_word d hd, tt)))))))) refl (end_fits f p q d hf hp hq hd)
 
 done_fits : misfit_of 0 [] (slots_of form.Finished) (codes "done" ∷ []) ≡ None
 unfolding may_stand
@@ -129,7 +94,7 @@ pub done_reply_written : (k : ℕ) (node : List ℕ) → k < 2 ^ 64 → is_name 
 unfolding reply_text
 done_reply_written k node small is =
     by_words form.Done (codes "command" ∷ decimal k ∷ node ∷ codes "done" ∷ []) (codes "command ") (decimal k) (codes " " ∷ node ∷ codes " " ∷ codes "done\n" ∷ []) (omega arith)
-    (fixed (codes "command") refl, (digits k small, (name_words node is, (fixed (codes "done") refl, tt)))) refl (reply_fits k node small is)
+    (fixed (codes "command") refl, (number_word k small, (name_word node is, (fixed (codes "done") refl, tt)))) refl (reply_fits k node small is)
 
 -- the name of a refusal is one, and has no blank
 one_refusal : (why : Refusal) → is_one_of refusals (refusal_name why) ≡ true
@@ -181,4 +146,22 @@ pub refused_reply_written : (k : ℕ) (node : List ℕ) (why : Refusal) → k < 
 unfolding reply_text
 refused_reply_written k node why small is =
     by_words form.Refused (codes "command" ∷ decimal k ∷ node ∷ refusal_name why ∷ []) (codes "command ") (decimal k) (codes " " ∷ node ∷ codes " " ∷ (refusal_name why ++ 10 ∷ []) ∷ []) (omega arith)
-    (fixed (codes "command") refl, (digits k small, (name_words node is, (fixed (refusal_name why) (plain_refusal why), tt)))) refl (refused_fits k node why small is)
+    (fixed (codes "command") refl, (number_word k small, (name_word node is, (fixed (refusal_name why) (plain_refusal why), tt)))) refl (refused_fits k node why small is)
+
+listed_fits : (k : ℕ) (node : List ℕ) (n : ℕ) → k < 2 ^ 64 → is_name node ≡ true → n < 2 ^ 64 → misfit_of 0 [] (slots_of form.Listed) (codes "command" ∷ decimal k ∷ node ∷ codes "listed" ∷ decimal n ∷ []) ≡ None
+unfolding may_stand
+listed_fits k node n small is few = rw (a_number k (decimal k) small refl, is, a_number n (decimal n) few refl) refl
+
+-- the line in front of those that are listed
+listed_line_written : (k : ℕ) (node : List ℕ) (n : ℕ) → k < 2 ^ 64 → is_name node ≡ true → n < 2 ^ 64
+    → IsWrittenAs form.Listed (codes "command " ++ decimal k ++ codes " " ++ node ++ codes " " ++ (codes "listed " ++ decimal n ++ 10 ∷ []))
+listed_line_written k node n small is few =
+    by_words form.Listed (codes "command" ∷ decimal k ∷ node ∷ codes "listed" ∷ decimal n ∷ []) (codes "command ") (decimal k) (codes " " ∷ node ∷ codes " " ∷ (codes "listed " ++ decimal n ++ 10 ∷ []) ∷ []) (omega arith)
+    (fixed (codes "command") refl, (number_word k small, (name_word node is, (fixed (codes "listed") refl, (number_word n few, tt))))) refl (listed_fits k node n small is few)
+
+pub listed_reply_written : (k : ℕ) (node : List ℕ) (lines : List (List ℕ)) → k < 2 ^ 64 → is_name node ≡ true → length lines < 2 ^ 64
+    → (first : List ℕ) × IsWrittenAs form.Listed first × (reply_text k node (Listed lines) ≡ first ++ listed_lines lines)
+unfolding reply_text
+listed_reply_written k node lines small is few =
+    (codes "command " ++ decimal k ++ codes " " ++ node ++ codes " " ++ (codes "listed " ++ decimal (length lines) ++ 10 ∷ []), listed_line_written k node (length lines) small is few,
+    sym (append_assoc (codes "command " ++ decimal k ++ codes " " ++ node ++ codes " ") (codes "listed " ++ decimal (length lines) ++ 10 ∷ []) (listed_lines lines)))

@@ -2,3 +2,4 @@ pub mod Slot
 pub mod Form
 pub mod Line
 pub mod Told
+pub mod Written

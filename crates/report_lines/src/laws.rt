@@ -1,17 +1,27 @@
 //! Laws of lines and their forms.
-ghost use Rattle.std.specs.Prelude.{◌≡◌, ◌<◌, ◌^◌, ℕ, true, List, [], length, None, Ok};
+ghost use Rattle.std.specs.Prelude.{◌≡◌, ◌<◌, ◌^◌, ◌++◌, ℕ, true, List, [], length, All, None, Ok};
 ghost use Rattle.std.specs.List.{join_with_byte};
 ghost use Rattle.address_text.specs.Name.{is_name};
+ghost use Rattle.pcap_frames.specs.declared.fault.CaptureFault.{CaptureFault};
+ghost use Rattle.pcapng_frames.specs.declared.fault.NgFault.{NgFault};
+ghost use Rattle.capture_reader.specs.declared.fault.FileFault.TheVariants.{Pcap, Pcapng};
+ghost use Rattle.packet_walk.specs.declared.walked.Walked.{Walked};
 ghost use Rattle.flow_lines.specs.FileName.{is_file_name};
+ghost use Rattle.flow_lines.specs.declared.hop.Hop.{Hop};
+ghost use Rattle.script_lines.specs.declared.stop.LimitName.{LimitName};
+ghost use Rattle.label_commands.specs.declared.stop.ScriptFault.{ScriptFault};
 ghost use Rattle.node_tables.specs.declared.reply.Refusal.{Refusal};
 ghost use Rattle.node_tables.specs.declared.reply.Reply.TheVariants as Reply;
-ghost use Rattle.call_report.specs.Lines.Flow.{flow_line, flow_end_line};
-ghost use Rattle.call_report.specs.Lines.Fixed.{done_line};
-ghost use Rattle.call_report.specs.Lines.Reply.{reply_text};
+ghost use Rattle.call_report.specs.Lines.Flow.{flow_line, flow_end_line, walked_line};
+ghost use Rattle.call_report.specs.Lines.Fixed.{done_line, packets_limit_line};
+ghost use Rattle.call_report.specs.Lines.Reply.{reply_text, listed_lines};
+ghost use Rattle.call_report.specs.Lines.Capture.{capture_line};
+ghost use Rattle.call_report.specs.Lines.Script.{limit_line, script_line};
 ghost use Rattle.report_lines.specs.declared.form.Form.{Form};
-ghost use Rattle.report_lines.specs.declared.form.Form.TheVariants.{Flow, End, Finished, Done, Refused};
+ghost use Rattle.report_lines.specs.declared.form.Form.TheVariants.{Flow, End, Finished, Done, Refused, Listed, Capture, Limit, Script};
 ghost use Rattle.report_lines.specs.Form.{slots_of};
 ghost use Rattle.report_lines.specs.Line.{line_words, misfit_of, line_form, HasForm, AreWords, IsWrittenAs};
+ghost use Rattle.report_lines.specs.Written.{end_form, IsBoundedEnd};
 
 /// A line is the text of its words.
 pub fn a_line_is_its_words()
@@ -36,7 +46,8 @@ pub fn a_line_that_fits_is_read()
         → misfit_of 0 [] (slots_of form) (line_words line) ≡ None → HasForm (line_form line) }
 {}
 
-/// What is written of a flow, its end, a command that was carried out or refused, and the end of a run is a line of its form, and so is read.
+/// What is written of a flow, its end, a command that was carried out or refused, and the end of a run is a line of its form, and so is read. Of a
+/// command that lists lines it is the line in front of these.
 pub fn written_lines_have_their_forms()
     ensures flow { (flow : ℕ) (input : List ℕ) → flow < 2 ^ 64 → is_file_name input ≡ true
         → IsWrittenAs Flow (flow_line flow input) }
@@ -48,4 +59,29 @@ pub fn written_lines_have_their_forms()
         → IsWrittenAs Done (reply_text step node Reply.Done) }
     ensures refused { (step : ℕ) (node : List ℕ) (why : Refusal) → step < 2 ^ 64
         → is_name node ≡ true → IsWrittenAs Refused (reply_text step node (Reply.Refused why)) }
+    ensures listed { (step : ℕ) (node : List ℕ) (lines : List (List ℕ)) → step < 2 ^ 64
+        → is_name node ≡ true → length lines < 2 ^ 64
+        → (first : List ℕ) × IsWrittenAs Listed first
+        × (reply_text step node (Reply.Listed lines) ≡ first ++ listed_lines lines) }
+{}
+
+/// So is what is written of a packet that was delivered, sent, or denied.
+pub fn written_packets_have_their_forms()
+    ensures { (flow number : ℕ) (names : List (List ℕ)) (hops : List Hop) (walked : Walked)
+        → flow < 2 ^ 64 → number < 2 ^ 64 → All (λ version. version < 2 ^ 64) walked.versions
+        → IsBoundedEnd names hops walked.end
+        → IsWrittenAs (end_form walked.end) (walked_line flow number names hops walked) }
+{}
+
+/// So is what is written where a run stops early: of a capture that is broken, in either format, of a limit that is passed, and of a script's fault.
+pub fn written_stops_have_their_forms()
+    ensures pcap { (number : ℕ) (fault : CaptureFault) → number < 2 ^ 64 → fault.octet < 2 ^ 64
+        → IsWrittenAs Capture (capture_line number (Pcap fault)) }
+    ensures pcapng { (number : ℕ) (fault : NgFault) → number < 2 ^ 64 → fault.octet < 2 ^ 64
+        → IsWrittenAs Capture (capture_line number (Pcapng fault)) }
+    ensures limit { (what : LimitName) (number : ℕ) → number < 2 ^ 64
+        → IsWrittenAs Limit (limit_line what number) }
+    ensures packets { IsWrittenAs Limit packets_limit_line }
+    ensures script { (fault : ScriptFault) → fault.line < 2 ^ 64 → fault.octet < 2 ^ 64
+        → IsWrittenAs Script (script_line fault) }
 {}

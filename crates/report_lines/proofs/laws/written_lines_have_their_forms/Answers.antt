@@ -1,4 +1,4 @@
-use Rattle.report_lines.proofs.Written.{flow_written, end_written, done_written, done_reply_written, refused_reply_written}
+use Rattle.report_lines.proofs.Written.{flow_written, end_written, done_written, done_reply_written, refused_reply_written, listed_reply_written}
 use Rattle.report_lines.proofs.laws.written_lines_have_their_forms.Goals as goal
 
 pub returns-clause-flow : goal.returns-clause-flow
@@ -15,3 +15,6 @@ returns-clause-done c = done_reply_written
 
 pub returns-clause-refused : goal.returns-clause-refused
 returns-clause-refused c = refused_reply_written
+
+pub returns-clause-listed : goal.returns-clause-listed
+returns-clause-listed c = listed_reply_written

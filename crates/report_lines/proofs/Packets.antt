@@ -1,0 +1,224 @@
+-- Lines of packets that are written, by their words.
+use Rattle.std.proofs.Common.{◌≡◌, ◌∙◌, ℕ, ◌<◌, ◌^◌, Bool, true, false, not, List, [], ◌∷◌, ◌++◌, map, codes, decimal, append_assoc, Some, None, refl, sym, ap, arith}
+use Rattle.std.specs.Prelude.{◌==◌, ◌||◌}
+use Rattle.std.specs.Fmt.{digits}
+use Rattle.std.specs.List.{list_all, join_with_byte, slice_split}
+use Rattle.std.proofs.lemmas.List.Elements.{All-head, All-tail}
+use Rattle.std.proofs.lemmas.List.Splits.{slice_split_none, slice_split_at}
+use Rattle.ip_headers.specs.declared.cause.Cause.TheVariants as cause
+use Rattle.mls_label.specs.declared.label.Label.{Label}
+use Rattle.mls_range.specs.LabelText.{comma, label_text}
+use Rattle.mls_range.specs.Computed.{label_of_text}
+use Rattle.mls_range.proofs.Law.{written_label_computes}
+use Rattle.command_values.specs.Ranges.{IsMlsLabel}
+use Rattle.address_text.specs.declared.address.Address.{Address}
+use Rattle.address_text.specs.Address.{IsAddress, address_text, address_of_text}
+use Rattle.address_text.specs.Name.{is_name}
+use Rattle.address_text.proofs.Law.{address_texts_compute, written_address_reads_back}
+use Rattle.packet_label.specs.declared.denial.Carrier.{Carrier}
+use Rattle.packet_label.specs.declared.denial.Carrier.TheVariants.{Unlabelled, Cipso, Calipso}
+use Rattle.packet_label.specs.declared.denial.Denial.{Denial}
+use Rattle.packet_label.specs.declared.denial.Denial.TheVariants as why
+use Rattle.packet_walk.specs.declared.walked.End.{End}
+use Rattle.packet_walk.specs.declared.walked.End.TheVariants.{Delivered, Sent, Denied}
+use Rattle.packet_walk.specs.declared.walked.Walked.{Walked}
+use Rattle.flow_lines.specs.declared.hop.Hop.{Hop}
+use Rattle.call_report.specs.Lines.Denial.{denial_text, delivered_text}
+use Rattle.call_report.specs.Lines.Flow.{carrier_text, hop_node, versions_text, end_text, walked_line}
+use Rattle.report_lines.specs.declared.form.Form.{Form}
+use Rattle.report_lines.specs.declared.form.Form.TheVariants as form
+use Rattle.report_lines.specs.Slot.{may_stand, is_number, is_place, is_versions, is_carrier, is_one_of, is_pair_of, plain_denials, octet_denials, category_denials, cause_denials, causes}
+use Rattle.report_lines.specs.Form.{slots_of}
+use Rattle.report_lines.specs.Line.{misfit_of, AreWords, IsWrittenAs}
+use Rattle.report_lines.specs.Written.{denial_form, end_form, IsBoundedDenial, IsBoundedCarrier, IsBoundedEnd}
+use Rattle.report_lines.proofs.Numbers.{a_number, digits_but}
+use Rattle.report_lines.proofs.Parts.{before_it, behind_it}
+use Rattle.report_lines.proofs.Blanks.{BlankFree, Small, fixed, number_word, name_word, label_word, with_number, place_word, numbers_word, address_word}
+use Rattle.report_lines.proofs.Written.{left_join, right_join, left_right, ended, by_words}
+
+-- ---- versions, and the place of a packet
+
+or_right : (x y : Bool) → y ≡ true → (x || y) ≡ true
+or_right true y is = refl
+or_right false y is = is
+
+numbers_are : (vs : List ℕ) → Small vs → list_all is_number (map decimal vs) ≡ true
+numbers_are [] small = refl
+numbers_are (v ∷ vs) small = rw (a_number v (decimal v) (All-head (λ n. n < 2 ^ 64) v vs small) refl, numbers_are vs (All-tail (λ n. n < 2 ^ 64) v vs small)) refl
+
+split_numbers : (v : ℕ) (vs : List ℕ) → Small (v ∷ vs) → slice_split (λ c. c == comma) (join_with_byte comma (map decimal (v ∷ vs))) ≡ map decimal (v ∷ vs)
+split_numbers v [] small = slice_split_none (λ c. c == comma) (decimal v) (digits_but comma v (omega arith) (All-head (λ n. n < 2 ^ 64) v [] small))
+split_numbers v (w ∷ vs) small =
+    slice_split_at (λ c. c == comma) (decimal v) comma (join_with_byte comma (map decimal (w ∷ vs))) (digits_but comma v (omega arith) (All-head (λ n. n < 2 ^ 64) v (w ∷ vs) small)) refl
+    ∙ ap (λ ws. decimal v ∷ ws) (split_numbers w vs (All-tail (λ n. n < 2 ^ 64) v (w ∷ vs) small))
+
+versions_fit : (vs : List ℕ) → Small vs → is_versions (versions_text vs) ≡ true
+versions_fit [] small = refl
+versions_fit (v ∷ vs) small = or_right _ _ (ap (list_all is_number) (split_numbers v vs small) ∙ numbers_are (v ∷ vs) small)
+
+versions_word : (vs : List ℕ) → Small vs → BlankFree (versions_text vs)
+versions_word [] small = fixed (codes "-") refl
+versions_word (v ∷ vs) small = numbers_word (v ∷ vs) small
+
+abbrev place_text : ℕ → ℕ → List ℕ
+place_text f n = decimal f ++ (46 ∷ decimal n)
+
+place_fits : (f n : ℕ) → f < 2 ^ 64 → n < 2 ^ 64 → is_place (place_text f n) ≡ true
+place_fits f n hf hn =
+    let free = digits_but 46 f (omega arith) hf in
+    rw (before_it 46 (decimal f) (decimal n) free, behind_it 46 (decimal f) (decimal n) free, a_number f (decimal f) hf refl, a_number n (decimal n) hn refl) refl
+
+-- ---- carriers
+
+carrier_fits : (c : Carrier) → IsBoundedCarrier c → is_carrier (carrier_text c) ≡ true
+carrier_fits Unlabelled told = refl
+carrier_fits (Cipso doi) told = rw (a_number doi (decimal doi) told refl) refl
+carrier_fits (Calipso doi) told = rw (a_number doi (decimal doi) told refl) refl
+
+carrier_word : (c : Carrier) → IsBoundedCarrier c → BlankFree (carrier_text c)
+carrier_word Unlabelled told = fixed (codes "unlbl") refl
+carrier_word (Cipso doi) told = with_number (codes "cipsov4,") doi refl told
+carrier_word (Calipso doi) told = with_number (codes "calipso,") doi refl told
+
+-- ---- packets
+
+module _ (f n : ℕ) (vs : List ℕ) (hf : f < 2 ^ 64) (hn : n < 2 ^ 64) (small : Small vs) where
+  abbrev packet : List ℕ → List ℕ
+  packet end = left_join (codes "packet ") (decimal f ∷ codes "." ∷ decimal n ∷ codes " " ∷ end ∷ codes " versions " ∷ versions_text vs ∷ (10 ∷ []) ∷ [])
+
+  spread_packet : (end : List ℕ) (told : List ℕ → List ℕ) → ((r : List ℕ) → end ++ r ≡ told r)
+      → codes "packet " ++ right_join (decimal f ∷ codes "." ∷ decimal n ∷ codes " " ∷ end ∷ codes " versions " ∷ versions_text vs ∷ (10 ∷ []) ∷ [])
+      ≡ codes "packet " ++ (place_text f n ++ (32 ∷ told (codes " versions " ++ (versions_text vs ++ 10 ∷ []))))
+  spread_packet end told spread =
+      let rest = codes " versions " ++ (versions_text vs ++ 10 ∷ []) in
+      ap (λ t. codes "packet " ++ (decimal f ++ (46 ∷ (decimal n ++ (32 ∷ t))))) (spread rest)
+      ∙ ap (λ t. codes "packet " ++ t) (sym (append_assoc (decimal f) (46 ∷ decimal n) (32 ∷ told rest)))
+
+  sent_fits : (c : Carrier) → IsBoundedCarrier c → misfit_of 0 [] (slots_of form.Sent) (codes "packet" ∷ place_text f n ∷ codes "sent" ∷ carrier_text c ∷ codes "versions" ∷ versions_text vs ∷ []) ≡ None
+  unfolding may_stand
+  sent_fits c told = rw (place_fits f n hf hn, carrier_fits c told, versions_fit vs small) refl
+
+  sent_written : (c : Carrier) → IsBoundedCarrier c → IsWrittenAs form.Sent (packet (codes "sent " ++ carrier_text c))
+  sent_written c told =
+      by_words form.Sent (codes "packet" ∷ place_text f n ∷ codes "sent" ∷ carrier_text c ∷ codes "versions" ∷ versions_text vs ∷ []) (codes "packet ") (decimal f)
+      (codes "." ∷ decimal n ∷ codes " " ∷ (codes "sent " ++ carrier_text c) ∷ codes " versions " ∷ versions_text vs ∷ (10 ∷ []) ∷ []) (omega arith)
+      (fixed (codes "packet") refl, (place_word f n hf hn, (fixed (codes "sent") refl, (carrier_word c told, (fixed (codes "versions") refl, (versions_word vs small, tt))))))
+      (spread_packet (codes "sent " ++ carrier_text c) (λ r. codes "sent " ++ (carrier_text c ++ r)) (append_assoc (codes "sent ") (carrier_text c)))
+      (sent_fits c told)
+
+  -- ---- denied packets
+
+  module _ (num : ℕ) (name : List ℕ) (hop : ℕ) (node : List ℕ) (hnum : num < 2 ^ 64) (hname : list_all (λ c. not (c == 32)) name ≡ true) (hhop : hop < 2 ^ 64) (hnode : is_name node ≡ true) where
+    abbrev denied : List ℕ → List ℕ
+    denied detail = left_join (codes "denied ") (decimal num ∷ codes " " ∷ name ∷ detail ∷ codes " hop " ∷ decimal hop ∷ codes " node " ∷ node ∷ [])
+
+    abbrev last_words : List (List ℕ)
+    last_words = codes "hop" ∷ decimal hop ∷ codes "node" ∷ node ∷ codes "versions" ∷ versions_text vs ∷ []
+
+    last_are : AreWords last_words
+    last_are = (fixed (codes "hop") refl, (number_word hop hhop, (fixed (codes "node") refl, (name_word node hnode, (fixed (codes "versions") refl, (versions_word vs small, tt))))))
+
+    first_are : (rest : List (List ℕ)) → AreWords rest → AreWords (codes "packet" ∷ place_text f n ∷ codes "denied" ∷ decimal num ∷ name ∷ rest)
+    first_are rest are = (fixed (codes "packet") refl, (place_word f n hf hn, (fixed (codes "denied") refl, (number_word num hnum, (fixed name hname, are)))))
+
+    spread_denied : (detail : List ℕ) (r : List ℕ) → denied detail ++ r ≡ codes "denied " ++ (decimal num ++ (32 ∷ (name ++ (detail ++ (codes " hop " ++ (decimal hop ++ (codes " node " ++ (node ++ r))))))))
+    spread_denied detail r = left_right (codes "denied ") (decimal num) (codes " " ∷ name ∷ detail ∷ codes " hop " ∷ decimal hop ∷ codes " node " ∷ node ∷ r ∷ [])
+
+    denied_by : (is : Form) (detail : List ℕ) (rest : List (List ℕ)) → AreWords rest
+        → codes "packet " ++ (place_text f n ++ (32 ∷ (codes "denied " ++ (decimal num ++ (32 ∷ (name ++ (detail ++ (codes " hop " ++ (decimal hop ++ (codes " node " ++ (node ++ (codes " versions " ++ (versions_text vs ++ 10 ∷ [])))))))))))))
+        ≡ ended (codes "packet" ∷ place_text f n ∷ codes "denied" ∷ decimal num ∷ name ∷ rest)
+        → misfit_of 0 [] (slots_of is) (codes "packet" ∷ place_text f n ∷ codes "denied" ∷ decimal num ∷ name ∷ rest) ≡ None
+        → IsWrittenAs is (packet (denied detail))
+    denied_by is detail rest are same fit =
+        by_words is (codes "packet" ∷ place_text f n ∷ codes "denied" ∷ decimal num ∷ name ∷ rest) (codes "packet ") (decimal f)
+        (codes "." ∷ decimal n ∷ codes " " ∷ denied detail ∷ codes " versions " ∷ versions_text vs ∷ (10 ∷ []) ∷ []) (omega arith) (first_are rest are)
+        (spread_packet (denied detail) (λ r. codes "denied " ++ (decimal num ++ (32 ∷ (name ++ (detail ++ (codes " hop " ++ (decimal hop ++ (codes " node " ++ (node ++ r))))))))) (spread_denied detail) ∙ same)
+        fit
+
+    plain_written : is_pair_of plain_denials (decimal num) name ≡ true → IsWrittenAs form.DeniedPlain (packet (denied []))
+    unfolding may_stand
+    plain_written pair =
+        denied_by form.DeniedPlain [] last_words last_are refl
+        (rw (place_fits f n hf hn, a_number num (decimal num) hnum refl, pair, a_number hop (decimal hop) hhop refl, hnode, versions_fit vs small) refl)
+
+    octet_written : (octet : ℕ) → octet < 2 ^ 64 → is_pair_of octet_denials (decimal num) name ≡ true → IsWrittenAs form.DeniedOctet (packet (denied (codes " octet " ++ decimal octet)))
+    unfolding may_stand
+    octet_written octet told pair =
+        denied_by form.DeniedOctet (codes " octet " ++ decimal octet) (codes "octet" ∷ decimal octet ∷ last_words) (fixed (codes "octet") refl, (number_word octet told, last_are)) refl
+        (rw (place_fits f n hf hn, a_number num (decimal num) hnum refl, pair, a_number octet (decimal octet) told refl, a_number hop (decimal hop) hhop refl, hnode, versions_fit vs small) refl)
+
+    category_written : (category : ℕ) → category < 2 ^ 64 → is_pair_of category_denials (decimal num) name ≡ true → IsWrittenAs form.DeniedCategory (packet (denied (codes " category " ++ decimal category)))
+    unfolding may_stand
+    category_written category told pair =
+        denied_by form.DeniedCategory (codes " category " ++ decimal category) (codes "category" ∷ decimal category ∷ last_words) (fixed (codes "category") refl, (number_word category told, last_are)) refl
+        (rw (place_fits f n hf hn, a_number num (decimal num) hnum refl, pair, a_number category (decimal category) told refl, a_number hop (decimal hop) hhop refl, hnode, versions_fit vs small) refl)
+
+    cause_written : (cause : List ℕ) → list_all (λ c. not (c == 32)) cause ≡ true → is_one_of causes cause ≡ true → is_pair_of cause_denials (decimal num) name ≡ true → IsWrittenAs form.DeniedCause (packet (denied (codes " " ++ cause)))
+    unfolding may_stand
+    cause_written cause plain one pair =
+        denied_by form.DeniedCause (codes " " ++ cause) (cause ∷ last_words) (fixed cause plain, last_are) refl
+        (rw (place_fits f n hf hn, a_number num (decimal num) hnum refl, pair, one, a_number hop (decimal hop) hhop refl, hnode, versions_fit vs small) refl)
+
+  denied_written : (why : Denial) (hop : ℕ) (node : List ℕ) → hop < 2 ^ 64 → IsBoundedDenial why → is_name node ≡ true
+      → IsWrittenAs (denial_form why) (packet (denial_text why ++ codes " hop " ++ decimal hop ++ codes " node " ++ node))
+  unfolding denial_text plain_denials octet_denials category_denials cause_denials causes digits
+  denied_written (why.BadHeader octet) hop node hhop told hnode = octet_written 1 (codes "BadHeader") hop node (omega arith) refl hhop hnode octet told refl
+  denied_written (why.BadOption octet) hop node hhop told hnode = octet_written 2 (codes "BadOption") hop node (omega arith) refl hhop hnode octet told refl
+  denied_written (why.UnknownDoi octet) hop node hhop told hnode = octet_written 5 (codes "UnknownDoi") hop node (omega arith) refl hhop hnode octet told refl
+  denied_written (why.TagNotAllowed octet) hop node hhop told hnode = octet_written 6 (codes "TagNotAllowed") hop node (omega arith) refl hhop hnode octet told refl
+  denied_written (why.AlreadyLabelled octet) hop node hhop told hnode = octet_written 14 (codes "AlreadyLabelled") hop node (omega arith) refl hhop hnode octet told refl
+  denied_written (why.CategoryUnmapped category) hop node hhop told hnode = category_written 8 (codes "CategoryUnmapped") hop node (omega arith) refl hhop hnode category told refl
+  denied_written why.Unlabelled hop node hhop told hnode = plain_written 3 (codes "Unlabelled") hop node (omega arith) refl hhop hnode refl
+  denied_written why.NoStatic hop node hhop told hnode = plain_written 4 (codes "NoStatic") hop node (omega arith) refl hhop hnode refl
+  denied_written why.LevelUnmapped hop node hhop told hnode = plain_written 7 (codes "LevelUnmapped") hop node (omega arith) refl hhop hnode refl
+  denied_written why.OutsideRange hop node hhop told hnode = plain_written 9 (codes "OutsideRange") hop node (omega arith) refl hhop hnode refl
+  denied_written why.NoReceiver hop node hhop told hnode = plain_written 10 (codes "NoReceiver") hop node (omega arith) refl hhop hnode refl
+  denied_written why.MapRefuses hop node hhop told hnode = plain_written 11 (codes "MapRefuses") hop node (omega arith) refl hhop hnode refl
+  denied_written why.NotDominated hop node hhop told hnode = plain_written 12 (codes "NotDominated") hop node (omega arith) refl hhop hnode refl
+  denied_written why.NoMap hop node hhop told hnode = plain_written 13 (codes "NoMap") hop node (omega arith) refl hhop hnode refl
+  denied_written why.Inexpressible hop node hhop told hnode = plain_written 15 (codes "Inexpressible") hop node (omega arith) refl hhop hnode refl
+  denied_written why.NoRoom hop node hhop told hnode = plain_written 16 (codes "NoRoom") hop node (omega arith) refl hhop hnode refl
+  denied_written why.TooLong hop node hhop told hnode = plain_written 17 (codes "TooLong") hop node (omega arith) refl hhop hnode refl
+  denied_written why.Expired hop node hhop told hnode = plain_written 18 (codes "Expired") hop node (omega arith) refl hhop hnode refl
+  denied_written why.WrongVersion hop node hhop told hnode = plain_written 19 (codes "WrongVersion") hop node (omega arith) refl hhop hnode refl
+  denied_written why.NoPair hop node hhop told hnode = plain_written 20 (codes "NoPair") hop node (omega arith) refl hhop hnode refl
+  denied_written why.NotIp hop node hhop told hnode = plain_written 22 (codes "NotIp") hop node (omega arith) refl hhop hnode refl
+  denied_written why.BelowRange hop node hhop told hnode = plain_written 23 (codes "BelowRange") hop node (omega arith) refl hhop hnode refl
+  denied_written (why.NotCrossable cause.Protocol) hop node hhop told hnode = cause_written 21 (codes "NotCrossable") hop node (omega arith) refl hhop hnode (codes "Protocol") refl refl refl
+  denied_written (why.NotCrossable cause.Fragment) hop node hhop told hnode = cause_written 21 (codes "NotCrossable") hop node (omega arith) refl hhop hnode (codes "Fragment") refl refl refl
+  denied_written (why.NotCrossable cause.Options) hop node hhop told hnode = cause_written 21 (codes "NotCrossable") hop node (omega arith) refl hhop hnode (codes "Options") refl refl refl
+  denied_written (why.NotCrossable cause.Segment) hop node hhop told hnode = cause_written 21 (codes "NotCrossable") hop node (omega arith) refl hhop hnode (codes "Segment") refl refl refl
+  denied_written (why.NotCrossable cause.NoChecksum) hop node hhop told hnode = cause_written 21 (codes "NotCrossable") hop node (omega arith) refl hhop hnode (codes "NoChecksum") refl refl refl
+
+  -- ---- delivered packets
+
+  module _ (label : Label) (receiver : Address) (has : IsMlsLabel label) (is : IsAddress receiver) where
+    label_reads : label_of_text (label_text label) ≡ Some label
+    label_reads = written_label_computes label has.level has.cats has.few
+
+    address_reads : address_of_text (address_text receiver) ≡ Some receiver
+    address_reads = address_texts_compute (address_text receiver) receiver (written_address_reads_back receiver is)
+
+    delivered_fits : misfit_of 0 [] (slots_of form.Delivered) (codes "packet" ∷ place_text f n ∷ codes "delivered" ∷ label_text label ∷ codes "to" ∷ address_text receiver ∷ codes "versions" ∷ versions_text vs ∷ []) ≡ None
+    unfolding may_stand
+    delivered_fits = rw (place_fits f n hf hn, label_reads, address_reads, versions_fit vs small) refl
+
+    delivered_written : IsWrittenAs form.Delivered (packet (codes "delivered " ++ label_text label ++ codes " to " ++ address_text receiver))
+    delivered_written =
+        by_words form.Delivered (codes "packet" ∷ place_text f n ∷ codes "delivered" ∷ label_text label ∷ codes "to" ∷ address_text receiver ∷ codes "versions" ∷ versions_text vs ∷ []) (codes "packet ") (decimal f)
+        (codes "." ∷ decimal n ∷ codes " " ∷ (codes "delivered " ++ label_text label ++ codes " to " ++ address_text receiver) ∷ codes " versions " ∷ versions_text vs ∷ (10 ∷ []) ∷ []) (omega arith)
+        (fixed (codes "packet") refl, (place_word f n hf hn, (fixed (codes "delivered") refl, (label_word label has, (fixed (codes "to") refl, (address_word receiver is, (fixed (codes "versions") refl, (versions_word vs small, tt))))))))
+        (spread_packet (codes "delivered " ++ label_text label ++ codes " to " ++ address_text receiver) (λ r. codes "delivered " ++ (label_text label ++ (codes " to " ++ (address_text receiver ++ r))))
+        (λ r. left_right (codes "delivered ") (label_text label) (codes " to " ∷ address_text receiver ∷ r ∷ [])))
+        delivered_fits
+
+  end_written : (names : List (List ℕ)) (hops : List Hop) (end : End) → IsBoundedEnd names hops end → IsWrittenAs (end_form end) (packet (end_text names hops end))
+  unfolding delivered_text
+  end_written names hops (Delivered label receiver) told = delivered_written label receiver told.0 told.1
+  end_written names hops (Sent carrier) told = sent_written carrier told
+  end_written names hops (Denied hop why) told = denied_written why hop (hop_node names hops hop) told.0 told.1 told.2
+
+pub packet_written : (flow number : ℕ) (names : List (List ℕ)) (hops : List Hop) (walked : Walked) → flow < 2 ^ 64 → number < 2 ^ 64 → Small walked.versions → IsBoundedEnd names hops walked.end
+    → IsWrittenAs (end_form walked.end) (walked_line flow number names hops walked)
+unfolding walked_line
+packet_written flow number names hops walked hf hn small told = end_written flow number walked.versions hf hn small names hops walked.end told
