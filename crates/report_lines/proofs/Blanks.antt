@@ -107,7 +107,7 @@ hex_word n =
     let c = digit_char (n / 0x10 % 16) in
     let d = digit_char (n % 16) in
     let all : IsWord (a ∷ b ∷ c ∷ d ∷ []) =
-        onto a (b ∷ c ∷ d ∷ []) (hex_digit (n / 0x1000)) (onto b (c ∷ d ∷ []) (hex_digit (n / 0x100 % 16)) (onto c (d ∷ []) (hex_digit (n / 0x10 % 16)) (onto d [] (hex_digit (n % 16)) nil))) in
+    onto a (b ∷ c ∷ d ∷ []) (hex_digit (n / 0x1000)) (onto b (c ∷ d ∷ []) (hex_digit (n / 0x100 % 16)) (onto c (d ∷ []) (hex_digit (n / 0x10 % 16)) (onto d [] (hex_digit (n % 16)) nil))) in
     record { free = All-drop (λ c. (c == 32) ≡ false) (leading_zero_digits n) (a ∷ b ∷ c ∷ d ∷ []) all.free }
 
 more_groups : (xs : List ℕ) → IsWord (flat_map (λ t. 58 ∷ hex t) xs)

@@ -1,12 +1,13 @@
 -- The laws, each under the name of its function.
-use Rattle.std.proofs.Common.{◌≡◌, ◌⊎◌, inl, inr, ◌∙◌, ℕ, ◌<◌, List, [], ◌∷◌, ◌++◌, length, Option, Some, None, Result, Ok, Err, refl, sym, ap, subst, arith, false}
+use Rattle.std.proofs.Common.{◌≡◌, ◌⊎◌, inl, inr, ◌∙◌, ℕ, ◌<◌, List, [], ◌∷◌, length, Some, None, Result, Ok, refl, ap, subst, arith}
 use Rattle.std.specs.Prelude.{◌==◌}
-use Rattle.std.specs.List.{All, join_with_byte, slice_split}
+use Rattle.std.specs.List.{join_with_byte}
 use Rattle.std.proofs.lemmas.List.Splits.{join_with_byte-slice_split, slice_split_none, slice_split_at}
 use Rattle.report_lines.specs.declared.form.Form.{Form}
 use Rattle.report_lines.specs.declared.form.Form.TheVariants as form
 use Rattle.report_lines.specs.Form.{forms, slots_of}
-use Rattle.report_lines.specs.Line.{line_words, misfit_of, further, first_form, line_form, HasForm, AreWords}
+use Rattle.report_lines.specs.Line.{line_words, misfit_of, further, first_form, line_form, AreWords}
+use Rattle.report_lines.proofs.OneForm.{one_form}
 
 pub a_line_is_its_words : (line : List ℕ) → join_with_byte 32 (line_words line) ≡ line
 a_line_is_its_words line = join_with_byte-slice_split 32 line
@@ -35,12 +36,12 @@ abbrev Has : Form → List Form → Type 0
 Has form [] = ⊥
 Has form (first ∷ forms) = (form ≡ first) ⊎ Has form forms
 
-found : (forms : List Form) (furthest : ℕ) (line : List ℕ) (form : Form) → Has form forms → misfit_of 0 [] (slots_of form) (line_words line) ≡ None → HasForm (first_form furthest forms line)
+found : (forms : List Form) (furthest : ℕ) (line : List ℕ) (form : Form) → Has form forms → misfit_of 0 [] (slots_of form) (line_words line) ≡ None → first_form furthest forms line ≡ Ok form
 found [] furthest line form has fits = absurd has
 found (first ∷ forms) furthest line form has fits =
     elim (misfit_of 0 [] (slots_of first) (line_words line)) as (λ o. misfit_of 0 [] (slots_of first) (line_words line) ≡ o
-    → HasForm (elim o [ None ↦ Ok first | Some octet ↦ first_form (further furthest octet) forms line ])) [
-      | None ↦ λ here. (first, refl)
+    → ◌≡◌ {A = Result Form ℕ} (elim o [ None ↦ Ok first | Some octet ↦ first_form (further furthest octet) forms line ]) (Ok form)) [
+      | None ↦ λ here. ap (λ (f : Form). Ok f) (one_form first form (line_words line) here fits)
       | Some octet ↦ λ stops. elim has [
         | inl same ↦ absurd (let other = ap (λ (f : Form). misfit_of 0 [] (slots_of f) (line_words line)) same in cc)
         | inr more ↦ found forms (further furthest octet) line form more fits
@@ -64,6 +65,6 @@ all_there form.Limit = inr (inr (inr (inr (inr (inr (inr (inr (inr (inr (inr (in
 all_there form.Script = inr (inr (inr (inr (inr (inr (inr (inr (inr (inr (inr (inr (inr (inl refl)))))))))))))
 all_there form.Finished = inr (inr (inr (inr (inr (inr (inr (inr (inr (inr (inr (inr (inr (inr (inl refl))))))))))))))
 
-pub a_line_that_fits_is_read : (line : List ℕ) (form : Form) → misfit_of 0 [] (slots_of form) (line_words line) ≡ None → HasForm (line_form line)
+pub a_line_that_fits_is_read : (line : List ℕ) (form : Form) → misfit_of 0 [] (slots_of form) (line_words line) ≡ None → line_form line ≡ Ok form
 unfolding line_form
 a_line_that_fits_is_read line form fits = found forms 0 line form (all_there form) fits

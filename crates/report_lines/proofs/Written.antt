@@ -18,7 +18,7 @@ use Rattle.report_lines.specs.Form.{slots_of}
 use Rattle.report_lines.specs.Line.{misfit_of, AreWords, IsWrittenAs}
 use Rattle.report_lines.proofs.Numbers.{a_number}
 use Rattle.report_lines.proofs.Blanks.{fixed, number_word, file_word, name_word}
-use Rattle.report_lines.proofs.Law.{joined_words_are_read_back}
+use Rattle.report_lines.proofs.Law.{joined_words_are_read_back, a_line_that_fits_is_read}
 
 -- ---- parts of a line, from the left and from the right
 
@@ -53,7 +53,7 @@ pub by_words : (form : Form) (words : List (List ℕ)) (front part : List ℕ) (
 by_words form words front part parts some are is fit = record {
   line = join_with_byte 32 words;
   is = left_right front part parts ∙ is ∙ sym (joined_ended words);
-  all_fit = ap (misfit_of 0 [] (slots_of form)) (joined_words_are_read_back words some are) ∙ fit;
+  read = a_line_that_fits_is_read (join_with_byte 32 words) form (ap (misfit_of 0 [] (slots_of form)) (joined_words_are_read_back words some are) ∙ fit);
 }
 
 flow_fits : (flow : ℕ) (input : List ℕ) → flow < 2 ^ 64 → is_file_name input ≡ true → misfit_of 0 [] (slots_of form.Flow) (codes "flow" ∷ decimal flow ∷ input ∷ []) ≡ None
@@ -162,6 +162,8 @@ listed_line_written k node n small is few =
 pub listed_reply_written : (k : ℕ) (node : List ℕ) (lines : List (List ℕ)) → k < 2 ^ 64 → is_name node ≡ true → length lines < 2 ^ 64
     → (first : List ℕ) × IsWrittenAs form.Listed first × (reply_text k node (Listed lines) ≡ first ++ listed_lines lines)
 unfolding reply_text
-listed_reply_written k node lines small is few =
-    (codes "command " ++ decimal k ++ codes " " ++ node ++ codes " " ++ (codes "listed " ++ decimal (length lines) ++ 10 ∷ []), listed_line_written k node (length lines) small is few,
-    sym (append_assoc (codes "command " ++ decimal k ++ codes " " ++ node ++ codes " ") (codes "listed " ++ decimal (length lines) ++ 10 ∷ []) (listed_lines lines)))
+listed_reply_written k node lines small is few = (
+  codes "command " ++ decimal k ++ codes " " ++ node ++ codes " " ++ (codes "listed " ++ decimal (length lines) ++ 10 ∷ []),
+  listed_line_written k node (length lines) small is few,
+  sym (append_assoc (codes "command " ++ decimal k ++ codes " " ++ node ++ codes " ") (codes "listed " ++ decimal (length lines) ++ 10 ∷ []) (listed_lines lines)),
+)

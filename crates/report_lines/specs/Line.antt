@@ -33,17 +33,13 @@ first_form furthest (form ∷ rest) line = elim (misfit_of 0 [] (slots_of form) 
 unfoldable pub line_form : List ℕ → Result Form ℕ
 line_form line = first_form 0 forms line
 
--- a line is of some form
-abbrev pub HasForm : Result Form ℕ → Type 0
-HasForm read = (form : Form) × (read ≡ Ok form)
-
 -- texts without a blank
 abbrev pub AreWords : List (List ℕ) → Type 0
 AreWords [] = Unit {0}
 AreWords (word ∷ words) = All (λ c. (c == 32) ≡ false) word × AreWords words
 
--- a text is a line of a form, with its end
+-- a text is a line that is read as of a form, with its end
 pub record IsWrittenAs (form : Form) (text : List ℕ) : Type 0 where
   pub line : List ℕ
   pub is : text ≡ line ++ 10 ∷ []
-  pub all_fit : misfit_of 0 [] (slots_of form) (line_words line) ≡ None
+  pub read : line_form line ≡ Ok form

@@ -20,7 +20,7 @@ ghost use Rattle.call_report.specs.Lines.Script.{limit_line, script_line};
 ghost use Rattle.report_lines.specs.declared.form.Form.{Form};
 ghost use Rattle.report_lines.specs.declared.form.Form.TheVariants.{Flow, End, Finished, Done, Refused, Listed, Capture, Limit, Script};
 ghost use Rattle.report_lines.specs.Form.{slots_of};
-ghost use Rattle.report_lines.specs.Line.{line_words, misfit_of, line_form, HasForm, AreWords, IsWrittenAs};
+ghost use Rattle.report_lines.specs.Line.{line_words, misfit_of, line_form, AreWords, IsWrittenAs};
 ghost use Rattle.report_lines.specs.Written.{end_form, IsBoundedEnd};
 
 /// A line is the text of its words.
@@ -40,13 +40,13 @@ pub fn a_line_that_is_read_fits()
         → misfit_of 0 [] (slots_of form) (line_words line) ≡ None }
 {}
 
-/// A line whose words all fit a form is read.
+/// A line whose words all fit a form is read as that form; so it fits one form at most.
 pub fn a_line_that_fits_is_read()
     ensures { (line : List ℕ) (form : Form)
-        → misfit_of 0 [] (slots_of form) (line_words line) ≡ None → HasForm (line_form line) }
+        → misfit_of 0 [] (slots_of form) (line_words line) ≡ None → line_form line ≡ Ok form }
 {}
 
-/// What is written of a flow, its end, a command that was carried out or refused, and the end of a run is a line of its form, and so is read. Of a
+/// What is written of a flow, its end, a command that was carried out or refused, and the end of a run is a line, and is read as of its form. Of a
 /// command that lists lines it is the line in front of these.
 pub fn written_lines_have_their_forms()
     ensures flow { (flow : ℕ) (input : List ℕ) → flow < 2 ^ 64 → is_file_name input ≡ true
@@ -65,7 +65,7 @@ pub fn written_lines_have_their_forms()
         × (reply_text step node (Reply.Listed lines) ≡ first ++ listed_lines lines) }
 {}
 
-/// So is what is written of a packet that was delivered, sent, or denied.
+/// What is written of a packet is a line, and is read as of its form: of one that was delivered, sent, or denied, by what is told of the denial.
 pub fn written_packets_have_their_forms()
     ensures { (flow number : ℕ) (names : List (List ℕ)) (hops : List Hop) (walked : Walked)
         → flow < 2 ^ 64 → number < 2 ^ 64 → All (λ version. version < 2 ^ 64) walked.versions
@@ -73,7 +73,8 @@ pub fn written_packets_have_their_forms()
         → IsWrittenAs (end_form walked.end) (walked_line flow number names hops walked) }
 {}
 
-/// So is what is written where a run stops early: of a capture that is broken, in either format, of a limit that is passed, and of a script's fault.
+/// What is written where a run stops early is a line, and is read as of its form: of a capture's fault, in either format, of a limit that is passed,
+/// and of a script's fault.
 pub fn written_stops_have_their_forms()
     ensures pcap { (number : ℕ) (fault : CaptureFault) → number < 2 ^ 64 → fault.octet < 2 ^ 64
         → IsWrittenAs Capture (capture_line number (Pcap fault)) }
