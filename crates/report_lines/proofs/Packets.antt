@@ -2,12 +2,12 @@
 use Rattle.std.proofs.Common.{◌≡◌, ◌∙◌, ℕ, ◌<◌, ◌^◌, Bool, true, false, not, List, [], ◌∷◌, ◌++◌, map, codes, decimal, append_assoc, Some, None, refl, sym, ap, arith}
 use Rattle.std.specs.Prelude.{◌==◌, ◌||◌}
 use Rattle.std.specs.Fmt.{digits}
-use Rattle.std.specs.List.{list_all, join_with_byte, slice_split}
+use Rattle.std.specs.List.{list_all, join_with_byte, slice_split, before_first, after_first}
 use Rattle.std.proofs.lemmas.List.Elements.{All-head, All-tail}
 use Rattle.std.proofs.lemmas.List.Splits.{slice_split_none, slice_split_at}
 use Rattle.ip_headers.specs.declared.cause.Cause.TheVariants as cause
 use Rattle.mls_label.specs.declared.label.Label.{Label}
-use Rattle.mls_range.specs.LabelText.{comma, label_text}
+use Rattle.mls_range.specs.LabelText.{comma, dot, label_text}
 use Rattle.mls_range.specs.Computed.{label_of_text}
 use Rattle.mls_range.proofs.Law.{written_label_computes}
 use Rattle.command_values.specs.Ranges.{IsMlsLabel}
@@ -19,6 +19,7 @@ use Rattle.packet_label.specs.declared.denial.Carrier.{Carrier}
 use Rattle.packet_label.specs.declared.denial.Carrier.TheVariants.{Unlabelled, Cipso, Calipso}
 use Rattle.packet_label.specs.declared.denial.Denial.{Denial}
 use Rattle.packet_label.specs.declared.denial.Denial.TheVariants as why
+use Rattle.packet_label.specs.Denial.{number_of, name_of}
 use Rattle.packet_walk.specs.declared.walked.End.{End}
 use Rattle.packet_walk.specs.declared.walked.End.TheVariants.{Delivered, Sent, Denied}
 use Rattle.packet_walk.specs.declared.walked.Walked.{Walked}
@@ -27,14 +28,17 @@ use Rattle.call_report.specs.Lines.Denial.{denial_text, delivered_text}
 use Rattle.call_report.specs.Lines.Flow.{carrier_text, hop_node, versions_text, end_text, walked_line}
 use Rattle.report_lines.specs.declared.form.Form.{Form}
 use Rattle.report_lines.specs.declared.form.Form.TheVariants as form
+use Rattle.report_lines.specs.declared.slot.Field.{Field}
+use Rattle.report_lines.specs.declared.slot.Field.TheVariants as field
 use Rattle.report_lines.specs.Slot.{may_stand, is_number, is_place, is_versions, is_carrier, is_one_of, is_pair_of, plain_denials, octet_denials, category_denials, cause_denials, causes}
 use Rattle.report_lines.specs.Form.{slots_of}
-use Rattle.report_lines.specs.Line.{misfit_of, AreWords, IsWrittenAs}
-use Rattle.report_lines.specs.Written.{denial_form, end_form, IsBoundedDenial, IsBoundedCarrier, IsBoundedEnd}
+use Rattle.report_lines.specs.Line.{misfit_of, AreWords}
+use Rattle.report_lines.specs.Told.{IsToldAs}
+use Rattle.report_lines.specs.Written.{denial_told, end_told, IsBoundedDenial, IsBoundedCarrier, IsBoundedEnd}
 use Rattle.report_lines.proofs.Numbers.{a_number, digits_but}
 use Rattle.report_lines.proofs.Parts.{before_it, behind_it}
 use Rattle.report_lines.proofs.Blanks.{BlankFree, Small, fixed, number_word, name_word, label_word, with_number, place_word, numbers_word, address_word}
-use Rattle.report_lines.proofs.Written.{left_join, right_join, left_right, ended, by_words}
+use Rattle.report_lines.proofs.Written.{left_join, right_join, left_right, ended, Tell, by_words}
 
 -- ---- versions, and the place of a packet
 
@@ -86,6 +90,16 @@ module _ (f n : ℕ) (vs : List ℕ) (hf : f < 2 ^ 64) (hn : n < 2 ^ 64) (small 
   abbrev packet : List ℕ → List ℕ
   packet end = left_join (codes "packet ") (decimal f ∷ codes "." ∷ decimal n ∷ codes " " ∷ end ∷ codes " versions " ∷ versions_text vs ∷ (10 ∷ []) ∷ [])
 
+  -- what its line tells whatever became of it, and what it tells further
+  abbrev packet_told : List (Field × List ℕ) → List (Field × List ℕ)
+  packet_told fields = (field.Flow, decimal f) ∷ (field.Number, decimal n) ∷ (field.Versions, versions_text vs) ∷ fields
+
+  flow_told : before_first (λ c. c == dot) (place_text f n) ≡ decimal f
+  flow_told = before_it 46 (decimal f) (decimal n) (digits_but 46 f (omega arith) hf)
+
+  number_told : after_first (λ c. c == dot) (place_text f n) ≡ decimal n
+  number_told = behind_it 46 (decimal f) (decimal n) (digits_but 46 f (omega arith) hf)
+
   spread_packet : (end : List ℕ) (told : List ℕ → List ℕ) → ((r : List ℕ) → end ++ r ≡ told r)
       → codes "packet " ++ right_join (decimal f ∷ codes "." ∷ decimal n ∷ codes " " ∷ end ∷ codes " versions " ∷ versions_text vs ∷ (10 ∷ []) ∷ [])
       ≡ codes "packet " ++ (place_text f n ++ (32 ∷ told (codes " versions " ++ (versions_text vs ++ 10 ∷ []))))
@@ -98,13 +112,14 @@ module _ (f n : ℕ) (vs : List ℕ) (hf : f < 2 ^ 64) (hn : n < 2 ^ 64) (small 
   unfolding may_stand
   sent_fits c told = rw (place_fits f n hf hn, carrier_fits c told, versions_fit vs small) refl
 
-  sent_written : (c : Carrier) → IsBoundedCarrier c → IsWrittenAs form.Sent (packet (codes "sent " ++ carrier_text c))
+  sent_written : (c : Carrier) → IsBoundedCarrier c
+      → IsToldAs form.Sent (packet_told ((field.Became, codes "sent") ∷ (field.Carrier, carrier_text c) ∷ [])) (packet (codes "sent " ++ carrier_text c))
   sent_written c told =
       by_words form.Sent (codes "packet" ∷ place_text f n ∷ codes "sent" ∷ carrier_text c ∷ codes "versions" ∷ versions_text vs ∷ []) (codes "packet ") (decimal f)
       (codes "." ∷ decimal n ∷ codes " " ∷ (codes "sent " ++ carrier_text c) ∷ codes " versions " ∷ versions_text vs ∷ (10 ∷ []) ∷ []) (omega arith)
       (fixed (codes "packet") refl, (place_word f n hf hn, (fixed (codes "sent") refl, (carrier_word c told, (fixed (codes "versions") refl, (versions_word vs small, tt))))))
       (spread_packet (codes "sent " ++ carrier_text c) (λ r. codes "sent " ++ (carrier_text c ++ r)) (append_assoc (codes "sent ") (carrier_text c)))
-      (sent_fits c told)
+      (sent_fits c told) (flow_told, (number_told, (refl, (refl, (refl, tt)))))
 
   -- ---- denied packets
 
@@ -121,46 +136,55 @@ module _ (f n : ℕ) (vs : List ℕ) (hf : f < 2 ^ 64) (hn : n < 2 ^ 64) (small 
     first_are : (rest : List (List ℕ)) → AreWords rest → AreWords (codes "packet" ∷ place_text f n ∷ codes "denied" ∷ decimal num ∷ name ∷ rest)
     first_are rest are = (fixed (codes "packet") refl, (place_word f n hf hn, (fixed (codes "denied") refl, (number_word num hnum, (fixed name hname, are)))))
 
+    abbrev denied_told : List (Field × List ℕ) → List (Field × List ℕ)
+    denied_told fields = packet_told ((field.Became, codes "denied") ∷ (field.Denial, decimal num) ∷ (field.Name, name) ∷ (field.Hop, decimal hop) ∷ (field.Node, node) ∷ fields)
+
     spread_denied : (detail : List ℕ) (r : List ℕ) → denied detail ++ r ≡ codes "denied " ++ (decimal num ++ (32 ∷ (name ++ (detail ++ (codes " hop " ++ (decimal hop ++ (codes " node " ++ (node ++ r))))))))
     spread_denied detail r = left_right (codes "denied ") (decimal num) (codes " " ∷ name ∷ detail ∷ codes " hop " ∷ decimal hop ∷ codes " node " ∷ node ∷ r ∷ [])
 
-    denied_by : (is : Form) (detail : List ℕ) (rest : List (List ℕ)) → AreWords rest
+    denied_by : (is : Form) {fields : List (Field × List ℕ)} (detail : List ℕ) (rest : List (List ℕ)) → AreWords rest
         → codes "packet " ++ (place_text f n ++ (32 ∷ (codes "denied " ++ (decimal num ++ (32 ∷ (name ++ (detail ++ (codes " hop " ++ (decimal hop ++ (codes " node " ++ (node ++ (codes " versions " ++ (versions_text vs ++ 10 ∷ [])))))))))))))
         ≡ ended (codes "packet" ∷ place_text f n ∷ codes "denied" ∷ decimal num ∷ name ∷ rest)
         → misfit_of 0 [] (slots_of is) (codes "packet" ∷ place_text f n ∷ codes "denied" ∷ decimal num ∷ name ∷ rest) ≡ None
-        → IsWrittenAs is (packet (denied detail))
-    denied_by is detail rest are same fit =
+        → Tell (slots_of is) (codes "packet" ∷ place_text f n ∷ codes "denied" ∷ decimal num ∷ name ∷ rest) (denied_told fields)
+        → IsToldAs is (denied_told fields) (packet (denied detail))
+    denied_by is detail rest are same fit told =
         by_words is (codes "packet" ∷ place_text f n ∷ codes "denied" ∷ decimal num ∷ name ∷ rest) (codes "packet ") (decimal f)
         (codes "." ∷ decimal n ∷ codes " " ∷ denied detail ∷ codes " versions " ∷ versions_text vs ∷ (10 ∷ []) ∷ []) (omega arith) (first_are rest are)
         (spread_packet (denied detail) (λ r. codes "denied " ++ (decimal num ++ (32 ∷ (name ++ (detail ++ (codes " hop " ++ (decimal hop ++ (codes " node " ++ (node ++ r))))))))) (spread_denied detail) ∙ same)
-        fit
+        fit told
 
-    plain_written : is_pair_of plain_denials (decimal num) name ≡ true → IsWrittenAs form.DeniedPlain (packet (denied []))
+    plain_written : is_pair_of plain_denials (decimal num) name ≡ true → IsToldAs form.DeniedPlain (denied_told []) (packet (denied []))
     unfolding may_stand
     plain_written pair =
         denied_by form.DeniedPlain [] last_words last_are refl
         (rw (place_fits f n hf hn, a_number num (decimal num) hnum refl, pair, a_number hop (decimal hop) hhop refl, hnode, versions_fit vs small) refl)
+        (flow_told, (number_told, (refl, (refl, (refl, (refl, (refl, (refl, tt))))))))
 
-    octet_written : (octet : ℕ) → octet < 2 ^ 64 → is_pair_of octet_denials (decimal num) name ≡ true → IsWrittenAs form.DeniedOctet (packet (denied (codes " octet " ++ decimal octet)))
+    octet_written : (octet : ℕ) → octet < 2 ^ 64 → is_pair_of octet_denials (decimal num) name ≡ true → IsToldAs form.DeniedOctet (denied_told ((field.Octet, decimal octet) ∷ [])) (packet (denied (codes " octet " ++ decimal octet)))
     unfolding may_stand
     octet_written octet told pair =
         denied_by form.DeniedOctet (codes " octet " ++ decimal octet) (codes "octet" ∷ decimal octet ∷ last_words) (fixed (codes "octet") refl, (number_word octet told, last_are)) refl
         (rw (place_fits f n hf hn, a_number num (decimal num) hnum refl, pair, a_number octet (decimal octet) told refl, a_number hop (decimal hop) hhop refl, hnode, versions_fit vs small) refl)
+        (flow_told, (number_told, (refl, (refl, (refl, (refl, (refl, (refl, (refl, tt)))))))))
 
-    category_written : (category : ℕ) → category < 2 ^ 64 → is_pair_of category_denials (decimal num) name ≡ true → IsWrittenAs form.DeniedCategory (packet (denied (codes " category " ++ decimal category)))
+    category_written : (category : ℕ) → category < 2 ^ 64 → is_pair_of category_denials (decimal num) name ≡ true → IsToldAs form.DeniedCategory (denied_told ((field.Category, decimal category) ∷ [])) (packet (denied (codes " category " ++ decimal category)))
     unfolding may_stand
     category_written category told pair =
         denied_by form.DeniedCategory (codes " category " ++ decimal category) (codes "category" ∷ decimal category ∷ last_words) (fixed (codes "category") refl, (number_word category told, last_are)) refl
         (rw (place_fits f n hf hn, a_number num (decimal num) hnum refl, pair, a_number category (decimal category) told refl, a_number hop (decimal hop) hhop refl, hnode, versions_fit vs small) refl)
+        (flow_told, (number_told, (refl, (refl, (refl, (refl, (refl, (refl, (refl, tt)))))))))
 
-    cause_written : (cause : List ℕ) → list_all (λ c. not (c == 32)) cause ≡ true → is_one_of causes cause ≡ true → is_pair_of cause_denials (decimal num) name ≡ true → IsWrittenAs form.DeniedCause (packet (denied (codes " " ++ cause)))
+    cause_written : (cause : List ℕ) → list_all (λ c. not (c == 32)) cause ≡ true → is_one_of causes cause ≡ true → is_pair_of cause_denials (decimal num) name ≡ true → IsToldAs form.DeniedCause (denied_told ((field.Cause, cause) ∷ [])) (packet (denied (codes " " ++ cause)))
     unfolding may_stand
     cause_written cause plain one pair =
         denied_by form.DeniedCause (codes " " ++ cause) (cause ∷ last_words) (fixed cause plain, last_are) refl
         (rw (place_fits f n hf hn, a_number num (decimal num) hnum refl, pair, one, a_number hop (decimal hop) hhop refl, hnode, versions_fit vs small) refl)
+        (flow_told, (number_told, (refl, (refl, (refl, (refl, (refl, (refl, (refl, tt)))))))))
 
   denied_written : (why : Denial) (hop : ℕ) (node : List ℕ) → hop < 2 ^ 64 → IsBoundedDenial why → is_name node ≡ true
-      → IsWrittenAs (denial_form why) (packet (denial_text why ++ codes " hop " ++ decimal hop ++ codes " node " ++ node))
+      → IsToldAs (denial_told why).0 (packet_told ((field.Became, codes "denied") ∷ (field.Denial, decimal (number_of why)) ∷ (field.Name, name_of why)
+      ∷ (field.Hop, decimal hop) ∷ (field.Node, node) ∷ (denial_told why).1)) (packet (denial_text why ++ codes " hop " ++ decimal hop ++ codes " node " ++ node))
   unfolding denial_text plain_denials octet_denials category_denials cause_denials causes digits
   denied_written (why.BadHeader octet) hop node hhop told hnode = octet_written 1 (codes "BadHeader") hop node (omega arith) refl hhop hnode octet told refl
   denied_written (why.BadOption octet) hop node hhop told hnode = octet_written 2 (codes "BadOption") hop node (omega arith) refl hhop hnode octet told refl
@@ -203,22 +227,25 @@ module _ (f n : ℕ) (vs : List ℕ) (hf : f < 2 ^ 64) (hn : n < 2 ^ 64) (small 
     unfolding may_stand
     delivered_fits = rw (place_fits f n hf hn, label_reads, address_reads, versions_fit vs small) refl
 
-    delivered_written : IsWrittenAs form.Delivered (packet (codes "delivered " ++ label_text label ++ codes " to " ++ address_text receiver))
+    delivered_written : IsToldAs form.Delivered (packet_told ((field.Became, codes "delivered") ∷ (field.Label, label_text label) ∷ (field.Receiver, address_text receiver) ∷ []))
+        (packet (codes "delivered " ++ label_text label ++ codes " to " ++ address_text receiver))
     delivered_written =
         by_words form.Delivered (codes "packet" ∷ place_text f n ∷ codes "delivered" ∷ label_text label ∷ codes "to" ∷ address_text receiver ∷ codes "versions" ∷ versions_text vs ∷ []) (codes "packet ") (decimal f)
         (codes "." ∷ decimal n ∷ codes " " ∷ (codes "delivered " ++ label_text label ++ codes " to " ++ address_text receiver) ∷ codes " versions " ∷ versions_text vs ∷ (10 ∷ []) ∷ []) (omega arith)
         (fixed (codes "packet") refl, (place_word f n hf hn, (fixed (codes "delivered") refl, (label_word label has, (fixed (codes "to") refl, (address_word receiver is, (fixed (codes "versions") refl, (versions_word vs small, tt))))))))
         (spread_packet (codes "delivered " ++ label_text label ++ codes " to " ++ address_text receiver) (λ r. codes "delivered " ++ (label_text label ++ (codes " to " ++ (address_text receiver ++ r))))
         (λ r. left_right (codes "delivered ") (label_text label) (codes " to " ∷ address_text receiver ∷ r ∷ [])))
-        delivered_fits
+        delivered_fits (flow_told, (number_told, (refl, (refl, (refl, (refl, tt))))))
 
-  end_written : (names : List (List ℕ)) (hops : List Hop) (end : End) → IsBoundedEnd names hops end → IsWrittenAs (end_form end) (packet (end_text names hops end))
+  end_written : (names : List (List ℕ)) (hops : List Hop) (end : End) → IsBoundedEnd names hops end
+      → IsToldAs (end_told names hops end).0 (packet_told (end_told names hops end).1) (packet (end_text names hops end))
   unfolding delivered_text
   end_written names hops (Delivered label receiver) told = delivered_written label receiver told.0 told.1
   end_written names hops (Sent carrier) told = sent_written carrier told
   end_written names hops (Denied hop why) told = denied_written why hop (hop_node names hops hop) told.0 told.1 told.2
 
 pub packet_written : (flow number : ℕ) (names : List (List ℕ)) (hops : List Hop) (walked : Walked) → flow < 2 ^ 64 → number < 2 ^ 64 → Small walked.versions → IsBoundedEnd names hops walked.end
-    → IsWrittenAs (end_form walked.end) (walked_line flow number names hops walked)
+    → IsToldAs (end_told names hops walked.end).0 ((field.Flow, decimal flow) ∷ (field.Number, decimal number) ∷ (field.Versions, versions_text walked.versions) ∷ (end_told names hops walked.end).1)
+    (walked_line flow number names hops walked)
 unfolding walked_line
 packet_written flow number names hops walked hf hn small told = end_written flow number walked.versions hf hn small names hops walked.end told

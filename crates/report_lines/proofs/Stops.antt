@@ -19,9 +19,11 @@ use Rattle.call_report.specs.Lines.Fixed.{packets_limit_line}
 use Rattle.call_report.specs.Lines.Script.{script_kind_name, script_line, limit_name, limit_line}
 use Rattle.call_report.specs.Lines.Capture.{kind_name, ng_kind_name, capture_line}
 use Rattle.report_lines.specs.declared.form.Form.TheVariants as form
+use Rattle.report_lines.specs.declared.slot.Field.TheVariants as name
 use Rattle.report_lines.specs.Slot.{may_stand, is_one_of, capture_faults, script_faults, limits}
 use Rattle.report_lines.specs.Form.{slots_of}
-use Rattle.report_lines.specs.Line.{misfit_of, IsWrittenAs}
+use Rattle.report_lines.specs.Line.{misfit_of}
+use Rattle.report_lines.specs.Told.{IsToldAs}
 use Rattle.report_lines.proofs.Numbers.{a_number}
 use Rattle.report_lines.proofs.Blanks.{fixed, number_word}
 use Rattle.report_lines.proofs.Written.{left_right, by_words}
@@ -84,18 +86,20 @@ unfolding may_stand
 fault_fits number octet kind hn ho one = rw (a_number number (decimal number) hn refl, a_number octet (decimal octet) ho refl, one) refl
 
 fault_written : (number octet : ℕ) (kind : List ℕ) → number < 2 ^ 64 → octet < 2 ^ 64 → is_one_of capture_faults kind ≡ true → list_all (λ c. not (c == 32)) kind ≡ true
-    → IsWrittenAs form.Capture (codes "capture " ++ decimal number ++ (codes " octet " ++ decimal octet ++ codes " " ++ kind) ++ 10 ∷ [])
+    → IsToldAs form.Capture ((name.Capture, decimal number) ∷ (name.Octet, decimal octet) ∷ (name.Kind, kind) ∷ []) (codes "capture " ++ decimal number ++ (codes " octet " ++ decimal octet ++ codes " " ++ kind) ++ 10 ∷ [])
 fault_written number octet kind hn ho one plain =
     by_words form.Capture (codes "capture" ∷ decimal number ∷ codes "octet" ∷ decimal octet ∷ kind ∷ []) (codes "capture ") (decimal number) ((codes " octet " ++ decimal octet ++ codes " " ++ kind) ∷ (10 ∷ []) ∷ []) (omega arith)
     (fixed (codes "capture") refl, (number_word number hn, (fixed (codes "octet") refl, (number_word octet ho, (fixed kind plain, tt)))))
     (ap (λ t. codes "capture " ++ (decimal number ++ t)) (left_right (codes " octet ") (decimal octet) (codes " " ∷ kind ∷ (10 ∷ []) ∷ [])))
-    (fault_fits number octet kind hn ho one)
+    (fault_fits number octet kind hn ho one) (refl, (refl, (refl, tt)))
 
-pub pcap_written : (number : ℕ) (fault : CaptureFault) → number < 2 ^ 64 → fault.octet < 2 ^ 64 → IsWrittenAs form.Capture (capture_line number (Pcap fault))
+pub pcap_written : (number : ℕ) (fault : CaptureFault) → number < 2 ^ 64 → fault.octet < 2 ^ 64
+    → IsToldAs form.Capture ((name.Capture, decimal number) ∷ (name.Octet, decimal fault.octet) ∷ (name.Kind, kind_name fault.kind) ∷ []) (capture_line number (Pcap fault))
 unfolding capture_line
 pcap_written number fault hn ho = fault_written number fault.octet (kind_name fault.kind) hn ho (one_kind fault.kind) (plain_kind fault.kind)
 
-pub pcapng_written : (number : ℕ) (fault : NgFault) → number < 2 ^ 64 → fault.octet < 2 ^ 64 → IsWrittenAs form.Capture (capture_line number (Pcapng fault))
+pub pcapng_written : (number : ℕ) (fault : NgFault) → number < 2 ^ 64 → fault.octet < 2 ^ 64
+    → IsToldAs form.Capture ((name.Capture, decimal number) ∷ (name.Octet, decimal fault.octet) ∷ (name.Kind, ng_kind_name fault.kind) ∷ []) (capture_line number (Pcapng fault))
 unfolding capture_line
 pcapng_written number fault hn ho = fault_written number fault.octet (ng_kind_name fault.kind) hn ho (one_ng_kind fault.kind) (plain_ng_kind fault.kind)
 
@@ -120,16 +124,17 @@ limit_fits : (what : List ℕ) (number : ℕ) → is_one_of limits what ≡ true
 unfolding may_stand
 limit_fits what number one small = rw (one, a_number number (decimal number) small refl) refl
 
-some_limit_written : (what : List ℕ) (number : ℕ) → is_one_of limits what ≡ true → list_all (λ c. not (c == 32)) what ≡ true → number < 2 ^ 64 → IsWrittenAs form.Limit (codes "limit " ++ what ++ codes " " ++ decimal number ++ 10 ∷ [])
+some_limit_written : (what : List ℕ) (number : ℕ) → is_one_of limits what ≡ true → list_all (λ c. not (c == 32)) what ≡ true → number < 2 ^ 64
+    → IsToldAs form.Limit ((name.Limit, what) ∷ (name.Most, decimal number) ∷ []) (codes "limit " ++ what ++ codes " " ++ decimal number ++ 10 ∷ [])
 some_limit_written what number one plain small =
     by_words form.Limit (codes "limit" ∷ what ∷ decimal number ∷ []) (codes "limit ") what (codes " " ∷ decimal number ∷ (10 ∷ []) ∷ []) (omega arith)
-    (fixed (codes "limit") refl, (fixed what plain, (number_word number small, tt))) refl (limit_fits what number one small)
+    (fixed (codes "limit") refl, (fixed what plain, (number_word number small, tt))) refl (limit_fits what number one small) (refl, (refl, tt))
 
-pub limit_written : (what : LimitName) (number : ℕ) → number < 2 ^ 64 → IsWrittenAs form.Limit (limit_line what number)
+pub limit_written : (what : LimitName) (number : ℕ) → number < 2 ^ 64 → IsToldAs form.Limit ((name.Limit, limit_name what) ∷ (name.Most, decimal number) ∷ []) (limit_line what number)
 unfolding limit_line
 limit_written what number small = some_limit_written (limit_name what) number (one_limit what) (plain_limit what) small
 
-pub packets_limit_written : IsWrittenAs form.Limit packets_limit_line
+pub packets_limit_written : IsToldAs form.Limit ((name.Limit, codes "packets") ∷ (name.Most, codes "1048576") ∷ []) packets_limit_line
 unfolding packets_limit_line limits digits
 packets_limit_written = some_limit_written (codes "packets") 1048576 refl refl (omega arith)
 
@@ -169,10 +174,11 @@ script_fits : (line octet : ℕ) (kind : List ℕ) → line < 2 ^ 64 → octet <
 unfolding may_stand
 script_fits line octet kind hl ho one = rw (a_number line (decimal line) hl refl, a_number octet (decimal octet) ho refl, one) refl
 
-pub script_written : (fault : ScriptFault) → fault.line < 2 ^ 64 → fault.octet < 2 ^ 64 → IsWrittenAs form.Script (script_line fault)
+pub script_written : (fault : ScriptFault) → fault.line < 2 ^ 64 → fault.octet < 2 ^ 64
+    → IsToldAs form.Script ((name.Line, decimal fault.line) ∷ (name.Octet, decimal fault.octet) ∷ (name.Kind, script_kind_name fault.kind) ∷ []) (script_line fault)
 unfolding script_line
 script_written fault hl ho =
     by_words form.Script (codes "script" ∷ codes "line" ∷ decimal fault.line ∷ codes "octet" ∷ decimal fault.octet ∷ script_kind_name fault.kind ∷ []) (codes "script line ") (decimal fault.line)
     ((codes " octet " ++ decimal fault.octet) ∷ codes " " ∷ script_kind_name fault.kind ∷ (10 ∷ []) ∷ []) (omega arith)
     (fixed (codes "script") refl, (fixed (codes "line") refl, (number_word fault.line hl, (fixed (codes "octet") refl, (number_word fault.octet ho, (fixed (script_kind_name fault.kind) (plain_script_kind fault.kind), tt)))))) refl
-    (script_fits fault.line fault.octet (script_kind_name fault.kind) hl ho (one_script_kind fault.kind))
+    (script_fits fault.line fault.octet (script_kind_name fault.kind) hl ho (one_script_kind fault.kind)) (refl, (refl, (refl, tt)))

@@ -1,5 +1,5 @@
 -- A line of a report by its words.
-use Rattle.std.specs.Prelude.{ℕ, ◌≡◌, ◌+◌, ◌-◌, ◌==◌, nat_lt, false, List, [], ◌∷◌, ◌++◌, length, Option, Some, None, Result, Ok, Err, if◌then◌else◌}
+use Rattle.std.specs.Prelude.{ℕ, ◌≡◌, ◌+◌, ◌-◌, ◌==◌, nat_lt, false, List, [], ◌∷◌, length, Option, Some, None, Result, Ok, Err, if◌then◌else◌}
 use Rattle.std.specs.List.{All, slice_split}
 use Rattle.report_lines.specs.declared.form.Form.{Form}
 use Rattle.report_lines.specs.declared.slot.Slot.{Slot}
@@ -37,9 +37,3 @@ line_form line = first_form 0 forms line
 abbrev pub AreWords : List (List ℕ) → Type 0
 AreWords [] = Unit {0}
 AreWords (word ∷ words) = All (λ c. (c == 32) ≡ false) word × AreWords words
-
--- a text is a line that is read as of a form, with its end
-pub record IsWrittenAs (form : Form) (text : List ℕ) : Type 0 where
-  pub line : List ℕ
-  pub is : text ≡ line ++ 10 ∷ []
-  pub read : line_form line ≡ Ok form

@@ -1,12 +1,15 @@
 -- What a line tells under the name of a field.
-use Rattle.std.specs.Prelude.{ℕ, Bool, false, ◌||◌, ◌==◌, List, [], ◌∷◌, if◌then◌else◌}
-use Rattle.std.specs.List.{before_first, after_first}
+use Rattle.std.specs.Prelude.{ℕ, ◌≡◌, Bool, false, ◌||◌, ◌==◌, List, [], ◌∷◌, ◌++◌, Ok, if◌then◌else◌}
+use Rattle.std.specs.List.{All, before_first, after_first}
 use Rattle.mls_range.specs.LabelText.{dot}
+use Rattle.report_lines.specs.declared.form.Form.{Form}
 use Rattle.report_lines.specs.declared.slot.Field.{Field}
 use Rattle.report_lines.specs.declared.slot.Field.TheVariants as name
 use Rattle.report_lines.specs.declared.slot.Slot.{Slot}
 use Rattle.report_lines.specs.declared.slot.Slot.TheVariants as slot
 use Rattle.report_lines.specs.Slot.{field_number}
+use Rattle.report_lines.specs.Form.{slots_of}
+use Rattle.report_lines.specs.Line.{line_words, line_form}
 
 -- two fields are one
 abbrev pub is_field : Field → Field → Bool
@@ -30,3 +33,10 @@ part_of slot field word = word
 abbrev pub told_word : Field → List Slot → List (List ℕ) → List ℕ
 told_word field (slot ∷ slots) (word ∷ words) = if tells slot field then part_of slot field word else told_word field slots words
 told_word field slots words = []
+
+-- a text is a line that is read as of a form, with its end, and tells under each of some fields the text beside it
+pub record IsToldAs (form : Form) (fields : List (Field × List ℕ)) (text : List ℕ) : Type 0 where
+  pub line : List ℕ
+  pub is : text ≡ line ++ 10 ∷ []
+  pub read : line_form line ≡ Ok form
+  pub told : All (λ field. told_word field.0 (slots_of form) (line_words line) ≡ field.1) fields

@@ -1,35 +1,40 @@
--- What is written of a packet: the form of its line, by how its walk ended, and the bounds of what the line tells.
-use Rattle.std.specs.Prelude.{ℕ, ◌<◌, ◌^◌, List}
-use Rattle.address_text.specs.Address.{IsAddress}
+-- What is written of a packet: the form of its line and what it tells, by how its walk ended, and the bounds of that.
+use Rattle.std.specs.Prelude.{ℕ, ◌<◌, ◌^◌, List, [], ◌∷◌, codes}
+use Rattle.std.specs.Fmt.{decimal}
+use Rattle.mls_range.specs.LabelText.{label_text}
+use Rattle.address_text.specs.Address.{IsAddress, address_text}
 use Rattle.address_text.specs.Name.{IsNameText}
 use Rattle.command_values.specs.Ranges.{IsMlsLabel}
 use Rattle.packet_label.specs.declared.denial.Carrier.{Carrier}
 use Rattle.packet_label.specs.declared.denial.Carrier.TheVariants.{Unlabelled, Cipso, Calipso}
 use Rattle.packet_label.specs.declared.denial.Denial.{Denial}
 use Rattle.packet_label.specs.declared.denial.Denial.TheVariants.{BadHeader, BadOption, UnknownDoi, TagNotAllowed, CategoryUnmapped, AlreadyLabelled, NotCrossable}
+use Rattle.packet_label.specs.Denial.{number_of, name_of, cause_name}
 use Rattle.packet_walk.specs.declared.walked.End.{End}
 use Rattle.packet_walk.specs.declared.walked.End.TheVariants.{Delivered, Sent, Denied}
 use Rattle.flow_lines.specs.declared.hop.Hop.{Hop}
-use Rattle.call_report.specs.Lines.Flow.{hop_node}
+use Rattle.call_report.specs.Lines.Flow.{carrier_text, hop_node}
 use Rattle.report_lines.specs.declared.form.Form.{Form}
 use Rattle.report_lines.specs.declared.form.Form.TheVariants as form
+use Rattle.report_lines.specs.declared.slot.Field.{Field}
+use Rattle.report_lines.specs.declared.slot.Field.TheVariants as name
 
--- by what is told of a denial behind its name: an octet, a category, a cause, or nothing
-abbrev pub denial_form : Denial → Form
-denial_form (BadHeader octet) = form.DeniedOctet
-denial_form (BadOption octet) = form.DeniedOctet
-denial_form (UnknownDoi octet) = form.DeniedOctet
-denial_form (TagNotAllowed octet) = form.DeniedOctet
-denial_form (AlreadyLabelled octet) = form.DeniedOctet
-denial_form (CategoryUnmapped category) = form.DeniedCategory
-denial_form (NotCrossable cause) = form.DeniedCause
-denial_form why = form.DeniedPlain
+-- by what is told of a denial behind its name, an octet, a category, a cause or nothing: the form, and that
+abbrev pub denial_told : Denial → Form × List (Field × List ℕ)
+denial_told (BadHeader octet) = (form.DeniedOctet, (name.Octet, decimal octet) ∷ [])
+denial_told (BadOption octet) = (form.DeniedOctet, (name.Octet, decimal octet) ∷ [])
+denial_told (UnknownDoi octet) = (form.DeniedOctet, (name.Octet, decimal octet) ∷ [])
+denial_told (TagNotAllowed octet) = (form.DeniedOctet, (name.Octet, decimal octet) ∷ [])
+denial_told (AlreadyLabelled octet) = (form.DeniedOctet, (name.Octet, decimal octet) ∷ [])
+denial_told (CategoryUnmapped category) = (form.DeniedCategory, (name.Category, decimal category) ∷ [])
+denial_told (NotCrossable cause) = (form.DeniedCause, (name.Cause, cause_name cause) ∷ [])
+denial_told why = (form.DeniedPlain, [])
 
--- by how a packet's walk ended
-abbrev pub end_form : End → Form
-end_form (Delivered label receiver) = form.Delivered
-end_form (Sent carrier) = form.Sent
-end_form (Denied hop why) = denial_form why
+-- by how a packet's walk ended: the form, and all but the packet's numbers and versions
+abbrev pub end_told : List (List ℕ) → List Hop → End → Form × List (Field × List ℕ)
+end_told names hops (Delivered label receiver) = (form.Delivered, (name.Became, codes "delivered") ∷ (name.Label, label_text label) ∷ (name.Receiver, address_text receiver) ∷ [])
+end_told names hops (Sent carrier) = (form.Sent, (name.Became, codes "sent") ∷ (name.Carrier, carrier_text carrier) ∷ [])
+end_told names hops (Denied hop why) = ((denial_told why).0, (name.Became, codes "denied") ∷ (name.Denial, decimal (number_of why)) ∷ (name.Name, name_of why) ∷ (name.Hop, decimal hop) ∷ (name.Node, hop_node names hops hop) ∷ (denial_told why).1)
 
 -- the octet or the category of a denial is below 2^64
 abbrev pub IsBoundedDenial : Denial → Type 0

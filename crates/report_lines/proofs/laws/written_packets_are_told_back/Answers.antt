@@ -1,5 +1,5 @@
 use Rattle.report_lines.proofs.Packets.{packet_written}
-use Rattle.report_lines.proofs.laws.written_packets_have_their_forms.Goals as goal
+use Rattle.report_lines.proofs.laws.written_packets_are_told_back.Goals as goal
 
 pub returns : goal.returns
 returns c = packet_written

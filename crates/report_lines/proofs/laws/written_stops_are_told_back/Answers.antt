@@ -1,5 +1,5 @@
 use Rattle.report_lines.proofs.Stops.{pcap_written, pcapng_written, limit_written, packets_limit_written, script_written}
-use Rattle.report_lines.proofs.laws.written_stops_have_their_forms.Goals as goal
+use Rattle.report_lines.proofs.laws.written_stops_are_told_back.Goals as goal
 
 pub returns-clause-pcap : goal.returns-clause-pcap
 returns-clause-pcap c = pcap_written

@@ -1,5 +1,5 @@
 use Rattle.report_lines.proofs.Written.{flow_written, end_written, done_written, done_reply_written, refused_reply_written, listed_reply_written}
-use Rattle.report_lines.proofs.laws.written_lines_have_their_forms.Goals as goal
+use Rattle.report_lines.proofs.laws.written_lines_are_told_back.Goals as goal
 
 pub returns-clause-flow : goal.returns-clause-flow
 returns-clause-flow c = flow_written
