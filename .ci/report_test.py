@@ -3,18 +3,24 @@ field; then of each with the script that was run. What report and script say is 
 `N passed, M failed`.
 
     python3 .ci/report_test.py [PROGRAM]
+
+Without a program it is compiled with checks, once for all calls, by `rt try`.
 """
 import csv
 import io
 import json
+import os
 import pathlib
 import subprocess
 import sys
 
 sys.dont_write_bytecode = True
-import calls
-
 TOP = pathlib.Path(__file__).resolve().parent.parent
+sys.path.insert(0, str(TOP / "lib"))
+import calls
+import unproved
+
+SECONDS = 600
 COLUMNS = ("report line step node answer lines flow input number became label receiver carrier denial name octet category cause hop versions packets passed denied "
            "capture kind at limit most text").split()
 WITH_OCTET = {"BadHeader", "BadOption", "UnknownDoi", "TagNotAllowed", "AlreadyLabelled"}
@@ -107,17 +113,6 @@ def report_files():
     return files
 
 
-def differs(program, words, read, wanted):
-    """Whether a call of the program tells something else than what is wanted, and says so."""
-    ran = subprocess.run([program, *words], cwd=TOP, stdin=subprocess.DEVNULL, capture_output=True)
-    told = read(ran.stdout.decode())
-    if not ran.returncode and told == wanted:
-        return False
-    other = next(((a, b) for a, b in zip(told, wanted) if a != b), (len(told), len(wanted)))
-    print(f"failed: {' '.join(words)}: status {ran.returncode}, told and wanted {other}, {ran.stderr[-300:]!r}")
-    return True
-
-
 def read_json(text):
     return [json.loads(line) for line in text.splitlines()]
 
@@ -130,19 +125,61 @@ def cells_of(wanted):
     return [COLUMNS, *([cell_of(record.get(column)) for column in COLUMNS] for record in wanted)]
 
 
-def main(program):
+def questions():
+    """The words of each call, how what it prints is read, and what is wanted."""
     files = report_files()
     texts = [report.read_text() for report, _ in files]
-    wanted = [record for number, text in enumerate(texts, 1) for record in records(number, text)]
     names = [str(report.relative_to(TOP)) for report, _ in files]
-    failed = [differs(program, ["json", *names], read_json, wanted), differs(program, ["csv", *names], read_csv, cells_of(wanted))]
+    wanted = [record for number, text in enumerate(texts, 1) for record in records(number, text)]
+    asked = [(["json", *names], read_json, wanted), (["csv", *names], read_csv, cells_of(wanted))]
     for (_, script), text, name in zip(files, texts, names):
         by_script = ["-s", str(script.relative_to(TOP))]
         wanted = records(1, text, commands_of(script.read_text()))
-        failed += [differs(program, [*by_script, "json", name], read_json, wanted), differs(program, [*by_script, "csv", name], read_csv, cells_of(wanted))]
+        asked += [([*by_script, "json", name], read_json, wanted), ([*by_script, "csv", name], read_csv, cells_of(wanted))]
+    return asked
+
+
+def answers_of(program, asked):
+    """The status and what is printed, of each call of a program."""
+    for words in asked:
+        ran = subprocess.run([program, *words], stdin=subprocess.DEVNULL, capture_output=True)
+        yield ran.returncode, ran.stdout
+
+
+def unproved_answers(asked):
+    """The same, compiled with checks."""
+    unproved.say = lambda text: None
+    with unproved.private_folder() as folder:
+        trial = unproved.Trial("netlabel_report", pathlib.Path(folder) / "cases", SECONDS)
+        trial.folder.mkdir()
+        begun = []
+        for number, words in enumerate(asked):
+            private = pathlib.Path(folder) / str(number)
+            private.mkdir()
+            begun.append(unproved.asking(trial, private, [os.fsencode(word) for word in words]))
+        trial.run()
+        for finish in begun:
+            yield finish()
+
+
+def differs(words, status, told, wanted):
+    """Whether a call told something else than what is wanted, which is said."""
+    if status == 0 and told == wanted:
+        return False
+    other = next(((a, b) for a, b in zip(told, wanted) if a != b), (len(told), len(wanted)))
+    print(f"failed: {' '.join(words)}: status {status}, told and wanted {other}")
+    return True
+
+
+def main(program=None):
+    os.chdir(TOP)
+    asked = questions()
+    calls_made = [words for words, _, _ in asked]
+    answers = answers_of(program, calls_made) if program else unproved_answers(calls_made)
+    failed = [differs(words, status, read(printed.decode()), wanted) for (words, read, wanted), (status, printed) in zip(asked, answers)]
     print(f"{failed.count(False)} passed, {failed.count(True)} failed")
     return 1 if any(failed) else 0
 
 
 if __name__ == "__main__":
-    sys.exit(main(*(sys.argv[1:] or [str(TOP / "netlabel_report")])))
+    sys.exit(main(*sys.argv[1:]))

@@ -32,7 +32,6 @@ SCRIPTS = {
     "rules on signatures": ["signatures_test.py"],
     "installing": ["install_test.py"],
     "netlabel and prove with a stand-in for rt": ["scripts_test.py"],
-    "reports of the examples as JSON and as CSV": ["report_test.py"],
 }
 SECONDS = 600
 
@@ -201,6 +200,7 @@ def checks(with_proved, environment):
         yield Check(name, lambda name=name: crate_tests(name, environment))
     yield Check("netlabel without what it needs", without_what_it_needs)
     yield Check("the library for C", lambda: script(["c_test.py", *["--build"] * with_proved]))
+    yield Check("reports of the examples as JSON and as CSV", lambda: script(["report_test.py", *[str(TOP / "netlabel_report")] * with_proved]))
     for name, words in SCRIPTS.items():
         yield Check(name, lambda words=words: script(words))
 
