@@ -110,9 +110,9 @@ module _ (end : ℕ) (first : LineWord) (words : List LineWord) (said : Said) wh
   alone_row : read_said with_translations (line_rows false with_translations) end (first ∷ words) ≡ Ok said → is_reading said.row ≡ bytes_eq first.text (codes "reading")
   alone_row e = by_test (bytes_eq first.text (codes "reading")) (subst (λ (t : Bool). cond t (Some In.Reading) (find (fits_row with_translations (first ∷ words)) (line_rows true with_translations)) ≡ Some said.row)
       (fits_reading (bytes_eq first.text (codes "reading")) refl) (said_row (line_rows false with_translations) end (first ∷ words) said e)) where
-    by_test : (b : Bool) → cond b (Some In.Reading) (find (fits_row with_translations (first ∷ words)) (line_rows true with_translations)) ≡ Some said.row → is_reading said.row ≡ b
-    by_test true found = ap is_reading (sym (same_Some In.Reading said.row found))
-    by_test false found = no_reading said.row (found_in (fits_row with_translations (first ∷ words)) says_command (line_rows true with_translations) said.row refl found)
+        by_test : (b : Bool) → cond b (Some In.Reading) (find (fits_row with_translations (first ∷ words)) (line_rows true with_translations)) ≡ Some said.row → is_reading said.row ≡ b
+        by_test true found = ap is_reading (sym (same_Some In.Reading said.row found))
+        by_test false found = no_reading said.row (found_in (fits_row with_translations (first ∷ words)) says_command (line_rows true with_translations) said.row refl found)
 
   led_row : read_led with_translations end (first ∷ words) ≡ Ok said → is_reading said.row ≡ bytes_eq first.text (codes "reading")
   unfolding read_led
