@@ -1,13 +1,16 @@
 -- Decimal texts, digit by digit.
-use Rattle.std.proofs.Common.{◌≡◌, ℕ, suc, zero, ◌+◌, ◌-◌, ◌*◌, ◌/◌, ◌%◌, ◌^◌, ◌<◌, ◌≤◌, List, [], ◌∷◌, ◌++◌, length, get_or, set, take, drop, refl, sym, ap, subst, ◌∙◌, append_assoc, arith, inl, inr, ◌⊎◌, if◌then◌else◌, nat_lt, Option, Some, None}
-use Rattle.std.specs.Prelude.{IfSome, IfNone}
+use Rattle.std.proofs.Common.{◌≡◌, ℕ, suc, zero, ◌+◌, ◌-◌, ◌*◌, ◌/◌, ◌%◌, ◌^◌, ◌<◌, ◌≤◌, List, [], ◌∷◌, ◌++◌, length, get_or, set, take, drop, refl, sym, ap, subst, ◌∙◌, append_assoc, arith, inl, inr, ◌⊎◌, map, if◌then◌else◌, Option, Some, None}
+use Rattle.std.specs.Prelude.{◌==◌, IfSome, IfNone}
+use Rattle.std.specs.List.{range_with_len}
+use Rattle.std.proofs.lemmas.List.FromFn.{get_or-map-range_with_len}
+use Rattle.octet_grammar.specs.declared.decimal.TheConstants.{PAIRS}
 use Rattle.std.specs.Char.{digit_value}
 use Rattle.std.specs.Fmt.{decimal}
 use Rattle.std.specs.Str.Parse.{AllDigits, digits_value, digits_value_after}
 use Rattle.std.proofs.lemmas.List.{length-append}
 use Rattle.std.proofs.lemmas.Fmt.{decimal_digit, decimal_step, length-decimal-le, decimal_nonempty, first_decimal, digits_decimal, digits_value-decimal, decimal-digits_value}
 use Rattle.std.proofs.lemmas.Str.Parse.{IsNumeralModel}
-use Rattle.std.proofs.lemmas.Bool.{cond-true, cond-false, lt-ltb, le-ltb, cases_lt}
+use Rattle.std.proofs.lemmas.Bool.{eq-eqb, ne_eqb}
 use Rattle.std.proofs.lemmas.Bool.Decides.{nat_tests}
 use Rattle.std.proofs.lemmas.Int.Digits.{digits_value_more, digits_more}
 
@@ -15,83 +18,68 @@ use Rattle.std.proofs.lemmas.Int.Digits.{digits_value_more, digits_more}
 pub own : IsNumeralModel (AllDigits 10) (digits_value 10)
 own = record { to = λ ds h. h; from = λ ds h. h; same = λ ds h. refl }
 
--- the spelling of a number of two digits, of three, and so on
+-- two digits appended, and where they stand behind those of the rest
+
+-- what stands at each place of the table of pairs
+pair_octet : ℕ → ℕ
+pair_octet place = if place % 2 == 0 then 48 + place / 2 / 10 else 48 + place / 2 % 10
+
+pairs_are : PAIRS.now ≡ map pair_octet (range_with_len 0 200)
+unfolding pair_octet
+pairs_are = refl
+
+pair_at : (place : ℕ) → place < 200 → get_or PAIRS.now place 0 ≡ pair_octet place
+pair_at place lt = ap (λ t. get_or t place 0) pairs_are ∙ get_or-map-range_with_len pair_octet 0 200 place place 0 lt (omega arith)
+
+pair_tens : (n place : ℕ) → place ≡ 2 * n → pair_octet place ≡ 48 + n / 10
+unfolding pair_octet
+pair_tens n place at =
+    let even : place % 2 ≡ 0 = omega arith in
+    let half : place / 2 ≡ n = omega arith in
+    rw (eq-eqb (place % 2) 0 even, half) refl
+
+pair_ones : (n place : ℕ) → place ≡ 2 * n + 1 → pair_octet place ≡ 48 + n % 10
+unfolding pair_octet
+pair_ones n place at =
+    let odd : place % 2 ≡ 0 → ⊥ = λ e. omega arith in
+    let half : place / 2 ≡ n = omega arith in
+    rw (ne_eqb (place % 2) 0 odd, half) refl
+
+pub pair_appended : (n : ℕ) (old : List ℕ) → n < 100
+    → (old ++ get_or PAIRS.now (2 * n) 0 ∷ []) ++ get_or PAIRS.now (2 * n + 1) 0 ∷ [] ≡ old ++ (48 + n / 10) ∷ (48 + n % 10) ∷ []
+pair_appended n old few =
+    let tens : get_or PAIRS.now (2 * n) 0 ≡ 48 + n / 10 = pair_at (2 * n) (omega arith) ∙ pair_tens n (2 * n) refl in
+    let ones : get_or PAIRS.now (2 * n + 1) 0 ≡ 48 + n % 10 = pair_at (2 * n + 1) (omega arith) ∙ pair_ones n (2 * n + 1) refl in
+    append_assoc old (get_or PAIRS.now (2 * n) 0 ∷ []) (get_or PAIRS.now (2 * n + 1) 0 ∷ []) ∙ (λ i. old ++ tens i ∷ ones i ∷ [])
+
+-- the spelling of a number of two digits
 pub two_digits : (n : ℕ) → 10 ≤ n → n < 100 → decimal n ≡ (48 + n / 10 % 10) ∷ (48 + n % 10) ∷ []
-two_digits n many few =
-    let front : decimal (n / 10) ≡ (48 + n / 10 % 10) ∷ [] = decimal_digit (n / 10) (omega arith) ∙ ap (λ k. (48 + k) ∷ []) (omega arith) in
-    decimal_step n many (omega arith) ∙ ap (λ t. t ++ (48 + n % 10) ∷ []) front
+two_digits n many few = decimal_step n many (omega arith) ∙ ap (λ t. t ++ (48 + n % 10) ∷ []) (decimal_digit (n / 10) (omega arith) ∙ ap (λ k. (48 + k) ∷ []) (omega arith))
 
-pub three_digits : (n : ℕ) → 100 ≤ n → n < 1000 → decimal n ≡ (48 + n / 100 % 10) ∷ (48 + n / 10 % 10) ∷ (48 + n % 10) ∷ []
-three_digits n many few =
-    let tens : n / 10 / 10 ≡ n / 100 = omega arith in
-    let front = two_digits (n / 10) (omega arith) (omega arith) in
-    decimal_step n (omega arith) (omega arith) ∙ ap (λ t. t ++ (48 + n % 10) ∷ []) front ∙ ap (λ k. (48 + k % 10) ∷ (48 + n / 10 % 10) ∷ (48 + n % 10) ∷ []) tens
+pair_behind : (front : List ℕ) (a b : ℕ) → (front ++ a ∷ []) ++ b ∷ [] ≡ front ++ a ∷ b ∷ []
+pair_behind front a b = append_assoc front (a ∷ []) (b ∷ [])
 
-pub four_digits : (n : ℕ) → 1000 ≤ n → n < 10000 → decimal n ≡ (48 + n / 1000 % 10) ∷ (48 + n / 100 % 10) ∷ (48 + n / 10 % 10) ∷ (48 + n % 10) ∷ []
-four_digits n many few =
-    let tens : n / 10 / 10 ≡ n / 100 = omega arith in
-    let hundreds : n / 10 / 100 ≡ n / 1000 = omega arith in
-    let front = three_digits (n / 10) (omega arith) (omega arith) in
-    decimal_step n (omega arith) (omega arith) ∙ ap (λ t. t ++ (48 + n % 10) ∷ []) front
-    ∙ (λ i. (48 + hundreds i % 10) ∷ (48 + tens i % 10) ∷ (48 + n / 10 % 10) ∷ (48 + n % 10) ∷ [])
+-- the last two digits stand behind those of the rest
+two_more : (n : ℕ) → 100 ≤ n → n < 2 ^ 64 → decimal n ≡ decimal (n / 100) ++ (48 + n % 100 / 10) ∷ (48 + n % 100 % 10) ∷ []
+two_more n many small =
+    let rest : n / 10 / 10 ≡ n / 100 = omega arith in
+    let tens : n / 10 % 10 ≡ n % 100 / 10 = omega arith in
+    let ones : n % 10 ≡ n % 100 % 10 = omega arith in
+    let front : decimal (n / 10) ≡ decimal (n / 100) ++ (48 + n / 10 % 10) ∷ [] =
+    decimal_step (n / 10) (omega arith) (omega arith) ∙ ap (λ k. decimal k ++ (48 + n / 10 % 10) ∷ []) rest in
+    decimal_step n (omega arith) small ∙ ap (λ t. t ++ (48 + n % 10) ∷ []) front ∙ pair_behind (decimal (n / 100)) (48 + n / 10 % 10) (48 + n % 10)
+    ∙ (λ i. decimal (n / 100) ++ (48 + tens i) ∷ (48 + ones i) ∷ [])
 
-pub five_digits : (n : ℕ) → 10000 ≤ n → n < 100000 → decimal n ≡ (48 + n / 10000 % 10) ∷ (48 + n / 1000 % 10) ∷ (48 + n / 100 % 10) ∷ (48 + n / 10 % 10) ∷ (48 + n % 10) ∷ []
-five_digits n many few =
-    let tens : n / 10 / 10 ≡ n / 100 = omega arith in
-    let hundreds : n / 10 / 100 ≡ n / 1000 = omega arith in
-    let thousands : n / 10 / 1000 ≡ n / 10000 = omega arith in
-    let front = four_digits (n / 10) (omega arith) (omega arith) in
-    decimal_step n (omega arith) (omega arith) ∙ ap (λ t. t ++ (48 + n % 10) ∷ []) front
-    ∙ (λ i. (48 + thousands i % 10) ∷ (48 + hundreds i % 10) ∷ (48 + tens i % 10) ∷ (48 + n / 10 % 10) ∷ (48 + n % 10) ∷ [])
+pub two_appended : (n : ℕ) (old : List ℕ) → 100 ≤ n → n < 2 ^ 64
+    → (old ++ decimal (n / 100)) ++ (48 + n % 100 / 10) ∷ (48 + n % 100 % 10) ∷ [] ≡ old ++ decimal n
+two_appended n old many small =
+    append_assoc old (decimal (n / 100)) ((48 + n % 100 / 10) ∷ (48 + n % 100 % 10) ∷ []) ∙ ap (λ t. old ++ t) (sym (two_more n many small))
 
--- the digit that counts this power of ten, where the number has it
-abbrev pub counted : ℕ → ℕ → List ℕ
-counted n power = if nat_lt n power then [] else (48 + n / power % 10) ∷ []
-
-uncounted : (n power : ℕ) → n < power → counted n power ≡ []
-uncounted n power small = cond-true (nat_lt n power) [] ((48 + n / power % 10) ∷ []) (lt-ltb n power small)
-
-is_counted : (n power : ℕ) → power ≤ n → counted n power ≡ (48 + n / power % 10) ∷ []
-is_counted n power large = cond-false (nat_lt n power) [] ((48 + n / power % 10) ∷ []) (le-ltb n power large)
-
--- the last digit, and in front of it those that count higher powers
-abbrev pub behind_higher : ℕ → List ℕ → List ℕ → List ℕ → List ℕ → List ℕ
-behind_higher n a b c d = a ++ (b ++ (c ++ (d ++ (48 + n % 10) ∷ [])))
-
-below_10 : (n : ℕ) → n < 10 → decimal n ≡ behind_higher n (counted n 10000) (counted n 1000) (counted n 100) (counted n 10)
-below_10 n one = decimal_digit n one ∙ ap (λ k. (48 + k) ∷ []) (omega arith)
-    ∙ sym (λ i. behind_higher n (uncounted n 10000 (omega arith) i) (uncounted n 1000 (omega arith) i) (uncounted n 100 (omega arith) i) (uncounted n 10 one i))
-
-below_100 : (n : ℕ) → n < 100 → (n < 10) ⊎ (10 ≤ n) → decimal n ≡ behind_higher n (counted n 10000) (counted n 1000) (counted n 100) (counted n 10)
-below_100 n few (inl fewer) = below_10 n fewer
-below_100 n few (inr many) = two_digits n many few
-    ∙ sym (λ i. behind_higher n (uncounted n 10000 (omega arith) i) (uncounted n 1000 (omega arith) i) (uncounted n 100 few i) (is_counted n 10 many i))
-
-below_1000 : (n : ℕ) → n < 1000 → (n < 100) ⊎ (100 ≤ n) → decimal n ≡ behind_higher n (counted n 10000) (counted n 1000) (counted n 100) (counted n 10)
-below_1000 n few (inl fewer) = below_100 n fewer (cases_lt n 10)
-below_1000 n few (inr many) = three_digits n many few
-    ∙ sym (λ i. behind_higher n (uncounted n 10000 (omega arith) i) (uncounted n 1000 few i) (is_counted n 100 many i) (is_counted n 10 (omega arith) i))
-
-below_10000 : (n : ℕ) → n < 10000 → (n < 1000) ⊎ (1000 ≤ n) → decimal n ≡ behind_higher n (counted n 10000) (counted n 1000) (counted n 100) (counted n 10)
-below_10000 n few (inl fewer) = below_1000 n fewer (cases_lt n 100)
-below_10000 n few (inr many) = four_digits n many few
-    ∙ sym (λ i. behind_higher n (uncounted n 10000 few i) (is_counted n 1000 many i) (is_counted n 100 (omega arith) i) (is_counted n 10 (omega arith) i))
-
-below_100000 : (n : ℕ) → n < 100000 → (n < 10000) ⊎ (10000 ≤ n) → decimal n ≡ behind_higher n (counted n 10000) (counted n 1000) (counted n 100) (counted n 10)
-below_100000 n few (inl fewer) = below_10000 n fewer (cases_lt n 1000)
-below_100000 n few (inr many) = five_digits n many few
-    ∙ sym (λ i. behind_higher n (is_counted n 10000 many i) (is_counted n 1000 (omega arith) i) (is_counted n 100 (omega arith) i) (is_counted n 10 (omega arith) i))
-
-by_parts : (old a b c d e : List ℕ) → ((((old ++ a) ++ b) ++ c) ++ d) ++ e ≡ old ++ (a ++ (b ++ (c ++ (d ++ e))))
-by_parts old a b c d e = simp append_assoc
-
--- digit by digit behind a text, the spelling of a number of at most five digits
-pub digits_appended : (n : ℕ) (old : List ℕ) → n < 100000
-    → ((((old ++ counted n 10000) ++ counted n 1000) ++ counted n 100) ++ counted n 10) ++ (48 + n % 10) ∷ [] ≡ old ++ decimal n
-digits_appended n old few =
-    let joined : ((((old ++ counted n 10000) ++ counted n 1000) ++ counted n 100) ++ counted n 10) ++ (48 + n % 10) ∷ [] ≡ old ++ behind_higher n (counted n 10000) (counted n 1000) (counted n 100) (counted n 10) =
-    by_parts old (counted n 10000) (counted n 1000) (counted n 100) (counted n 10) ((48 + n % 10) ∷ []) in
-    joined ∙ ap (λ t. old ++ t) (sym (below_100000 n few (cases_lt n 10000)))
+-- three digits appended: the first, and the last two
+pub three_appended : (n : ℕ) (old : List ℕ) → 100 ≤ n → n < 1000
+    → (old ++ (48 + n / 100) ∷ []) ++ (48 + n % 100 / 10) ∷ (48 + n % 100 % 10) ∷ [] ≡ old ++ decimal n
+three_appended n old many few =
+    ap (λ t. (old ++ t) ++ (48 + n % 100 / 10) ∷ (48 + n % 100 % 10) ∷ []) (sym (decimal_digit (n / 100) (omega arith))) ∙ two_appended n old many (omega arith)
 
 four_behind : (front : List ℕ) (a b c d : ℕ) → (((front ++ a ∷ []) ++ b ∷ []) ++ c ∷ []) ++ d ∷ [] ≡ front ++ a ∷ b ∷ c ∷ d ∷ []
 four_behind front a b c d = simp append_assoc

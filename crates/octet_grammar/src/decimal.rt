@@ -1,7 +1,7 @@
 //! Numbers as decimal text, without sign or leading zero: the one spelling that words, texts of labels and the report share. A contract sees
 //! the spelling as std's `decimal`, which is what `{}` prints.
 
-ghost use Rattle.std.specs.Prelude.{◌≡◌, ℕ, ◌+◌, ◌*◌, ◌/◌, ◌%◌, ◌<◌, ◌≤◌, ◌^◌, ◌⊎◌, [], ◌∷◌, ◌++◌, if◌then◌else◌, nat_lt, length, drop, slice_index, vec_len, vec_capacity, IfSome, IfNone, MatchBool, OnOk, OnErr};
+ghost use Rattle.std.specs.Prelude.{◌≡◌, ℕ, ◌+◌, ◌*◌, ◌/◌, ◌%◌, ◌<◌, ◌≤◌, ◌^◌, ◌⊎◌, [], ◌∷◌, ◌++◌, length, drop, slice_index, vec_len, vec_capacity, IfSome, IfNone, MatchBool, OnOk, OnErr};
 ghost use Rattle.std.specs.Option.{SomeIff};
 ghost use Rattle.std.specs.Fmt.{decimal};
 ghost use Rattle.std.specs.Str.Parse.{AllDigits, digits_value};
@@ -16,6 +16,11 @@ const SHORT_DIGITS: usize = 5;
 
 /// As many as it has with four digits more.
 const MORE_DIGITS: usize = 9;
+
+/// The two digits of each number below 100.
+const PAIRS: &[u8; 200] =
+    b"0001020304050607080910111213141516171819202122232425262728293031323334353637383940414243444546474849\
+5051525354555657585960616263646566676869707172737475767778798081828384858687888990919293949596979899";
 
 /// Appends the decimal text of a number. After an error `out` is as it was.
 #[tactic(auto, using(std::proofs::lemmas::Fmt::decimal_digit))]
@@ -60,50 +65,75 @@ fn write_more(n: u64, out: &mut Vec<u8>) -> Result<(), AllocError>
 
 /// Appends the last four digits of a number.
 fn push_four(n: u16, out: &mut Vec<u8>)
+    requires few { n < 10000 }
     requires room { vec_len out.old + 4 ≤ vec_capacity out.old }
     ensures { out.new.items ≡ out.old.items ++ (48 + n / 1000 % 10) ∷ (48 + n / 100 % 10)
         ∷ (48 + n / 10 % 10) ∷ (48 + n % 10) ∷ [] }
 {
-    out.push_reserved(digit(n / 1000));
-    out.push_reserved(digit(n / 100));
-    out.push_reserved(digit(n / 10));
-    out.push_reserved(digit(n));
+    push_two(n / 100, out);
+    push_two(n % 100, out);
 }
 
 /// Appends the decimal text of a number of 16 bits where there is room for five digits.
-#[tactic(auto, using(crate::proofs::Digits::digits_appended))]
+#[inline(never)]
+#[tactic(auto, using(crate::proofs::Digits::two_appended))]
 pub fn push_decimal(n: u16, out: &mut Vec<u8>)
     requires room { vec_len out.old + 5 ≤ vec_capacity out.old }
     ensures items { out.new.items ≡ out.old.items ++ decimal n }
     ensures len { vec_len out.new ≤ vec_len out.old + 5 }
     ensures capacity { vec_capacity out.new ≡ vec_capacity out.old }
 {
-    push_digit(n, 10000, out);
-    push_digit(n, 1000, out);
-    push_digit(n, 100, out);
-    push_digit(n, 10, out);
-    out.push_reserved(digit(n));
+    if n < 100 {
+        return push_short(n, out);
+    }
+    push_front(n / 100, out);
+    push_two(n % 100, out);
 }
 
-/// Appends the digit that counts this power of ten, where the number has it.
-fn push_digit(n: u16, power: u16, out: &mut Vec<u8>)
-    requires power { 0 < power }
-    requires room { vec_len out.old < vec_capacity out.old }
-    ensures items { out.new.items ≡ out.old.items
-        ++ (if nat_lt n power then [] else (48 + n / power % 10) ∷ []) }
-    ensures len { vec_len out.new ≤ vec_len out.old + 1 }
+/// Appends the digits of a number of 16 bits that stand in front of the last two.
+#[tactic(auto, using(crate::proofs::Digits::three_appended))]
+fn push_front(n: u16, out: &mut Vec<u8>)
+    requires few { n < 1000 }
+    requires room { vec_len out.old + 3 ≤ vec_capacity out.old }
+    ensures items { out.new.items ≡ out.old.items ++ decimal n }
+    ensures len { vec_len out.new ≤ vec_len out.old + 3 }
     ensures capacity { vec_capacity out.new ≡ vec_capacity out.old }
 {
-    if n >= power {
-        out.push_reserved(digit(n / power));
+    if n < 100 {
+        return push_short(n, out);
+    }
+    out.push_reserved(b'0' + (n / 100) as u8);
+    push_two(n % 100, out);
+}
+
+/// Appends the decimal text of a number below 100.
+#[tactic(auto, using(std::proofs::lemmas::Fmt::decimal_digit, crate::proofs::Digits::two_digits))]
+fn push_short(n: u16, out: &mut Vec<u8>)
+    requires few { n < 100 }
+    requires room { vec_len out.old + 2 ≤ vec_capacity out.old }
+    ensures items { out.new.items ≡ out.old.items ++ decimal n }
+    ensures len { vec_len out.new ≤ vec_len out.old + 2 }
+    ensures capacity { vec_capacity out.new ≡ vec_capacity out.old }
+{
+    if n < 10 {
+        out.push_reserved(b'0' + n as u8);
+    } else {
+        push_two(n, out);
     }
 }
 
-/// The last digit of a number.
-fn digit(n: u16) -> u8
-    ensures { result ≡ 48 + n % 10 }
+/// Appends two digits.
+#[tactic(auto, using(crate::proofs::Digits::pair_appended))]
+fn push_two(n: u16, out: &mut Vec<u8>)
+    requires few { n < 100 }
+    requires room { vec_len out.old + 2 ≤ vec_capacity out.old }
+    ensures items { out.new.items ≡ out.old.items ++ (48 + n / 10) ∷ (48 + n % 10) ∷ [] }
+    ensures len { vec_len out.new ≡ vec_len out.old + 2 }
+    ensures capacity { vec_capacity out.new ≡ vec_capacity out.old }
 {
-    b'0' + (n % 10) as u8
+    let place = 2 * usize::from(n);
+    out.push_reserved(PAIRS[place]);
+    out.push_reserved(PAIRS[place + 1]);
 }
 
 /// The same of a number of any length.

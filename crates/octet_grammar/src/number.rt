@@ -1,6 +1,6 @@
 //! Numbers of two and of four octets in network order, each with its place.
 
-ghost use Rattle.std.specs.Prelude.{◌≡◌, ◌+◌, ◌<◌, ◌≤◌, length, IfOk, IfErr};
+ghost use Rattle.std.specs.Prelude.{◌≡◌, ℕ, ◌+◌, ◌<◌, ◌≤◌, length, IfOk, IfErr};
 ghost use Rattle.octet_grammar.specs.Numbers.{u16_at, u32_at};
 ghost use Rattle.octet_grammar.specs.Place.{FaultsInNonzero, FaultsInNumber, IsNumberAt};
 
@@ -30,16 +30,28 @@ pub fn number_in(bytes: &[u8], at: usize, low: u16, high: u16) -> Result<u16, Wi
     ensures ok { IfOk result (λ n. IsNumberAt bytes.now at low high n) }
     ensures err { IfErr result (λ f. FaultsInNumber bytes.now at low high f) }
 {
-    let first = u16::from(octet_at(bytes, at)?);
-    if first < low / 256 || first > high / 256 {
-        return Err(unfit(at));
+    if bytes.len() - at >= 2 {
+        let number = u16_at(bytes, at);
+        if low <= number && number <= high {
+            return Ok(number);
+        }
     }
-    octet_at(bytes, at + 1)?;
-    let number = u16_at(bytes, at);
-    if number < low || number > high {
-        return Err(unfit(at + 1));
+    Err(number_fault(bytes, at, low, high))
+}
+
+/// Where a number that isn't there or isn't from `low` to `high` is refused. It stands apart since few numbers are.
+#[inline(never)]
+fn number_fault(bytes: &[u8], at: usize, low: u16, high: u16) -> WireFault
+    requires within { at ≤ length bytes.now }
+    requires none { (n : ℕ) → IsNumberAt bytes.now at low high n → ⊥ }
+    ensures { FaultsInNumber bytes.now at low high result }
+{
+    match octet_at(bytes, at) {
+        Err(end) => end,
+        Ok(first) if u16::from(first) < low / 256 || u16::from(first) > high / 256 => unfit(at),
+        Ok(_) if bytes.len() - at < 2 => ended(at + 1),
+        Ok(_) => unfit(at + 1),
     }
-    Ok(number)
 }
 
 /// The number of four octets at this place, which isn't 0: where all four are 0 the last of them is refused.
