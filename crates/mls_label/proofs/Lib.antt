@@ -1,4 +1,5 @@
 pub mod Cats
+pub mod Places
 pub mod Runs
 pub mod Splice
 pub mod Inside

@@ -206,18 +206,26 @@ joined_more runs run start le =
 
 -- ---- a run behind all others
 
-behind_each : (low n : ℕ) (runs : List Run) → AreApart low runs → ((c : ℕ) → list_any (is_in c) runs ≡ true → c + 1 < n) → Each (λ r. r.last + 2 ≤ n) runs
-behind_each low n [] a behind = tt
-behind_each low n (r ∷ runs) a behind =
+-- none has a number that reaches the run
+numbers_before : (low n : ℕ) (runs : List Run) → AreApart low runs → ((c : ℕ) → list_any (is_in c) runs ≡ true → c + 1 < n) → Each (λ r. r.last + 2 ≤ n) runs
+numbers_before low n [] a behind = tt
+numbers_before low n (r ∷ runs) a behind =
     let last : is_in r.last r ≡ true = grind (arith, nat_tests, a.1) in (
       omega (arith, behind r.last (or_left (is_in r.last r) (list_any (is_in r.last) runs) last)),
-      behind_each (r.last + 2) n runs a.3 (λ c e. behind c (or_right (is_in c r) (list_any (is_in c) runs) e)),
+      numbers_before (r.last + 2) n runs a.3 (λ c e. behind c (or_right (is_in c r) (list_any (is_in c) runs) e)),
     )
 
-module _ (runs : List Run) (run : Run) (a : AreApart 0 runs) (o : run.first ≤ run.last) (lt : run.last < 65535) (behind : (c : ℕ) → IsTrue (has (cats_of runs) c) → c + 1 < run.first) where
+pub before_by_numbers : (runs : List Run) (run : Run) → AreApart 0 runs → ((c : ℕ) → IsTrue (has (cats_of runs) c) → c + 1 < run.first) → Each (λ r. r.last + 2 ≤ run.first) runs
+before_by_numbers runs run a behind = numbers_before 0 run.first runs a (λ c e. behind c (has-cats_of runs c ∙ e))
+
+pub before_by_places : (runs : List Run) (run : Run) → AllWithin (λ (r : Run). r.last + 1 < run.first) runs 0 (length runs) → Each (λ r. r.last + 2 ≤ run.first) runs
+before_by_places runs run all =
+    each_weaker (λ r. r.last + 1 < run.first) (λ r. r.last + 2 ≤ run.first) runs (λ r lt. omega (arith, lt)) (each_drop (λ r. r.last + 1 < run.first) runs 0 all)
+
+module _ (runs : List Run) (run : Run) (a : AreApart 0 runs) (o : run.first ≤ run.last) (lt : run.last < 65535) (before : Each (λ r. r.last + 2 ≤ run.first) runs) where
   pub appended_apart : AreApart 0 (runs ++ run ∷ [])
   appended_apart =
-      apart_splice 0 run runs [] [] (subst (AreApart 0) (sym (append-nil runs)) a) (omega arith) o lt (behind_each 0 run.first runs a (λ c e. behind c (has-cats_of runs c ∙ e))) tt
+      apart_splice 0 run runs [] [] (subst (AreApart 0) (sym (append-nil runs)) a) (omega arith) o lt before tt
 
   pub appended_cats : cats_of (runs ++ run ∷ []) ≡ cats_where (λ c. has (cats_of runs) c || is_within run.first run.last c)
   appended_cats =

@@ -8,7 +8,7 @@ ghost use Rattle.mls_label.specs.inside.Kept.{cats_of, AreKeptRuns};
 use crate::kept_runs::{
     append, assign, assign_parts, count_of, highest_of, holds, is_inside, join,
 };
-use arrayvec::ArrayVec;
+use crate::run_list::RunList;
 use std::marker::Model;
 
 /// The most maximal runs that a set may have.
@@ -19,7 +19,7 @@ pub const MOST_RUNS: usize = 1952;
 pub struct TooManyRuns;
 
 /// All categories from `first` to `last`, both included.
-#[derive(Clone, Copy, Debug, Default, PartialEq, Eq)]
+#[derive(Clone, Copy, Debug, PartialEq, Eq)]
 pub struct Run {
     pub first: u16,
     pub last: u16,
@@ -28,7 +28,7 @@ pub struct Run {
 /// A set of categories from 0 to 65534 that has at most 1,952 maximal runs.
 #[derive(Debug, Drop)]
 pub struct CatSet {
-    runs: ArrayVec<Run, MOST_RUNS>,
+    runs: RunList<MOST_RUNS>,
 }
 
 impl Model for CatSet {
@@ -38,9 +38,9 @@ impl Model for CatSet {
 
     ghost use Rattle.mls_label.specs.inside.Kept.{cats_of, AreKeptRuns};
 
-    ghost view = { λ s. cats_of s.runs.items };
+    ghost view = { λ s. cats_of s.runs };
 
-    ghost invariant = { λ s. AreKeptRuns s.runs.items };
+    ghost invariant = { λ s. AreKeptRuns s.runs };
 }
 
 impl CatSet {
@@ -49,7 +49,7 @@ impl CatSet {
         ensures { result ≡ [] }
     {
         CatSet {
-            runs: ArrayVec::new(),
+            runs: RunList::new(),
         }
     }
 
@@ -122,14 +122,14 @@ impl CatSet {
     pub fn contains(&self, c: u16) -> bool
         ensures { result ≡ has self.now c }
     {
-        holds(&self.runs, c)
+        holds(self.runs.as_slice(), c)
     }
 
     /// Whether each category of this set is in the other.
     pub fn is_subset(&self, of: &CatSet) -> bool
         ensures { IsTrue result ↔ IsSubset self.now of.now }
     {
-        is_inside(&self.runs, &of.runs)
+        is_inside(self.runs.as_slice(), of.runs.as_slice())
     }
 
     /// Whether both sets have the same categories.
@@ -164,7 +164,7 @@ impl CatSet {
     pub fn count(&self) -> u32
         ensures { result ≡ length self.now }
     {
-        count_of(&self.runs)
+        count_of(self.runs.as_slice())
     }
 
     /// The highest category, or `None` where the set is empty.
@@ -172,7 +172,7 @@ impl CatSet {
         ensures { MatchOption result (self.now ≡ []) (λ c. IsTrue (has self.now c)
             × ((d : ℕ) → IsTrue (has self.now d) → d ≤ c)) }
     {
-        highest_of(&self.runs)
+        highest_of(self.runs.as_slice())
     }
 
     /// A copy.
@@ -188,7 +188,7 @@ impl CatSet {
     pub fn assign(&mut self, from: &CatSet)
         ensures { self.new ≡ from.now }
     {
-        assign(&mut self.runs, &from.runs);
+        assign(&mut self.runs, from.runs.as_slice());
     }
 
     // The maximal runs in ascending order.
@@ -196,7 +196,7 @@ impl CatSet {
         ensures cats { cats_of result.now ≡ self.now }
         ensures kept { AreKeptRuns result.now }
     {
-        &self.runs
+        self.runs.as_slice()
     }
 
     // Takes these runs in place of its own, those of `front` first.

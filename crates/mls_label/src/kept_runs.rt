@@ -2,13 +2,12 @@
 
 ghost use Rattle.std.specs.Prelude.{◌≡◌, ℕ, ◌+◌, ◌<◌, ◌≤◌, ◌||◌, ◌↔◌, [], ◌∷◌, ◌++◌, length, take, drop, fold, IsTrue, MatchOption, OnOk, OnErr};
 ghost use Rattle.std.specs.List.{AllWithin, splice};
-ghost use Rattle.arrayvec.specs.ArrayVec.{array_vec_len};
 ghost use Rattle.mls_label.specs.Cats.{has, is_within, cats_where, IsSubset};
 ghost use Rattle.mls_label.specs.Runs.{runs_of};
 ghost use Rattle.mls_label.specs.inside.Kept.{cats_of, AreApart, AreKeptRuns, IsPlace, hull};
 
 use crate::cat_set::{MOST_RUNS, Run, TooManyRuns};
-use arrayvec::ArrayVec;
+use crate::run_list::RunList;
 
 // How many of the runs end below `bound`.
 fn end_below(runs: &[Run], bound: u16) -> usize
@@ -62,99 +61,98 @@ fn place_of(runs: &[Run], run: Run) -> (usize, usize)
     requires categories { run.last < 65535 }
     ensures { IsPlace runs.now run result.0 result.1 }
 {
-    // Mostly runs come in ascending order.
-    if is_behind(runs, run) {
-        return (runs.len(), runs.len());
-    }
     let start = end_below(runs, run.first.saturating_sub(1));
     let end = begin_by(runs, run.last + 1);
     (start, end)
 }
 
 /// Adds a run. After an error nothing has changed.
-pub fn join(runs: &mut ArrayVec<Run, MOST_RUNS>, run: Run) -> Result<(), TooManyRuns>
-    requires kept { AreKeptRuns runs.old.items }
+pub fn join(runs: &mut RunList<MOST_RUNS>, run: Run) -> Result<(), TooManyRuns>
+    requires kept { AreKeptRuns runs.old }
     requires order { run.first ≤ run.last }
     requires categories { run.last < 65535 }
-    ensures kept { OnOk result (AreKeptRuns runs.new.items) }
-    ensures cats { OnOk result (cats_of runs.new.items
-        ≡ cats_where (λ c. has (cats_of runs.old.items) c || is_within run.first run.last c)) }
-    ensures one_more { OnOk result (array_vec_len runs.new ≤ array_vec_len runs.old + 1) }
+    ensures kept { OnOk result (AreKeptRuns runs.new) }
+    ensures cats { OnOk result (cats_of runs.new
+        ≡ cats_where (λ c. has (cats_of runs.old) c || is_within run.first run.last c)) }
+    ensures one_more { OnOk result (length runs.new ≤ length runs.old + 1) }
     ensures too_many { OnErr result (MOST_RUNS < length (runs_of
-        (cats_where (λ c. has (cats_of runs.old.items) c || is_within run.first run.last c)))) }
-    ensures full { OnErr result (array_vec_len runs.old ≡ MOST_RUNS) }
-    ensures err { OnErr result (runs.new.items ≡ runs.old.items) }
+        (cats_where (λ c. has (cats_of runs.old) c || is_within run.first run.last c)))) }
+    ensures full { OnErr result (length runs.old ≡ MOST_RUNS) }
+    ensures err { OnErr result (runs.new ≡ runs.old) }
 {
-    let (start, end) = place_of(runs, run);
-    let hull = hull_with(&runs[start..end], run);
+    // Mostly runs come in ascending order.
+    if is_behind(runs.as_slice(), run) {
+        return put_last(runs, run);
+    }
+    let (start, end) = place_of(runs.as_slice(), run);
+    let hull = hull_with(&runs.as_slice()[start..end], run);
     put(runs, start, end, hull)
 }
 
+// Puts a run behind all others, of which it touches none. After an error nothing has changed.
+fn put_last(runs: &mut RunList<MOST_RUNS>, run: Run) -> Result<(), TooManyRuns>
+    ensures ok { OnOk result (runs.new ≡ runs.old ++ run ∷ []) }
+    ensures few { OnOk result (length runs.new ≤ MOST_RUNS) }
+    ensures too_many { OnErr result (length runs.old ≡ MOST_RUNS) }
+    ensures err { OnErr result (runs.new ≡ runs.old) }
+{
+    if runs.len() < MOST_RUNS {
+        runs.push(run);
+        Ok(())
+    } else {
+        Err(TooManyRuns)
+    }
+}
+
 /// Adds a run that is behind all others and touches none.
-pub fn append(runs: &mut ArrayVec<Run, MOST_RUNS>, run: Run)
-    requires kept { AreKeptRuns runs.old.items }
+pub fn append(runs: &mut RunList<MOST_RUNS>, run: Run)
+    requires kept { AreKeptRuns runs.old }
     requires order { run.first ≤ run.last }
     requires categories { run.last < 65535 }
-    requires room { array_vec_len runs.old < MOST_RUNS }
-    requires behind { (c : ℕ) → IsTrue (has (cats_of runs.old.items) c) → c + 1 < run.first }
-    ensures kept { AreKeptRuns runs.new.items }
-    ensures cats { cats_of runs.new.items
-        ≡ cats_where (λ c. has (cats_of runs.old.items) c || is_within run.first run.last c) }
-    ensures one_more { array_vec_len runs.new ≤ array_vec_len runs.old + 1 }
+    requires room { length runs.old < MOST_RUNS }
+    requires behind { (c : ℕ) → IsTrue (has (cats_of runs.old) c) → c + 1 < run.first }
+    ensures kept { AreKeptRuns runs.new }
+    ensures cats { cats_of runs.new
+        ≡ cats_where (λ c. has (cats_of runs.old) c || is_within run.first run.last c) }
+    ensures one_more { length runs.new ≤ length runs.old + 1 }
 {
     runs.push(run);
 }
 
 // Puts `run` in the place of the runs from `start` to `end`. After an error nothing has changed.
-fn put(
-    runs: &mut ArrayVec<Run, MOST_RUNS>,
-    start: usize,
-    end: usize,
-    run: Run,
-) -> Result<(), TooManyRuns>
+fn put(runs: &mut RunList<MOST_RUNS>, start: usize, end: usize, run: Run) -> Result<(), TooManyRuns>
     requires order { start ≤ end }
-    requires within { end ≤ array_vec_len runs.old }
-    requires few { array_vec_len runs.old ≤ MOST_RUNS }
-    ensures ok { OnOk result (runs.new.items ≡ splice runs.old.items start end (run ∷ [])) }
-    ensures few { OnOk result (array_vec_len runs.new ≤ MOST_RUNS) }
-    ensures one_more { OnOk result (array_vec_len runs.new ≤ array_vec_len runs.old + 1) }
-    ensures too_many { OnErr result ((start ≡ end) × (array_vec_len runs.old ≡ MOST_RUNS)) }
-    ensures err { OnErr result (runs.new.items ≡ runs.old.items) }
+    requires within { end ≤ length runs.old }
+    requires few { length runs.old ≤ MOST_RUNS }
+    ensures ok { OnOk result (runs.new ≡ splice runs.old start end (run ∷ [])) }
+    ensures few { OnOk result (length runs.new ≤ MOST_RUNS) }
+    ensures one_more { OnOk result (length runs.new ≤ length runs.old + 1) }
+    ensures too_many { OnErr result ((start ≡ end) × (length runs.old ≡ MOST_RUNS)) }
+    ensures err { OnErr result (runs.new ≡ runs.old) }
 {
     if start < end {
         replace(runs, start, end, run);
         return Ok(());
     }
-    if runs.is_full() {
+    if runs.len() == MOST_RUNS {
         return Err(TooManyRuns);
     }
     runs.insert(start, run);
     Ok(())
 }
 
-fn replace(runs: &mut ArrayVec<Run, MOST_RUNS>, start: usize, end: usize, run: Run)
+fn replace(runs: &mut RunList<MOST_RUNS>, start: usize, end: usize, run: Run)
     requires order { start < end }
-    requires within { end ≤ array_vec_len runs.old }
-    requires few { array_vec_len runs.old ≤ MOST_RUNS }
-    ensures items { runs.new.items ≡ splice runs.old.items start end (run ∷ []) }
-    ensures len { array_vec_len runs.new ≤ array_vec_len runs.old }
+    requires within { end ≤ length runs.old }
+    requires few { length runs.old ≤ MOST_RUNS }
+    ensures items { runs.new ≡ splice runs.old start end (run ∷ []) }
+    ensures len { length runs.new ≤ length runs.old }
 {
-    runs[start] = run;
+    runs.set(start, run);
     // Mostly one run grows, and those behind it stay where they are.
     if start + 1 < end {
-        remove(runs, start + 1, end);
+        runs.remove(start + 1, end);
     }
-}
-
-fn remove(runs: &mut ArrayVec<Run, MOST_RUNS>, start: usize, end: usize)
-    requires order { start ≤ end }
-    requires within { end ≤ array_vec_len runs.old }
-    ensures items { runs.new.items ≡ take start runs.old.items ++ drop end runs.old.items }
-    ensures len { array_vec_len runs.new ≤ array_vec_len runs.old }
-{
-    let left = runs.len() - (end - start);
-    runs.copy_within(end.., start);
-    runs.truncate(left);
 }
 
 /// Whether a category is in one of the runs.
@@ -234,25 +232,21 @@ pub fn highest_of(runs: &[Run]) -> Option<u16>
 }
 
 /// Takes these runs in place of its own.
-pub fn assign(runs: &mut ArrayVec<Run, MOST_RUNS>, from: &[Run])
+pub fn assign(runs: &mut RunList<MOST_RUNS>, from: &[Run])
     requires { length from.now ≤ MOST_RUNS }
-    ensures { runs.new.items ≡ from.now }
+    ensures { runs.new ≡ from.now }
 {
     runs.clear();
-    match runs.try_extend_from_slice(from) {
-        Ok(()) => {}
-        Err(_) => unreachable!(),
-    }
+    runs.extend(from);
 }
 
 /// Takes the runs of both parts in place of its own.
-pub fn assign_parts(runs: &mut ArrayVec<Run, MOST_RUNS>, front: &[Run], back: &[Run])
+pub fn assign_parts(runs: &mut RunList<MOST_RUNS>, front: &[Run], back: &[Run])
     requires { length (front.now ++ back.now) ≤ MOST_RUNS }
-    ensures { runs.new.items ≡ front.now ++ back.now }
+    ensures { runs.new ≡ front.now ++ back.now }
 {
     assign(runs, front);
-    match runs.try_extend_from_slice(back) {
-        Ok(()) => {}
-        Err(_) => unreachable!(),
+    if !back.is_empty() {
+        runs.extend(back);
     }
 }

@@ -8,6 +8,7 @@ mod kept_runs;
 mod label;
 pub mod laws;
 mod packed_label;
+mod run_list;
 
 pub use cat_set::{CatSet, MOST_RUNS, TooManyRuns};
 pub use kept_label::KeptLabel;

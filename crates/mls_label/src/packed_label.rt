@@ -3,8 +3,8 @@
 ghost use Rattle.std.specs.Prelude.{◌≡◌, ◌++◌, [], OnOk, OnErr};
 
 use crate::cat_set::Run;
+use crate::run_list::RunList;
 use crate::{Label, OutOfMemory};
-use arrayvec::ArrayVec;
 use std::alloc::Global;
 use std::marker::Model;
 
@@ -16,7 +16,7 @@ const FEW: usize = 8;
 #[derive(Debug, Drop)]
 pub struct PackedLabel {
     level: u8,
-    few: ArrayVec<Run, FEW>,
+    few: RunList<FEW>,
     many: Vec<Run>,
 }
 
@@ -27,9 +27,9 @@ impl Model for PackedLabel {
 
     ghost Value = { Label };
 
-    ghost view = { λ p. record { level = p.level; cats = cats_of (p.few.items ++ p.many.items) } };
+    ghost view = { λ p. record { level = p.level; cats = cats_of (p.few ++ p.many.items) } };
 
-    ghost invariant = { λ p. AreKeptRuns (p.few.items ++ p.many.items) };
+    ghost invariant = { λ p. AreKeptRuns (p.few ++ p.many.items) };
 }
 
 impl PackedLabel {
@@ -39,7 +39,7 @@ impl PackedLabel {
     {
         PackedLabel {
             level: 0,
-            few: ArrayVec::new(),
+            few: RunList::new(),
             many: Vec::new(alloc),
         }
     }
@@ -58,25 +58,23 @@ impl PackedLabel {
         ensures { label.new ≡ self.now }
     {
         label.level = self.level;
-        label.cats.assign_runs(&self.few, &self.many);
+        label.cats.assign_runs(self.few.as_slice(), &self.many);
     }
 }
 
 // Keeps the runs in place of those before; after an error there are none.
-fn keep_runs(
-    few: &mut ArrayVec<Run, FEW>,
-    many: &mut Vec<Run>,
-    runs: &[Run],
-) -> Result<(), OutOfMemory>
-    ensures ok { OnOk result (few.new.items ++ many.new.items ≡ runs.now) }
-    ensures err { OnErr result (few.new.items ++ many.new.items ≡ []) }
+fn keep_runs(few: &mut RunList<FEW>, many: &mut Vec<Run>, runs: &[Run]) -> Result<(), OutOfMemory>
+    ensures ok { OnOk result (few.new ++ many.new.items ≡ runs.now) }
+    ensures err { OnErr result (few.new ++ many.new.items ≡ []) }
 {
     few.clear();
     many.clear();
-    let (front, back) = runs.split_at(runs.len().min(FEW));
-    many.extend_from_slice(back)?;
-    match few.try_extend_from_slice(front) {
-        Ok(()) => Ok(()),
-        Err(_) => unreachable!(),
+    if runs.len() > FEW {
+        let (front, back) = runs.split_at(FEW);
+        many.extend_from_slice(back)?;
+        few.extend(front);
+    } else {
+        few.extend(runs);
     }
+    Ok(())
 }

@@ -1,7 +1,7 @@
-use Rattle.std.proofs.Common.{◌≡◌, ◌+◌, ◌-◌, ◌<◌, length, arith}
+use Rattle.std.proofs.Common.{◌≡◌, ◌+◌, ◌-◌, ◌<◌, arith}
 use Rattle.std.specs.List.{AllWithin}
 use Rattle.mls_label.specs.declared.cat_set.Run.{Run}
-use Rattle.mls_label.proofs.Splice.{apart_at, place_order}
+use Rattle.mls_label.proofs.Splice.{place_order}
 use Rattle.mls_label.proofs.kept_runs.place_of.Goals as goal
 
 pub returns : goal.returns
@@ -20,20 +20,4 @@ returns c =
       met = λ k d lo hi. omega (arith, gap, c.end_below-start.ensures.others k d lo hi);
       reached = c.begin_by-end.ensures.by_bound;
       after = after;
-    }
-
-pub returns-then-is_behind : goal.returns-then-is_behind
-returns-then-is_behind c =
-    let runs = c.args.runs.now in
-    let run = c.args.run in
-    let before : AllWithin (λ (r : Run). r.last + 1 < run.first) runs 0 (length runs) = c.is_behind.ensures c.if-is_behind.true in
-    record {
-      order = omega arith;
-      within = omega arith;
-      before = before;
-      met = λ k d lo hi. absurd (omega (arith, lo, hi));
-      reached = λ k d lo hi.
-          let at = apart_at 0 runs k d c.requires.apart hi in
-          omega (arith, before k d lo hi, at.1, c.requires.order);
-      after = λ k d lo hi. absurd (omega (arith, lo, hi));
     }

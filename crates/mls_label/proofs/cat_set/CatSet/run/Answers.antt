@@ -12,10 +12,10 @@ none : Run
 none = record { first = 0; last = 0 }
 
 apart : (c : goal.After-as_slice-runs) → AreApart 0 c.as_slice-runs.result.now
-apart c = subst (AreApart 0) (sym c.as_slice-runs.ensures.value) c.self.invariant.apart
+apart c = subst (AreApart 0) (sym c.as_slice-runs.ensures) c.self.invariant.apart
 
 seen : (c : goal.After-as_slice-runs) → cats_of c.as_slice-runs.result.now ≡ c.args.self.now
-seen c = ap cats_of c.as_slice-runs.ensures.value ∙ c.self.view_is
+seen c = ap cats_of c.as_slice-runs.ensures ∙ c.self.view_is
 
 within : (c : goal.After-as_slice-runs) → c.args.i < length c.as_slice-runs.result.now
 within c = omega (arith, c.requires, length-runs_of 0 c.as_slice-runs.result.now (apart c), ap (λ s. length (runs_of s)) (seen c))

@@ -20,6 +20,6 @@ run_eq a b = (
 pub returns : goal.returns
 returns c =
     let slices : Decides c.eq.result (c.as_slice.result.now ≡ c.as_slice-2.result.now) = slice_eq-Decides {A = Run} run_eq c.as_slice.result.now c.as_slice-2.result.now c.eq.result c.eq.ensures in (
-      λ e. sym c.self.view_is ∙ ap cats_of (sym c.as_slice.ensures.value ∙ (slices.0 e ∙ c.as_slice-2.ensures.value)) ∙ c.other.view_is,
-      λ e. slices.1 (c.as_slice.ensures.value ∙ kept_same c.self.inside.runs.items c.other.inside.runs.items c.self.invariant.apart c.other.invariant.apart (c.self.view_is ∙ (e ∙ sym c.other.view_is)) ∙ sym c.as_slice-2.ensures.value),
+      λ e. sym c.self.view_is ∙ ap cats_of (sym c.as_slice.ensures ∙ (slices.0 e ∙ c.as_slice-2.ensures)) ∙ c.other.view_is,
+      λ e. slices.1 (c.as_slice.ensures ∙ kept_same c.self.inside.runs c.other.inside.runs c.self.invariant.apart c.other.invariant.apart (c.self.view_is ∙ (e ∙ sym c.other.view_is)) ∙ sym c.as_slice-2.ensures),
     )
