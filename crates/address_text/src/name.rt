@@ -88,13 +88,29 @@ fn held(text: &[u8]) -> ArrayVec<u8, MOST_OCTETS>
     }
 }
 
-// Whether two texts are the same. Names are short: one octet after the other costs less than a comparison of slices.
+// Whether two texts are the same. Names are short: four octets after the others cost less than a comparison of slices.
 fn same_octets(a: &[u8], b: &[u8]) -> bool
     ensures { result ≡ bytes_eq a.now b.now }
 {
     if a.len() != b.len() {
         return false;
     }
+    let (mut a, mut b) = (a, b);
+    while let ([p, q, r, s, after_a @ ..], [t, u, v, w, after_b @ ..]) = (a, b) {
+        if u32::from_be_bytes([*p, *q, *r, *s]) != u32::from_be_bytes([*t, *u, *v, *w]) {
+            return false;
+        }
+        a = after_a;
+        b = after_b;
+    }
+    same_few(a, b)
+}
+
+// The same of texts that are as long, octet by octet.
+fn same_few(a: &[u8], b: &[u8]) -> bool
+    requires { length a.now ≡ length b.now }
+    ensures { result ≡ bytes_eq a.now b.now }
+{
     let (mut a, mut b) = (a, b);
     while let ([x, after_a @ ..], [y, after_b @ ..]) = (a, b) {
         if *x != *y {

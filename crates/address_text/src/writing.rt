@@ -1,6 +1,6 @@
 //! The written forms of addresses and prefixes.
 
-ghost use Rattle.std.specs.Prelude.{◌≡◌, ◌+◌, ◌^◌, ◌<◌, ◌≤◌, [], ◌∷◌, ◌++◌, length, OnOk, OnErr};
+ghost use Rattle.std.specs.Prelude.{◌≡◌, ◌+◌, ◌^◌, ◌<◌, ◌≤◌, [], ◌∷◌, ◌++◌, length, vec_len, vec_capacity, OnOk, OnErr};
 ghost use Rattle.std.specs.Fmt.{decimal};
 ghost use Rattle.std.specs.Char.{digit_char};
 ghost use Rattle.std.specs.Net.Addr.{segments_of};
@@ -12,8 +12,11 @@ ghost use Rattle.address_text.specs.inside.Extends.{Extends};
 use crate::address::Address;
 use crate::prefix::Prefix;
 use mls_label::OutOfMemory;
-use octet_grammar::write_decimal;
+use octet_grammar::{push_decimal, write_decimal};
 use std::net::Ipv6Addr;
+
+/// As much room as four numbers of 16 bits and three dots take at the most.
+const DOTTED_ROOM: usize = 23;
 
 /// Appends the one written form of an address: dotted decimals, or groups as RFC 5952 section 4 writes them. After an error
 /// `out` is as it was.
@@ -67,21 +70,23 @@ fn append_dotted(octets: &[u8; 4], out: &mut Vec<u8>) -> Result<(), OutOfMemory>
     ensures err { OnErr result (Extends out.old.items out.new.items) }
 {
     let [a, b, c, d] = *octets;
-    append_octet(a, out)?;
-    append_octet(b, out)?;
-    append_octet(c, out)?;
-    write_decimal(u64::from(d), out)?;
+    out.reserve(DOTTED_ROOM)?;
+    push_octet(a, out);
+    push_octet(b, out);
+    push_octet(c, out);
+    push_decimal(u16::from(d), out);
     Ok(())
 }
 
 /// Appends a decimal number and a dot.
-fn append_octet(octet: u8, out: &mut Vec<u8>) -> Result<(), OutOfMemory>
-    ensures ok { OnOk result (out.new.items ≡ out.old.items ++ decimal octet ++ 46 ∷ []) }
-    ensures err { OnErr result (Extends out.old.items out.new.items) }
+fn push_octet(octet: u8, out: &mut Vec<u8>)
+    requires room { vec_len out.old + 6 ≤ vec_capacity out.old }
+    ensures items { out.new.items ≡ out.old.items ++ decimal octet ++ 46 ∷ [] }
+    ensures len { vec_len out.new ≤ vec_len out.old + 6 }
+    ensures capacity { vec_capacity out.new ≡ vec_capacity out.old }
 {
-    write_decimal(u64::from(octet), out)?;
-    out.push(b'.')?;
-    Ok(())
+    push_decimal(u16::from(octet), out);
+    out.push_reserved(b'.');
 }
 
 #[tactic(auto, unfolding(std::specs::Net::Text::hex_groups_text))]

@@ -1,8 +1,9 @@
 //! Labels, read from their texts and written in their one form.
 
-ghost use Rattle.std.specs.Prelude.{◌≡◌, [], ◌∷◌, ◌++◌, ◌≤◌, length, Some, None, IfOk, IfErr, OnOk, OnErr, MatchResult};
+ghost use Rattle.std.specs.Prelude.{◌≡◌, [], ◌∷◌, ◌++◌, ◌+◌, ◌≤◌, length, flat_map, vec_len, vec_capacity, Some, None, IfOk, IfErr, OnOk, OnErr, MatchResult};
 ghost use Rattle.std.specs.Fmt.{decimal};
-ghost use Rattle.mls_range.specs.LabelText.{IsLabelText, label_text, letter_c, terms_of_run};
+ghost use Rattle.mls_range.specs.LabelText.{IsLabelText, label_text, letter_c, letter_s, terms_of_run, terms_text};
+ghost use Rattle.mls_label.specs.Runs.{runs_of};
 ghost use Rattle.mls_range.specs.inside.Rest.{Extends, separated};
 ghost use Rattle.mls_range.specs.inside.Stops.{ReadsCats, ReadsPart, StopsCats, StopsPart};
 ghost use Rattle.mls_range.specs.TextFault.{IsRoomyLabel, StopsLabel};
@@ -20,6 +21,9 @@ const HIGHEST_LEVEL: u32 = 255;
 
 /// How many octets a category takes at the most: a separator, a letter and five digits.
 const LONGEST_TERM: usize = 7;
+
+/// How many octets a run takes at the most: two terms.
+const LONGEST_RUN: usize = 2 * LONGEST_TERM;
 
 /// Reads a whole text as a label (SELinux MLS): `s<N>`, or `s<N>:` and terms `c<N>` or `c<M>.c<N>` separated by commas,
 /// in any order. Levels end at 255 and categories at 65534; numbers have no leading zero.
@@ -97,42 +101,67 @@ pub(crate) fn append_label(label: &Label, out: &mut Vec<u8>) -> Result<(), OutOf
     ensures ok { OnOk result (out.new.items ≡ out.old.items ++ label_text label.now) }
     ensures err { OnErr result (Extends out.old.items out.new.items) }
 {
-    out.push(b's')?;
-    write_decimal(u64::from(label.level), out)?;
+    append_level(label.level, out)?;
+    push_cats(&label.cats, out)
+}
+
+/// Appends the terms of a set behind a colon, or nothing for no category. Room for all of them is asked for once.
+fn push_cats(cats: &CatSet, out: &mut Vec<u8>) -> Result<(), OutOfMemory>
+    ensures ok { OnOk result (out.new.items ≡ out.old.items
+        ++ terms_text (flat_map terms_of_run (runs_of cats.now))) }
+    ensures err { OnErr result (out.new.items ≡ out.old.items) }
+{
+    out.reserve(LONGEST_RUN * cats.runs())?;
     let mut separator = b':';
-    for i in 0..label.cats.runs() {
-        let (first, last) = label.cats.run(i);
-        append_run(separator, first, last, out)?;
+    for i in 0..cats.runs() {
+        let (first, last) = cats.run(i);
+        push_run(separator, first, last, out);
         separator = b',';
     }
     Ok(())
 }
 
-/// Appends a run as its terms, or a part of them.
-fn append_run(separator: u8, first: u16, last: u16, out: &mut Vec<u8>) -> Result<(), OutOfMemory>
-    requires { first ≤ last }
-    ensures ok { OnOk result
-        (out.new.items ≡ out.old.items ++ separated separator (terms_of_run (first, last))) }
+/// Appends a level, at once where it has one digit, or a part of that.
+#[tactic(auto, using(std::proofs::lemmas::Fmt::decimal_digit))]
+fn append_level(level: u8, out: &mut Vec<u8>) -> Result<(), OutOfMemory>
+    ensures ok { OnOk result (out.new.items ≡ out.old.items ++ letter_s ∷ decimal level) }
     ensures err { OnErr result (Extends out.old.items out.new.items) }
 {
-    append_category(separator, first, out)?;
-    if first == last {
+    if level < 10 {
+        out.extend_from_slice(&[b's', b'0' + level])?;
         return Ok(());
+    }
+    out.push(b's')?;
+    write_decimal(u64::from(level), out)?;
+    Ok(())
+}
+
+/// Appends a run as its terms, where there is room for two.
+fn push_run(separator: u8, first: u16, last: u16, out: &mut Vec<u8>)
+    requires order { first ≤ last }
+    requires room { vec_len out.old + LONGEST_RUN ≤ vec_capacity out.old }
+    ensures items { out.new.items ≡ out.old.items
+        ++ separated separator (terms_of_run (first, last)) }
+    ensures len { vec_len out.new ≤ vec_len out.old + LONGEST_RUN }
+    ensures capacity { vec_capacity out.new ≡ vec_capacity out.old }
+{
+    push_category(separator, first, out);
+    if first == last {
+        return;
     }
     // Two categories are two terms, and more are one.
     let between = if last - first == 1 { b',' } else { b'.' };
-    append_category(between, last, out)
+    push_category(between, last, out);
 }
 
-/// Appends a category behind a separator, or a part of that.
-fn append_category(separator: u8, category: u16, out: &mut Vec<u8>) -> Result<(), OutOfMemory>
-    ensures ok { OnOk result
-        (out.new.items ≡ out.old.items ++ separator ∷ letter_c ∷ decimal category) }
-    ensures err { OnErr result (Extends out.old.items out.new.items) }
+/// Appends a category behind a separator, where there is room for its term.
+fn push_category(separator: u8, category: u16, out: &mut Vec<u8>)
+    requires room { vec_len out.old + LONGEST_TERM ≤ vec_capacity out.old }
+    ensures items { out.new.items ≡ out.old.items ++ separator ∷ letter_c ∷ decimal category }
+    ensures len { vec_len out.new ≤ vec_len out.old + LONGEST_TERM }
+    ensures capacity { vec_capacity out.new ≡ vec_capacity out.old }
 {
-    out.reserve(LONGEST_TERM)?;
     out.push_reserved(separator);
     out.push_reserved(b'c');
     push_decimal(category, out);
-    Ok(())
 }
