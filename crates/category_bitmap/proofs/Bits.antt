@@ -1,5 +1,5 @@
 -- The categories of a bitmap, collected stretch by stretch.
-use Rattle.std.proofs.Common.{◌≡◌, ℕ, ◌+◌, ◌-◌, ◌*◌, ◌/◌, ◌%◌, ◌<◌, ◌≤◌, Bool, true, false, not, ◌==◌, ◌&&◌, ◌||◌, nat_lt, List, [], length, get_or, Option, Some, None, is_some, IfSome, MatchOption, refl, sym, ap, subst, ◌∙◌, arith, inl, inr}
+use Rattle.std.proofs.Common.{◌≡◌, ℕ, ◌+◌, ◌-◌, ◌*◌, ◌/◌, ◌%◌, ◌<◌, ◌≤◌, Bool, true, false, ◌==◌, ◌&&◌, ◌||◌, nat_lt, List, [], length, get_or, Option, Some, None, is_some, sym, ap, subst, ◌∙◌, arith, inl, inr}
 use Rattle.std.proofs.lemmas.Bool.{cases_lt, cases_eq, true≢false, and_parts, ltb-true}
 use Rattle.std.proofs.lemmas.Bool.Decides.{nat_tests}
 use Rattle.std.proofs.lemmas.Nat.Bits.{bit_at-zero}
@@ -112,26 +112,6 @@ read_on bitmap cats (Some first) at next le is same = record {
   ];
 }
 
--- a bit of an octet
-pub octet_bit : (bitmap : List ℕ) (at k : ℕ) → k < 8 → has_bit bitmap (8 * at + k) ≡ (bit_at (get_or bitmap at 0) (7 - k) == 1)
-octet_bit bitmap at k lt =
-    let octet : (8 * at + k) / 8 ≡ at = omega arith in
-    let place : (8 * at + k) % 8 ≡ k = omega arith in
-    λ i. bit_at (get_or bitmap (octet i) 0) (7 - place i) == 1
-
--- up to the next turn in an octet, or to its end
-pub read_up_to : (bitmap cats : List ℕ) (begun : Option ℕ) (at place next : ℕ) (bit : Bool) → is_some begun ≡ not bit → place ≤ next → next ≤ 8
-    → ((k : ℕ) → place ≤ k → k < next → (bit_at (get_or bitmap at 0) (7 - k) == 1) ≡ not bit) → IsRead bitmap cats begun (8 * at + place) → IsRead bitmap cats begun (8 * at + next)
-read_up_to bitmap cats begun at place next bit turn le within same is =
-    read_on bitmap cats begun (8 * at + place) (8 * at + next) (omega arith) is (λ c low high.
-    let k = c - 8 * at in
-    let there : c ≡ 8 * at + k = omega arith in
-    ap (has_bit bitmap) there ∙ octet_bit bitmap at k (omega arith) ∙ same k (omega arith) (omega arith) ∙ sym turn)
-
-other : (some bit : Bool) → some ≡ not bit → bit ≡ not some
-other some true e = sym (ap not e)
-other some false e = sym (ap not e)
-
 -- no category stands directly before those to come
 pub read_behind : (bitmap cats : List ℕ) (first : ℕ) → cats ≡ cats_below bitmap first → ((k : ℕ) → k + 1 ≡ first → has_bit bitmap k ≡ false) → (d : ℕ) → has cats d ≡ true → d + 1 < first
 read_behind bitmap cats first so_far gap d h =
@@ -145,93 +125,36 @@ read_behind bitmap cats first so_far gap d h =
       | inr ne ↦ omega arith
     ]
 
-pub begun_behind : (bitmap cats : List ℕ) (begun : Option ℕ) (at : ℕ) → IsRead bitmap cats begun at → IfSome begun (λ first. (d : ℕ) → has cats d ≡ true → d + 1 < first)
-begun_behind bitmap cats None at is = tt
-begun_behind bitmap cats (Some first) at is = read_behind bitmap cats first is.so_far is.gap
+-- a bit that begins a run
+pub run_begins : (bitmap cats : List ℕ) (c : ℕ) → IsRead bitmap cats None c → has_bit bitmap c ≡ true → IsRead bitmap cats (Some c) (c + 1)
+run_begins bitmap cats c is bit = record {
+  so_far = is.so_far;
+  few = is.few;
+  gap = is.gap;
+  order = omega arith;
+  ones = λ k from lt. let same : k ≡ c = omega arith in ap (has_bit bitmap) same ∙ bit;
+}
 
--- a bit that begins a run, or ends the one that has begun
-turned : (bitmap cats new : List ℕ) (begun next : Option ℕ) (c : ℕ) → IsRead bitmap cats begun c → has_bit bitmap c ≡ not (is_some begun)
-    → MatchOption begun (next ≡ Some c) (λ first. next ≡ None) → MatchOption begun (new ≡ cats) (λ first. new ≡ cats_where (λ d. has cats d || is_within first (c - 1) d))
-    → MatchOption begun (new ≡ cats) (λ first. length (runs_of new) ≤ length (runs_of cats) + 1) → IsRead bitmap new next (c + 1)
-turned bitmap cats new None next c is bit then added more =
-    subst (λ o. IsRead bitmap new o (c + 1)) (sym then)
-    (record {
-      so_far = added ∙ is.so_far;
-      few = omega (arith, is.few, ap (λ xs. length (runs_of xs)) added);
-      gap = is.gap;
-      order = omega arith;
-      ones = λ k from lt. let same : k ≡ c = omega arith in ap (has_bit bitmap) same ∙ bit;
-    })
-turned bitmap cats new (Some first) next c is bit then added more =
-    subst (λ o. IsRead bitmap new o (c + 1)) (sym then)
-    (record {
-      so_far = below_more bitmap cats new first c (c + 1) is.order (omega arith) is.so_far added is.ones (λ k from lt. let same : k ≡ c = omega arith in ap (has_bit bitmap) same ∙ bit);
-      few = omega (arith, is.few, is.order, more);
-      gap = λ k e. let same : k ≡ c = omega (arith, e) in ap (has_bit bitmap) same ∙ bit;
-      order = tt;
-      ones = tt;
-    })
+-- a bit that ends the one that has begun
+pub run_ends : (bitmap cats new : List ℕ) (first c : ℕ) → IsRead bitmap cats (Some first) c → has_bit bitmap c ≡ false → new ≡ cats_where (λ d. has cats d || is_within first (c - 1) d) → length (runs_of new) ≤ length (runs_of cats) + 1 → IsRead bitmap new None (c + 1)
+run_ends bitmap cats new first c is bit added more = record {
+  so_far = below_more bitmap cats new first c (c + 1) is.order (omega arith) is.so_far added is.ones (λ k from lt. let same : k ≡ c = omega arith in ap (has_bit bitmap) same ∙ bit);
+  few = omega (arith, is.few, is.order, more);
+  gap = λ k e. let same : k ≡ c = omega (arith, e) in ap (has_bit bitmap) same ∙ bit;
+  order = tt;
+  ones = tt;
+}
 
-pub read_turn : (bitmap cats new : List ℕ) (begun next : Option ℕ) (at place : ℕ) (bit : Bool) → is_some begun ≡ not bit → place < 8 → (bit_at (get_or bitmap at 0) (7 - place) == 1) ≡ bit → IsRead bitmap cats begun (8 * at + place)
-    → MatchOption begun (next ≡ Some (8 * at + place)) (λ first. next ≡ None) → MatchOption begun (new ≡ cats) (λ first. new ≡ cats_where (λ d. has cats d || is_within first (8 * at + place - 1) d))
-    → MatchOption begun (new ≡ cats) (λ first. length (runs_of new) ≤ length (runs_of cats) + 1) → IsRead bitmap new next (8 * at + (place + 1))
-read_turn bitmap cats new begun next at place bit turn lt found is then added more =
-    let after : 8 * at + place + 1 ≡ 8 * at + (place + 1) = omega arith in
-    subst (IsRead bitmap new next) after (turned bitmap cats new begun next (8 * at + place) is (octet_bit bitmap at place lt ∙ found ∙ other (is_some begun) bit turn) then added more)
+-- ---- the end
 
--- ---- the runs of an octet
-
-begun_some : (begun : Option ℕ) (first : ℕ) → begun ≡ Some first → is_some begun ≡ true
-begun_some begun first e = ap is_some e
-
-pub begun_few : (bitmap cats : List ℕ) (begun : Option ℕ) (at : ℕ) → IsRead bitmap cats begun at → IfSome begun (λ first. length (runs_of cats) ≤ first)
-begun_few bitmap cats None at is = tt
-begun_few bitmap cats (Some first) at is = is.few
-
--- a run that goes on ends at a turn
-pub run_ended : (bitmap cats new : List ℕ) (begun next : Option ℕ) (at place : ℕ) → is_some begun ≡ true → place < 8 → (bit_at (get_or bitmap at 0) (7 - place) == 1) ≡ false → IsRead bitmap cats begun (8 * at + place)
-    → MatchOption begun (next ≡ Some (8 * at + place)) (λ first. next ≡ None) → MatchOption begun (new ≡ cats) (λ first. new ≡ cats_where (λ d. has cats d || is_within first (8 * at + place - 1) d))
-    → MatchOption begun (new ≡ cats) (λ first. length (runs_of new) ≤ length (runs_of cats) + 1) → IsRead bitmap new None (8 * at + (place + 1))
-run_ended bitmap cats new None next at place some lt found is then added more = absurd (true≢false (sym some))
-run_ended bitmap cats new (Some first) next at place some lt found is then added more =
-    subst (λ o. IsRead bitmap new o (8 * at + (place + 1))) then (read_turn bitmap cats new (Some first) next at place false refl lt found is then added more)
-
--- a run ends behind its first category
-ends_behind : (bitmap : List ℕ) (at start end : ℕ) → start ≤ end → start < 8 → (bit_at (get_or bitmap at 0) (7 - start) == 1) ≡ true → (end < 8 → (bit_at (get_or bitmap at 0) (7 - end) == 1) ≡ false) → start < end
-ends_behind bitmap at start end le lt one zero =
-    elim (cases_eq start end) [
-      | inl e ↦ absurd (true≢false (sym one ∙ ap (λ k. bit_at (get_or bitmap at 0) (7 - k) == 1) e ∙ zero (omega (arith, e))))
-      | inr ne ↦ omega arith
+-- one that goes on does so to the last octet's end
+pub read_to_end : (bitmap cats : List ℕ) (first end : ℕ) → 8 * length bitmap ≤ end → IsRead bitmap cats (Some first) end → IsRead bitmap cats (Some first) (8 * length bitmap)
+read_to_end bitmap cats first end le is =
+    elim (cases_lt (8 * length bitmap) end) [
+      | inl past ↦ absurd (true≢false (sym (is.ones (end - 1) (omega (arith, is.order)) (omega arith)) ∙ bits_past bitmap (end - 1) (omega arith)))
+      | inr ge ↦ let same : end ≡ 8 * length bitmap = omega arith in subst (IsRead bitmap cats (Some first)) same is
     ]
 
--- the next run of an octet begins, and goes on up to a place
-pub run_read : (bitmap cats new : List ℕ) (begun : Option ℕ) (at place start end : ℕ) → IsRead bitmap cats None (8 * at + place) → place ≤ start → start < 8
-    → ((k : ℕ) → place ≤ k → k < start → (bit_at (get_or bitmap at 0) (7 - k) == 1) ≡ false) → (bit_at (get_or bitmap at 0) (7 - start) == 1) ≡ true
-    → begun ≡ Some (8 * at + start) → new ≡ cats → start ≤ end → end ≤ 8
-    → ((k : ℕ) → start ≤ k → k < end → (bit_at (get_or bitmap at 0) (7 - k) == 1) ≡ true) → (end < 8 → (bit_at (get_or bitmap at 0) (7 - end) == 1) ≡ false)
-    → IsRead bitmap new begun (8 * at + end)
-run_read bitmap cats new begun at place start end is le lt before one then same on within ones zero =
-    let there = read_up_to bitmap cats None at place start true refl le (omega arith) before is in
-    let begins = read_turn bitmap cats new None begun at start true refl lt one there then same same in
-    let behind = ends_behind bitmap at start end on lt one zero in
-    read_up_to bitmap new begun at (start + 1) end false (begun_some begun (8 * at + start) then) (omega arith) within (λ k from to. ones k (omega arith) to) begins
-
--- an octet is read where no run goes on from this place
-pub zeros_read : (bitmap cats : List ℕ) (at place next : ℕ) → IsRead bitmap cats None (8 * at + place) → place ≤ next → next ≡ 8
-    → ((k : ℕ) → place ≤ k → k < next → (bit_at (get_or bitmap at 0) (7 - k) == 1) ≡ false) → IsRead bitmap cats None (8 * (at + 1))
-zeros_read bitmap cats at place next is le all zeros =
-    let end : 8 * at + next ≡ 8 * (at + 1) = omega (arith, all) in
-    subst (IsRead bitmap cats None) end (read_up_to bitmap cats None at place next true refl le (omega (arith, all)) zeros is)
-
-pub none_read : (bitmap cats : List ℕ) (at place : ℕ) → IsRead bitmap cats None (8 * at + place) → place ≤ 8 → get_or bitmap at 0 ≡ 0 → IsRead bitmap cats None (8 * (at + 1))
-none_read bitmap cats at place is le none =
-    zeros_read bitmap cats at place 8 is le refl (λ k from to. ap (λ o. bit_at o (7 - k) == 1) none ∙ ap (λ b. b == 1) (bit_at-zero (7 - k)))
-
--- all is read, and no run goes on
-pub read_whole : (bitmap cats : List ℕ) → IsRead bitmap cats None (8 * length bitmap) → cats ≡ bitmap_cats bitmap
-read_whole bitmap cats is = below_end bitmap cats (8 * length bitmap) (omega arith) is.so_far
-
--- and one goes on to the end
 pub read_last : (bitmap cats new : List ℕ) (first : ℕ) → IsRead bitmap cats (Some first) (8 * length bitmap) → new ≡ cats_where (λ d. has cats d || is_within first (8 * length bitmap - 1) d) → new ≡ bitmap_cats bitmap
 read_last bitmap cats new first is added =
     let end = 8 * length bitmap in

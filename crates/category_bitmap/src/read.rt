@@ -1,12 +1,10 @@
 //! Reading: each stretch of ones becomes one run of the set.
 
-ghost use Rattle.std.specs.Prelude.{◌≡◌, ℕ, Some, None, not, ◌+◌, ◌*◌, ◌-◌, ◌<◌, ◌≤◌, ◌||◌, ◌==◌, length, List, IsTrue, IfSome, MatchOption};
+ghost use Rattle.std.specs.Prelude.{◌≡◌, ℕ, ◌+◌, ◌*◌, ◌-◌, ◌<◌, ◌≤◌, ◌==◌, length, if◌then◌else◌};
 ghost use Rattle.std.specs.Int.{bit_at};
-ghost use Rattle.mls_label.specs.Cats.{has, is_within, cats_where};
-ghost use Rattle.mls_label.specs.Runs.{runs_of};
 ghost use Rattle.mls_label.specs.declared.cat_set.TheConstants.{MOST_RUNS};
-ghost use Rattle.category_bitmap.specs.Bitmap.{bitmap_cats};
-ghost use Rattle.category_bitmap.specs.inside.Read.{IsRead};
+ghost use Rattle.category_bitmap.specs.Bitmap.{bitmap_cats, has_bit};
+ghost use Rattle.category_bitmap.specs.inside.Read.{IsRead, IsNextTurn, differs};
 
 use mls_label::CatSet;
 
@@ -18,122 +16,78 @@ pub fn read_bitmap(bitmap: &[u8], cats: &mut CatSet)
 {
     cats.clear();
     let mut begun = None;
-    // Most octets have no bit.
-    let mut at = behind_zeros(bitmap, 0);
+    let mut at = 0;
     while at < bitmap.len() {
-        begun = read_octet(bitmap, at, begun, cats);
-        at += 1;
-        if begun.is_none() {
-            at = behind_zeros(bitmap, at);
-        }
+        begun = read_word(bitmap, at, begun, cats);
+        at += 4;
     }
     if let Some(first) = begun {
         cats.append_run(first, (8 * bitmap.len() - 1) as u16);
     }
 }
 
-// Goes over the octets without a bit from this place on, at which no run goes on.
-fn behind_zeros(bitmap: &[u8], from: usize) -> usize
-    requires { from ≤ length bitmap.now }
-    ensures start { from ≤ result }
-    ensures end { result ≤ length bitmap.now }
-    ensures read { (cats : List ℕ) → IsRead bitmap.now cats None (8 * from)
-        → IsRead bitmap.now cats None (8 * result) }
-{
-    let mut at = from;
-    while at < bitmap.len() && bitmap[at] == 0 {
-        at += 1;
-    }
-    at
-}
-
-// Reads an octet. What is begun is the run of ones that goes on to the place where reading is, as its first category.
-fn read_octet(bitmap: &[u8], at: usize, begun: Option<u16>, cats: &mut CatSet) -> Option<u16>
+// Reads four octets. What is begun is the run of ones that goes on to the place where reading is, as its first category.
+fn read_word(bitmap: &[u8], at: usize, begun: Option<u16>, cats: &mut CatSet) -> Option<u16>
     requires place { at < length bitmap.now }
-    requires most { length bitmap.now ≤ 244 }
+    requires most { 8 * at + 32 ≤ MOST_RUNS }
     requires read { IsRead bitmap.now cats.old begun (8 * at) }
-    ensures { IsRead bitmap.now cats.new result (8 * (at + 1)) }
+    ensures { IsRead bitmap.now cats.new result (8 * at + 32) }
 {
-    if begun.is_none() {
-        return read_runs(bitmap, at, 0, cats);
-    }
-    let end = next_in_octet(bitmap[at], 0, false);
-    if end == 8 {
-        return begun;
-    }
-    turn(begun, (8 * at) as u16 + end as u16, cats);
-    read_runs(bitmap, at, end + 1, cats)
-}
-
-// Reads an octet from a place on at which no run goes on.
-fn read_runs(bitmap: &[u8], at: usize, from: u32, cats: &mut CatSet) -> Option<u16>
-    requires octet { at < length bitmap.now }
-    requires place { from ≤ 8 }
-    requires most { length bitmap.now ≤ 244 }
-    requires read { IsRead bitmap.now cats.old None (8 * at + from) }
-    ensures { IsRead bitmap.now cats.new result (8 * (at + 1)) }
-{
-    let octet = bitmap[at];
-    let mut place = from;
-    while place < 8 {
-        let start = next_in_octet(octet, place, true);
-        if start == 8 {
-            return None;
-        }
-        let begun = turn(None, (8 * at) as u16 + start as u16, cats);
-        let end = next_in_octet(octet, start, false);
-        if end == 8 {
+    let from = (8 * at) as u16;
+    let mut turns = turns_of(word_at(bitmap, at), begun.is_some());
+    if let Some(first) = begun {
+        if turns == 0 {
             return begun;
         }
-        turn(begun, (8 * at) as u16 + end as u16, cats);
-        place = end + 1;
+        let (place, rest) = next_turn(turns);
+        cats.append_run(first, from + place as u16 - 1);
+        turns = rest;
+    }
+    while turns != 0 {
+        let (start, behind) = next_turn(turns);
+        let first = from + start as u16;
+        if behind == 0 {
+            return Some(first);
+        }
+        let (end, rest) = next_turn(behind);
+        cats.append_run(first, from + end as u16 - 1);
+        turns = rest;
     }
     None
 }
 
-// Begins a run at `c`, or ends the begun one before it.
-fn turn(begun: Option<u16>, c: u16, cats: &mut CatSet) -> Option<u16>
-    requires most { c < MOST_RUNS }
-    requires order { IfSome begun (λ first. first < c) }
-    requires few { IfSome begun (λ first. length (runs_of cats.old) ≤ first) }
-    requires behind { IfSome begun (λ first. (d : ℕ) → IsTrue (has cats.old d) → d + 1 < first) }
-    ensures next { MatchOption begun (result ≡ Some c) (λ first. result ≡ None) }
-    ensures cats { MatchOption begun (cats.new ≡ cats.old)
-        (λ first. cats.new ≡ cats_where (λ d. has cats.old d || is_within first (c - 1) d)) }
-    ensures one_more { MatchOption begun (cats.new ≡ cats.old)
-        (λ first. length (runs_of cats.new) ≤ length (runs_of cats.old) + 1) }
+// Four octets from this place on, with zeros in place of those behind the end.
+fn word_at(bitmap: &[u8], at: usize) -> u32
+    requires { at < length bitmap.now }
+    ensures { (k : ℕ) → k < 32 → (bit_at result (31 - k) == 1) ≡ has_bit bitmap.now (8 * at + k) }
 {
-    match begun {
-        None => Some(c),
-        Some(first) => {
-            cats.append_run(first, c - 1);
-            None
-        }
+    let rest = &bitmap[at..];
+    if let [a, b, c, d, ..] = rest {
+        return u32::from_be_bytes([*a, *b, *c, *d]);
+    }
+    match rest {
+        [a, b, c, ..] => u32::from_be_bytes([*a, *b, *c, 0]),
+        [a, b] => u32::from_be_bytes([*a, *b, 0, 0]),
+        [a] => u32::from_be_bytes([*a, 0, 0, 0]),
+        [] => 0,
     }
 }
 
-// The first place from `from` on in an octet whose bit is this one, or 8. Place 0 is the most significant bit.
-fn next_in_octet(octet: u8, from: u32, bit: bool) -> u32
-    requires { from < 8 }
-    ensures start { from ≤ result }
-    ensures end { result ≤ 8 }
-    ensures before { (k : ℕ) → from ≤ k → k < result → (bit_at octet (7 - k) == 1) ≡ not bit }
-    ensures found { result < 8 → (bit_at octet (7 - result) == 1) ≡ bit }
+// The turns of a word: the places at which a bit isn't as the one in front of it, where runs begin and end. Place 0 is the most significant bit,
+// and in front of it the last bit of the word before.
+fn turns_of(word: u32, last: bool) -> u32
+    ensures { (k : ℕ) → k < 32 → (bit_at result (31 - k) == 1)
+        ≡ differs (bit_at word (31 - k) == 1)
+        (if k == 0 then last else bit_at word (32 - k) == 1) }
 {
-    if bit {
-        next_one(octet, from)
-    } else {
-        next_one(!octet, from)
-    }
+    word ^ (word >> 1 | u32::from(last) << 31)
 }
 
-// The first place from `from` on in an octet whose bit is 1, or 8.
-fn next_one(octet: u8, from: u32) -> u32
-    requires { from < 8 }
-    ensures start { from ≤ result }
-    ensures end { result ≤ 8 }
-    ensures before { (k : ℕ) → from ≤ k → k < result → bit_at octet (7 - k) ≡ 0 }
-    ensures found { result < 8 → bit_at octet (7 - result) ≡ 1 }
+// The place of the first turn, and the turns behind it.
+fn next_turn(turns: u32) -> (u32, u32)
+    requires { 0 < turns }
+    ensures { IsNextTurn turns result.0 result.1 }
 {
-    (octet & 0xff >> from).leading_zeros()
+    let place = turns.leading_zeros();
+    (place, turns & 0x7fff_ffff >> place)
 }

@@ -9,6 +9,9 @@ ghost use Rattle.category_bitmap.specs.Bitmap.{has_bit, octets_needed, bitmap_of
 use arrayvec::ArrayVec;
 use mls_label::CatSet;
 
+// So many zeros are appended at once.
+const PIECE: usize = 32;
+
 /// The octets that the bitmap of a set needs: 0 for the empty set, and else those up to the one of its highest category.
 pub fn octets_of(cats: &CatSet) -> usize
     ensures { result ≡ octets_needed cats.now }
@@ -34,8 +37,13 @@ fn push_zeros<const N: usize>(octets: usize, out: &mut ArrayVec<u8, N>)
     requires { array_vec_len out.old + octets ≤ N }
     ensures { out.new.items ≡ out.old.items ++ replicate octets 0 }
 {
-    for _ in 0..octets {
-        out.push(0);
+    let mut left = octets;
+    while left > 0 {
+        let piece = left.min(PIECE);
+        match out.try_extend_from_slice(&[0; PIECE][..piece]) {
+            Ok(()) => left -= piece,
+            Err(_) => unreachable!(),
+        }
     }
 }
 

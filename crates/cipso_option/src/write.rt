@@ -16,13 +16,11 @@ pub fn write_cipso(doi: u32, tag: Tag, label: &Label, out: &mut ArrayVec<u8, MOS
     requires empty { out.old.items ≡ [] }
     ensures { out.new.items ≡ cipso_text doi tag label.now }
 {
-    out.push(OPTION_TYPE);
-    out.push(0);
     let [first, second, third, fourth] = doi.to_be_bytes();
-    out.push(first);
-    out.push(second);
-    out.push(third);
-    out.push(fourth);
+    match out.try_extend_from_slice(&[OPTION_TYPE, 0, first, second, third, fourth]) {
+        Ok(()) => {}
+        Err(_) => unreachable!(),
+    }
     append_tag(tag, label, out);
     out[1] = out.len() as u8;
 }

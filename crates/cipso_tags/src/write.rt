@@ -40,10 +40,10 @@ pub fn append_tag<const N: usize>(tag: Tag, label: &Label, out: &mut ArrayVec<u8
     ensures { out.new.items ≡ out.old.items ++ tag_text tag label.now }
 {
     let start = out.len();
-    out.push(type_octet(tag));
-    out.push(0);
-    out.push(0);
-    out.push(label.level);
+    match out.try_extend_from_slice(&[type_octet(tag), 0, 0, label.level]) {
+        Ok(()) => {}
+        Err(_) => unreachable!(),
+    }
     append_body(tag, label, out);
     // The length is known when the body is there.
     out[start + 1] = (out.len() - start) as u8;

@@ -1,10 +1,10 @@
-use Rattle.std.proofs.Common.{◌≤◌, ◌-◌, ◌*◌, length}
+use Rattle.std.proofs.Common.{◌≡◌, ◌-◌, ◌*◌, ◌%◌, length}
 use Rattle.category_bitmap.specs.inside.Read.{IsRead}
 use Rattle.category_bitmap.proofs.read.read_bitmap.Given as goal
 
 abbrev pub invariant-loop-at : goal.invariant-loop-at
 invariant-loop-at l = record {
-  within : l.at ≤ length l.bitmap;
+  words : l.at % 4 ≡ 0;
   read : IsRead l.bitmap l.cats l.begun (8 * l.at);
 }
 

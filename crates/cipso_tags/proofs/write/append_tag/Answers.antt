@@ -8,13 +8,6 @@ use Rattle.cipso_tags.specs.Text.{body_text}
 use Rattle.cipso_tags.proofs.Fitting.{body_small}
 use Rattle.cipso_tags.proofs.write.append_tag.Goals as goal
 
-four_pushed : (old body : List ℕ) (t l : ℕ) → ((((old ++ t ∷ []) ++ 0 ∷ []) ++ 0 ∷ []) ++ l ∷ []) ++ body ≡ old ++ t ∷ 0 ∷ 0 ∷ l ∷ body
-four_pushed old body t l =
-    append_assoc (((old ++ t ∷ []) ++ 0 ∷ []) ++ 0 ∷ []) (l ∷ []) body
-    ∙ append_assoc ((old ++ t ∷ []) ++ 0 ∷ []) (0 ∷ []) (l ∷ body)
-    ∙ append_assoc (old ++ t ∷ []) (0 ∷ []) (0 ∷ l ∷ body)
-    ∙ append_assoc old (t ∷ []) (0 ∷ 0 ∷ l ∷ body)
-
 whole_refill : (n : ℕ) (xs ws : List ℕ) → n ≡ length xs → length ws ≡ length xs → refill n xs ws ≡ ws
 whole_refill n xs ws long same =
     ap (λ rest. take n (ws ++ rest)) (drop_all (length ws) xs (omega (arith, same)))
@@ -37,7 +30,7 @@ pub overflow_cast-len : goal.overflow_cast-len
 overflow_cast-len g c =
     let label = c.args.label.now in
     let body = body_text c.args.tag label.cats in
-    Fits-of_lt (omega (arith, body_small c.args.tag label c.requires.fits, c.len.ensures.value, c.len-start.ensures.value, ap length c.append_body.ensures, length-append c.push-4.new.self.items body))
+    Fits-of_lt (omega (arith, body_small c.args.tag label c.requires.fits, c.len.ensures.value, c.len-start.ensures.value, c.in-Ok.ensures.len, ap length c.append_body.ensures, length-append c.try_extend_from_slice.new.self.items body))
 
 pub returns : goal.returns
 returns g c =
@@ -45,10 +38,9 @@ returns g c =
     let body = body_text c.args.tag c.args.label.now.cats in
     let items = c.append_body.new.out.items in
     let level = c.args.label.now.level in
-    let pushed : c.push-4.new.self.items ≡ (((old ++ tag_type c.args.tag ∷ []) ++ 0 ∷ []) ++ 0 ∷ []) ++ level ∷ [] =
-    c.push-4.ensures.items
-    ∙ ap (λ xs. xs ++ level ∷ []) (c.push-3.ensures.items ∙ ap (λ xs. xs ++ 0 ∷ []) (c.push-2.ensures.items ∙ ap (λ xs. xs ++ 0 ∷ []) (c.push.ensures.items ∙ ap (λ t. old ++ t ∷ []) c.type_octet.ensures))) in
-    let is = c.append_body.ensures ∙ ap (λ xs. xs ++ body) pushed ∙ four_pushed old body (tag_type c.args.tag) level in
+    let head = tag_type c.args.tag ∷ 0 ∷ 0 ∷ level ∷ [] in
+    let pushed : c.try_extend_from_slice.new.self.items ≡ old ++ head = c.in-Ok.ensures.ok ∙ ap (λ t. old ++ t ∷ 0 ∷ 0 ∷ level ∷ []) c.type_octet.ensures in
+    let is = c.append_body.ensures ∙ ap (λ xs. xs ++ body) pushed ∙ append_assoc old head body in
     let octets : c.len.result - c.len-start.result ≡ 4 + length body = omega (arith, c.len.ensures.value, c.len-start.ensures.value, ap length is, length-append old (tag_type c.args.tag ∷ 0 ∷ 0 ∷ level ∷ body)) in
     (λ i. refill (array_vec_len c.append_body.new.out) items (slice_set (c.deref_mut.ensures.value i) (c.len-start.ensures.value i + 1) (octets i)))
     ∙ length_set old body items (tag_type c.args.tag) level (4 + length body) (array_vec_len c.append_body.new.out) is refl
