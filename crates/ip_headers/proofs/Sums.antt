@@ -1,6 +1,7 @@
 -- The one's complement sum.
-use Rattle.std.proofs.Common.{◌≡◌, ℕ, zero, suc, ◌+◌, ◌-◌, ◌*◌, ◌%◌, ◌<◌, ◌≤◌, false, cond, eqb, List, [], ◌∷◌, All, length, get_or, drop, sum, fold, ap, sym, ◌∙◌, arith}
-use Rattle.std.specs.Int.{w16, w32, from_be_bytes}
+use Rattle.std.proofs.Common.{◌≡◌, ℕ, zero, suc, ◌+◌, ◌-◌, ◌*◌, ◌%◌, ◌^◌, ◌<◌, ◌≤◌, Bool, true, false, cond, eqb, List, [], ◌∷◌, All, length, get_or, drop, sum, fold, refl, ap, sym, ◌∙◌, arith}
+use Rattle.std.specs.Bool.{FalseIff}
+use Rattle.std.specs.Int.{w16, w32, w64, from_bool, from_be_bytes}
 use Rattle.std.proofs.lemmas.Bool.Decides.{nat_tests}
 use Rattle.std.proofs.lemmas.List.Elements.{All-nil, All-cons, All-head, All-tail}
 use Rattle.std.proofs.lemmas.List.Sums.{sum_by-cons}
@@ -54,11 +55,11 @@ modulo_less m n k e some =
     let r : 1 + (n - 1) % 65535 ≡ 1 + (m - 1) % 65535 = omega (arith, e, some) in
     rw (e1, e2) r
 
-modulo_more : (n k : ℕ) → k ≤ n → modulo n ≡ modulo (n + k * 65535)
-modulo_more zero k le =
-    let e : 0 ≡ 0 + k * 65535 = omega (arith, le) in
+modulo_more : (n k : ℕ) → (n ≡ 0 → k ≡ 0) → modulo n ≡ modulo (n + k * 65535)
+modulo_more zero k none =
+    let e : 0 ≡ 0 + k * 65535 = omega (arith, none refl) in
     ap modulo e
-modulo_more (suc n) k le = modulo_less (suc n + k * 65535) (suc n) k (omega arith) (omega arith)
+modulo_more (suc n) k none = modulo_less (suc n + k * 65535) (suc n) k (omega arith) (omega arith)
 
 -- two words as one number of four octets
 pub four_words : (total : ℕ) (s : List ℕ) → 4 ≤ length s
@@ -70,19 +71,37 @@ four_words total (a ∷ b ∷ c ∷ d ∷ s) long =
     let x = total + sum (words_of (a ∷ b ∷ c ∷ d ∷ s)) in
     let e : x ≡ total + high + low + sum (words_of s) = omega (arith, sum_by-cons f high (low ∷ words_of s), sum_by-cons f low (words_of s)) in
     let m : total + from_be_bytes w32 (a ∷ b ∷ c ∷ d ∷ []) + sum (words_of s) ≡ x + high * 65535 = omega (arith, e) in
-    ap modulo m ∙ sym (modulo_more x high (omega (arith, e)))
+    ap modulo m ∙ sym (modulo_more x high (λ zero. omega (arith, e, zero)))
 four_words total [] long = absurd (omega arith)
 four_words total (a ∷ []) long = absurd (omega arith)
 four_words total (a ∷ b ∷ []) long = absurd (omega arith)
 four_words total (a ∷ b ∷ c ∷ []) long = absurd (omega arith)
 
--- the same of two such numbers
+-- four words as one number of eight octets
 pub eight_words : (total : ℕ) (s : List ℕ) → 8 ≤ length s
-    → modulo (total + from_be_bytes w32 (get_or s 0 0 ∷ get_or s 1 0 ∷ get_or s 2 0 ∷ get_or s 3 0 ∷ [])
-    + from_be_bytes w32 (get_or s 4 0 ∷ get_or s 5 0 ∷ get_or s 6 0 ∷ get_or s 7 0 ∷ []) + sum (words_of (drop 8 s))) ≡ modulo (total + sum (words_of s))
-eight_words total (a ∷ b ∷ c ∷ d ∷ s) long =
-    four_words (total + from_be_bytes w32 (a ∷ b ∷ c ∷ d ∷ [])) s (omega arith) ∙ four_words total (a ∷ b ∷ c ∷ d ∷ s) (omega arith)
-eight_words total [] long = absurd (omega arith)
-eight_words total (a ∷ []) long = absurd (omega arith)
-eight_words total (a ∷ b ∷ []) long = absurd (omega arith)
+    → modulo (total + from_be_bytes w64 (get_or s 0 0 ∷ get_or s 1 0 ∷ get_or s 2 0 ∷ get_or s 3 0 ∷ get_or s 4 0 ∷ get_or s 5 0 ∷ get_or s 6 0 ∷ get_or s 7 0 ∷ []) + sum (words_of (drop 8 s)))
+    ≡ modulo (total + sum (words_of s))
+eight_words total (a ∷ b ∷ c ∷ d ∷ e ∷ f ∷ g ∷ h ∷ s) long =
+    let high = from_be_bytes w32 (a ∷ b ∷ c ∷ d ∷ []) in
+    let low = from_be_bytes w32 (e ∷ f ∷ g ∷ h ∷ []) in
+    let n = total + high + low + sum (words_of s) in
+    let m : total + from_be_bytes w64 (a ∷ b ∷ c ∷ d ∷ e ∷ f ∷ g ∷ h ∷ []) + sum (words_of s) ≡ n + high * 65537 * 65535 = omega arith in
+    ap modulo m
+    ∙ sym (modulo_more n (high * 65537) (λ zero. omega (arith, zero)))
+    ∙ four_words (total + high) (e ∷ f ∷ g ∷ h ∷ s) (omega arith)
+    ∙ four_words total (a ∷ b ∷ c ∷ d ∷ e ∷ f ∷ g ∷ h ∷ s) (omega arith)
+eight_words total (a ∷ b ∷ c ∷ d ∷ e ∷ f ∷ g ∷ []) long = absurd (omega arith)
+eight_words total (a ∷ b ∷ c ∷ d ∷ e ∷ f ∷ []) long = absurd (omega arith)
+eight_words total (a ∷ b ∷ c ∷ d ∷ e ∷ []) long = absurd (omega arith)
+eight_words total (a ∷ b ∷ c ∷ d ∷ []) long = absurd (omega arith)
 eight_words total (a ∷ b ∷ c ∷ []) long = absurd (omega arith)
+eight_words total (a ∷ b ∷ []) long = absurd (omega arith)
+eight_words total (a ∷ []) long = absurd (omega arith)
+eight_words total [] long = absurd (omega arith)
+
+-- a carry out of 64 bits that comes in again: 2 ^ 64 is 1 modulo 65535
+pub carry_in : (total more wrapped : ℕ) (carry : Bool) → total < 2 ^ 65 → wrapped ≡ total % 2 ^ 64 → FalseIff carry (total < 2 ^ 64) → modulo (wrapped + from_bool carry + more) ≡ modulo (total + more)
+carry_in total more wrapped true small e is = modulo_less (total + more) (wrapped + 1 + more) 281479271743489 (omega (arith, e, is)) (omega arith)
+carry_in total more wrapped false small e is =
+    let same : wrapped + 0 + more ≡ total + more = omega (arith, e, is) in
+    ap modulo same

@@ -1,7 +1,7 @@
 // Options laid out again: each at the first free octet with its old place modulo the alignment (RFC 8200,
 // section 4.2 and appendix A), and the gaps as padding. Places are octets of the packet.
 
-ghost use Rattle.std.specs.Prelude.{◌≡◌, ℕ, ◌+◌, ◌*◌, ◌^◌, ◌<◌, ◌≤◌, List, [], ◌∷◌, ◌++◌, length, OnOk};
+ghost use Rattle.std.specs.Prelude.{◌≡◌, ℕ, ◌+◌, ◌*◌, ◌^◌, ◌<◌, ◌≤◌, List, [], ◌∷◌, ◌++◌, length, replicate, OnOk};
 ghost use Rattle.ip_headers.specs.declared.version.Version.TheVariants.{V6};
 ghost use Rattle.ip_headers.specs.Options.{others_of};
 ghost use Rattle.ip_headers.specs.Reading.{first_place};
@@ -63,8 +63,18 @@ pub fn push_padding(version: Version, size: usize, out: &mut Vec<u8>) -> Result<
 {
     match version {
         Version::V6 if size >= 2 => push_pad_n(size, out),
-        _ => out.extend_from_slice(&[0; 8][..size]),
+        _ => push_zeros(size, out),
     }
+}
+
+/// Writes zeros at the end, of which there are few, and mostly none.
+fn push_zeros(size: usize, out: &mut Vec<u8>) -> Result<(), AllocError>
+    ensures { OnOk result (out.new.items ≡ out.old.items ++ replicate size 0) }
+{
+    for _ in 0..size {
+        out.push(0)?;
+    }
+    Ok(())
 }
 
 /// The first free octet after an option, if it is kept.

@@ -4,9 +4,6 @@ ghost use Rattle.std.specs.Prelude.{◌≡◌, ℕ, ◌+◌, ◌^◌, ◌<◌, �
 ghost use Rattle.ip_headers.specs.Sum.{ones_add, ones_sum, words_of};
 ghost use Rattle.ip_headers.specs.inside.Modulo.{modulo};
 
-/// A multiple of 65,535 that numbers of 32 bits can be added to.
-const MULTIPLE: u64 = 0xffff_0000_0000;
-
 /// The one's complement sum of two numbers of 16 bits: a carry out of them comes in again below (RFC 791, section 3.1).
 pub fn ones_add(a: u16, b: u16) -> u16
     ensures { result ≡ ones_add a b }
@@ -26,30 +23,26 @@ pub fn ones_sum(octets: &[u8]) -> u16
     let mut total = 0;
     let mut rest = octets;
     while let [a, b, c, d, e, f, g, h, after @ ..] = rest {
-        let first = u32::from_be_bytes([*a, *b, *c, *d]);
-        let second = u32::from_be_bytes([*e, *f, *g, *h]);
-        total = with_eight(total, first, second);
+        let eight = u64::from_be_bytes([*a, *b, *c, *d, *e, *f, *g, *h]);
+        total = carried(total, eight);
         rest = after;
     }
-    modulo(total + last_sum(rest))
+    modulo(carried(total, last_sum(rest)))
 }
 
-/// A sum with two numbers of 32 bits more, or what it is modulo a multiple of 65,535, so that no sum is too large.
-fn with_eight(total: u64, first: u32, second: u32) -> u64
-    requires { total ≤ MULTIPLE }
-    ensures same { (more : ℕ) → modulo (result + more) ≡ modulo (total + first + second + more) }
-    ensures small { result ≤ MULTIPLE }
+/// The sum of two numbers of 64 bits, whose carry comes in again below: 2^64 is 1 modulo 65,535.
+fn carried(a: u64, b: u64) -> u64
+    ensures { (more : ℕ) → modulo (result + more) ≡ modulo (a + b + more) }
 {
-    let sum = total + (u64::from(first) + u64::from(second));
-    if sum > MULTIPLE { sum - MULTIPLE } else { sum }
+    let (sum, carry) = a.overflowing_add(b);
+    sum + u64::from(carry)
 }
 
 /// What fewer than eight octets add to a sum that is taken modulo 65,535.
 fn last_sum(octets: &[u8]) -> u64
     requires { length octets.now < 8 }
-    ensures value { (total : ℕ)
+    ensures { (total : ℕ)
         → modulo (total + result) ≡ modulo (total + sum (words_of octets.now)) }
-    ensures small { result < 2 ^ 33 }
 {
     let [a, b, c, d, after @ ..] = octets else {
         return few_sum(octets);

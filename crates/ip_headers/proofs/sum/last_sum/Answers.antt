@@ -5,8 +5,8 @@ use Rattle.ip_headers.specs.inside.Modulo.{modulo}
 use Rattle.ip_headers.proofs.Sums.{four_words}
 use Rattle.ip_headers.proofs.sum.last_sum.Goals as goal
 
-pub returns-clause-value : goal.returns-clause-value
-returns-clause-value c = λ total.
+pub returns : goal.returns
+returns c = λ total.
     let s = c.args.octets.now in
     let front = c.from_be_bytes.result in
     let back = c.few_sum-2.result in

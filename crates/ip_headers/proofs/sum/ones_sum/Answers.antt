@@ -1,4 +1,4 @@
-use Rattle.std.proofs.Common.{◌≡◌, ◌+◌, drop, sum, ap, sym, ◌∙◌}
+use Rattle.std.proofs.Common.{◌≡◌, ◌+◌, drop, sum, ap, sym, ◌∙◌, arith}
 use Rattle.std.proofs.lemmas.List.{take_rest}
 use Rattle.ip_headers.specs.Sum.{words_of}
 use Rattle.ip_headers.specs.inside.Modulo.{modulo}
@@ -9,19 +9,20 @@ pub loop-rest-preserved : goal.loop-rest-preserved
 loop-rest-preserved c =
     let l = c.loop-rest in
     let s = l.rest.now in
-    let first = c.from_be_bytes-first in
-    let second = c.from_be_bytes-second in
-    let e : modulo (l.total + first.result + second.result + sum (words_of (drop 8 s))) ≡ modulo (l.total + sum (words_of s)) =
-    rw (first.ensures, second.ensures) (eight_words l.total s c.in-len8-up.len_at_least) in
+    let eight = c.from_be_bytes-eight in
+    let e : modulo (l.total + eight.result + sum (words_of (drop 8 s))) ≡ modulo (l.total + sum (words_of s)) =
+    rw eight.ensures (eight_words l.total s c.in-len8-up.len_at_least) in
     record {
-      small = c.with_eight-total.ensures.small;
       octets = l.invariant.octets;
       same =
-          c.with_eight-total.ensures.same _ ∙ ap (λ xs. modulo (l.total + first.result + second.result + sum (words_of xs))) (take_rest s 8)
+          c.carried-total.ensures _ ∙ ap (λ xs. modulo (l.total + eight.result + sum (words_of xs))) (take_rest s 8)
           ∙ e ∙ l.invariant.same;
     }
 
 pub returns : goal.returns
 returns c =
     let l = c.loop-rest in
-    c.modulo.ensures ∙ c.last_sum.ensures.value l.total ∙ l.invariant.same ∙ sym (sum_is c.args.octets.now l.invariant.octets)
+    let none : c.carried.result + 0 ≡ c.carried.result = omega arith in
+    let one : l.total + c.last_sum.result + 0 ≡ l.total + c.last_sum.result = omega arith in
+    c.modulo.ensures ∙ ap modulo (sym none) ∙ c.carried.ensures 0 ∙ ap modulo one
+    ∙ c.last_sum.ensures l.total ∙ l.invariant.same ∙ sym (sum_is c.args.octets.now l.invariant.octets)

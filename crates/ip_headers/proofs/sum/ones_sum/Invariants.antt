@@ -1,13 +1,11 @@
-use Rattle.std.proofs.Common.{◌≡◌, ◌+◌, ◌≤◌, sum, length}
+use Rattle.std.proofs.Common.{◌≡◌, ◌+◌, sum, length}
 use Rattle.octet_grammar.specs.Octets.{IsOctets}
-use Rattle.ip_headers.specs.declared.sum.TheConstants.{MULTIPLE}
 use Rattle.ip_headers.specs.Sum.{words_of}
 use Rattle.ip_headers.specs.inside.Modulo.{modulo}
 use Rattle.ip_headers.proofs.sum.ones_sum.Given as goal
 
 abbrev pub invariant-loop-rest : goal.invariant-loop-rest
 invariant-loop-rest l = record {
-  small : l.total ≤ MULTIPLE;
   octets : IsOctets l.octets;
   same : modulo (l.total + sum (words_of l.rest)) ≡ modulo (sum (words_of l.octets));
 }
