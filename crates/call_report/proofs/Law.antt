@@ -2,7 +2,7 @@
 use Rattle.std.proofs.Common.{◌≡◌, ◌<◌, ℕ, ◌+◌, suc, List, [], ◌++◌, length, take, slice_get, Some, Result, Ok, Err, refl, sym, ap, subst, ◌∙◌, arith, append_assoc, length-append, inl, inr}
 use Rattle.std.specs.Prelude.{IsTrue, OnOk, OnErr}
 use Rattle.std.proofs.Math.Seq.{take-append-add}
-use Rattle.std.proofs.lemmas.List.{append-nil, take-append-le, take_all}
+use Rattle.std.proofs.lemmas.List.{append-nil}
 use Rattle.net_io.specs.declared.fault.IoFault.{IoFault}
 use Rattle.net_io.specs.declared.fault.IoFault.TheVariants.{Failed, OutOfMemory as NoMemory}
 use Rattle.net_io.specs.Faults.{Rose}

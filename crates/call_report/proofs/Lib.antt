@@ -7,3 +7,4 @@ pub mod Flows
 pub mod Shown
 pub mod Pieces
 pub mod Counting
+pub mod Denials

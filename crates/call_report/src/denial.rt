@@ -1,6 +1,7 @@
 //! Lines of denials and verdicts.
 
-ghost use Rattle.std.specs.Prelude.{◌≡◌, ◌++◌, OnOk, OnErr};
+ghost use Rattle.std.specs.Prelude.{◌≡◌, ◌<◌, ◌++◌, codes, OnOk, OnErr};
+ghost use Rattle.std.specs.Fmt.{decimal};
 ghost use Rattle.call_report.specs.Lines.Denial.{detail_of, denial_text, delivered_text, verdict_line, with_label};
 ghost use Rattle.call_report.specs.inside.Extends.{Extends};
 
@@ -61,12 +62,25 @@ pub(crate) fn append_denied(denial: &Denial, line: &mut Vec<u8>) -> Result<(), O
     ensures ok { OnOk result (line.new.items ≡ line.old.items ++ denial_text denial.now) }
     ensures err { OnErr result (Extends line.old.items line.new.items) }
 {
-    line.extend_from_slice(b"denied ")?;
-    write_decimal(u64::from(denial.number()), line)?;
-    line.extend_from_slice(b" ")?;
+    append_number(denial.number(), line)?;
     line.extend_from_slice(denial.name().as_bytes())?;
     append_detail(denial, line)?;
     Ok(())
+}
+
+/// Appends that a packet is denied, and the number of the reason, with a blank behind it: all at once, since it has two digits at the most.
+#[tactic(auto, using(std::proofs::lemmas::Fmt::decimal_digit, octet_grammar::proofs::Digits::two_digits))]
+fn append_number(number: u8, line: &mut Vec<u8>) -> Result<(), AllocError>
+    requires { number < 100 }
+    ensures ok { OnOk result
+        (line.new.items ≡ line.old.items ++ (codes "denied " ++ decimal number ++ codes " ")) }
+    ensures err { OnErr result (line.new.items ≡ line.old.items) }
+{
+    let (tens, ones) = (b'0' + number / 10, b'0' + number % 10);
+    if number < 10 {
+        return line.extend_from_slice(&[b'd', b'e', b'n', b'i', b'e', b'd', b' ', ones, b' ']);
+    }
+    line.extend_from_slice(&[b'd', b'e', b'n', b'i', b'e', b'd', b' ', tens, ones, b' '])
 }
 
 /// Appends the octet at fault, the category or the cause, where the denial has one.

@@ -1,6 +1,7 @@
 //! Lines of flows and of their packets.
 
-ghost use Rattle.std.specs.Prelude.{◌≡◌, ◌++◌, OnOk, OnErr};
+ghost use Rattle.std.specs.Prelude.{◌≡◌, ◌++◌, codes, OnOk, OnErr};
+ghost use Rattle.std.specs.Fmt.{decimal};
 ghost use Rattle.flow_lines.specs.Hop.{node_of};
 ghost use Rattle.call_report.specs.Lines.Flow.{flow_line, carrier_text, hop_node, versions_text, end_text, flow_end_line};
 ghost use Rattle.call_report.specs.inside.Versions.{versions_behind};
@@ -62,9 +63,7 @@ pub(crate) fn append_end(
         }
         End::Denied { hop, denial } => {
             append_denied(denial, line)?;
-            line.extend_from_slice(b" hop ")?;
-            write_decimal(u64::from(*hop), line)?;
-            line.extend_from_slice(b" node ")?;
+            append_hop(*hop, line)?;
             append_hop_node(names, hops, *hop, line)
         }
     }
@@ -86,6 +85,26 @@ fn append_carrier(carrier: Carrier, line: &mut Vec<u8>) -> Result<(), OutOfMemor
             write_decimal(u64::from(doi), line)?;
         }
     }
+    Ok(())
+}
+
+/// Appends the number of a hop, at once where it has one digit, and the word for its node.
+#[tactic(auto, using(std::proofs::lemmas::Fmt::decimal_digit))]
+fn append_hop(hop: u32, line: &mut Vec<u8>) -> Result<(), OutOfMemory>
+    ensures ok { OnOk result
+        (line.new.items ≡ line.old.items ++ (codes " hop " ++ decimal hop ++ codes " node ")) }
+    ensures err { OnErr result (Extends line.old.items line.new.items) }
+{
+    if hop < 10 {
+        let digit = b'0' + hop as u8;
+        line.extend_from_slice(&[
+            b' ', b'h', b'o', b'p', b' ', digit, b' ', b'n', b'o', b'd', b'e', b' ',
+        ])?;
+        return Ok(());
+    }
+    line.extend_from_slice(b" hop ")?;
+    write_decimal(u64::from(hop), line)?;
+    line.extend_from_slice(b" node ")?;
     Ok(())
 }
 

@@ -8,10 +8,16 @@ use octet_grammar::write_decimal;
 use std::alloc::AllocError;
 
 /// Appends an octet, that of a fault or of an option.
+#[tactic(auto, using(octet_grammar::proofs::Digits::two_digits))]
 pub(crate) fn append_octet(octet: u64, line: &mut Vec<u8>) -> Result<(), AllocError>
     ensures ok { OnOk result (line.new.items ≡ line.old.items ++ octet_detail octet) }
     ensures err { OnErr result (Extends line.old.items line.new.items) }
 {
+    // Mostly it has two digits, and then all comes at once.
+    if 10 <= octet && octet < 100 {
+        let (tens, ones) = (b'0' + octet as u8 / 10, b'0' + octet as u8 % 10);
+        return line.extend_from_slice(&[b' ', b'o', b'c', b't', b'e', b't', b' ', tens, ones]);
+    }
     line.extend_from_slice(b" octet ")?;
     write_decimal(octet, line)
 }

@@ -83,7 +83,7 @@ fn push_piece(
         ≡ pieces_of versions.old.items 0 ends.old.items) }
 {
     let before = size(versions);
-    versions.extend_from_slice(piece)?;
+    append_piece(versions, piece)?;
     match ends.push(size(versions) as u32) {
         Ok(()) => Ok(()),
         Err(_failed) => {
@@ -91,6 +91,18 @@ fn push_piece(
             Err(OutOfMemory)
         }
     }
+}
+
+/// Appends the versions of a packet. Mostly there is one, and to copy octets of a length that isn't known costs more.
+fn append_piece(versions: &mut Vec<u32>, piece: &[u32]) -> Result<(), OutOfMemory>
+    ensures ok { OnOk result (versions.new.items ≡ versions.old.items ++ piece.now) }
+    ensures err { OnErr result (versions.new.items ≡ versions.old.items) }
+{
+    match piece {
+        [one] => versions.push(*one)?,
+        _ => versions.extend_from_slice(piece)?,
+    }
+    Ok(())
 }
 
 /// How many versions there are.
