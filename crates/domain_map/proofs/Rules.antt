@@ -1,27 +1,27 @@
 -- What the map makes of its entries.
-use Rattle.std.proofs.Common.{◌≡◌, ℕ, zero, suc, ◌+◌, ◌-◌, ◌*◌, ◌<◌, ◌≤◌, Bool, true, false, cond, not, List, [], ◌∷◌, ◌++◌, length, take, drop, map, remove, slice_get, Some, None, Option, is_some, option_map, option_and_then, Result, Ok, Err, refl, sym, ap, ap₂, ◌∙◌, subst, arith, one-add, append-nil, append_assoc, rules}
+use Rattle.std.proofs.Common.{◌≡◌, ℕ, zero, suc, ◌+◌, ◌-◌, ◌<◌, ◌≤◌, Bool, true, false, cond, not, List, [], ◌∷◌, ◌++◌, length, take, drop, map, remove, slice_get, Some, None, Option, is_some, option_map, option_and_then, Result, Ok, Err, refl, sym, ap, ap₂, ◌∙◌, subst, arith, one-add}
 use Rattle.std.specs.Prelude.{nat_lt, if◌then◌else◌}
-use Rattle.std.specs.List.{position, position_or_len, flat_map}
-use Rattle.std.specs.Map.{lookup, remove_entry, keys_of, values_of}
+use Rattle.std.specs.List.{position, position_or_len}
+use Rattle.std.specs.Map.{remove_entry, keys_of, values_of}
 use Rattle.indexmap.specs.IndexMap.{insert_entry, set_value_at}
 use Rattle.std.specs.List.{IsDistinct, AllByRecursion}
 use Rattle.std.specs.Bool.{one_answer}
 use Rattle.std.specs.Str.{bytes_eq}
 use Rattle.std.proofs.lemmas.Slice.Eq.{bytes_eq-Decides}
-use Rattle.std.proofs.lemmas.Bool.{ltb-true, ltb-false, cond-true, cond-false, lt-ltb, le-ltb, cases_lt}
+use Rattle.std.proofs.lemmas.Bool.{ltb-true, ltb-false, cond-true, cond-false, lt-ltb, le-ltb}
 use Rattle.std.proofs.lemmas.List.{length-append, length-map}
 use Rattle.std.proofs.lemmas.Option.{slice_get-map, slice_get_within, none-some, same_Some}
 use Rattle.std.proofs.NetLemmas.Options.{cond_some}
 use Rattle.address_text.specs.Prefix.{AddressBlock}
 use Rattle.domain_map.specs.declared.protocol.Protocol.{Protocol}
 use Rattle.domain_map.specs.declared.rule.Rule.{Rule}
-use Rattle.domain_map.specs.declared.rule.Rule.TheVariants.{Plain, Addresses}
+use Rattle.domain_map.specs.declared.rule.Rule.TheVariants.{Addresses}
 use Rattle.domain_map.specs.declared.fault.MapFault.{MapFault}
 use Rattle.domain_map.specs.declared.fault.MapFault.TheVariants as Fault
 use Rattle.domain_map.specs.Addresses.{map_ok, IsRefusedBy}
 use Rattle.domain_map.specs.Domains.{Domain, Domains, Line, same_domain, rule_of, first_rule, fuller, fewer, added, deleted, with_addresses, rule_lines, lines_of}
 use Rattle.domain_map.specs.inside.Fewer.{LeavesOf}
-use Rattle.domain_map.proofs.Ranks.{no_place, pol-le}
+use Rattle.domain_map.proofs.Ranks.{no_place}
 use Rattle.domain_map.proofs.Lookups.{lookup_none, lookup_some, removed, some_left}
 
 -- places among keys are places among entries
@@ -220,15 +220,15 @@ lines_left ds i e is =
 
 -- copying
 
-same_domain-sym : (a b : Domain) → same_domain a b ≡ same_domain b a
+pub same_domain-sym : (a b : Domain) → same_domain a b ≡ same_domain b a
 same_domain-sym None None = refl
 same_domain-sym None (Some b) = refl
 same_domain-sym (Some a) None = refl
 same_domain-sym (Some a) (Some b) = one_answer (bytes_eq a b) (bytes_eq b a) (bytes_eq-Decides a b) (λ e. sym ((bytes_eq-Decides b a).0 e), λ e. (bytes_eq-Decides b a).1 (sym e))
 
-all_at : (P : Domain → Type 0) (es : Domains) (i : ℕ) (d : Domain) (r : Rule) → AllByRecursion P (keys_of es) → slice_get es i ≡ Some (d, r) → P d
+pub all_at : {X : Type 0} (P : Domain → Type 0) (es : List (Domain × X)) (i : ℕ) (d : Domain) (r : X) → AllByRecursion P (keys_of es) → slice_get es i ≡ Some (d, r) → P d
 all_at P [] i d r h e = absurd (none-some (d, r) e)
-all_at P (x ∷ xs) zero d r h e = subst (λ (z : Domain × Rule). P z.0) (same_Some x (d, r) e) h.0
+all_at {X} P (x ∷ xs) zero d r h e = subst (λ (z : Domain × X). P z.0) (same_Some x (d, r) e) h.0
 all_at P (x ∷ xs) (suc i) d r h e = all_at P xs i d r h.1 e
 
 absent_before : (ds : Domains) (i : ℕ) (d : Domain) (r : Rule) → IsDistinct same_domain (keys_of ds) → slice_get ds i ≡ Some (d, r)

@@ -18,6 +18,6 @@ pub use address_text::{
 };
 pub use fault::{MapFault, StaticFault, Unknown};
 pub use map::DomainMap;
-pub use named::value_of;
+pub use named::{value_of, value_or_default};
 pub use protocol::Protocol;
 pub use static_map::StaticMap;

@@ -7,7 +7,7 @@ ghost use Rattle.domain_map.specs.Addresses.{IsRefusedBy};
 ghost use Rattle.domain_map.specs.Domains.{Domain, same_domain, added, deleted, find_of, names_doi_of, lines_of};
 
 use crate::fault::{MapFault, Unknown};
-use crate::named::value_of;
+use crate::named::value_or_default;
 use crate::protocol::Protocol;
 use crate::rule::Rule;
 use address_text::{Address, Name, Prefix};
@@ -54,10 +54,7 @@ impl DomainMap {
     pub fn find(&self, domain: &Name, address: &Address) -> Option<Protocol>
         ensures { result ≡ find_of self.now domain.now address.now }
     {
-        match value_of(&self.rules, Some(domain)) {
-            Some(rule) => rule.find(address),
-            None => value_of(&self.rules, None)?.find(address),
-        }
+        value_or_default(&self.rules, domain)?.find(address)
     }
 
     /// Adds an entry, or an address to the entry of a domain; `None` is the default domain. After a refusal nothing has changed.

@@ -1,6 +1,7 @@
 //! Values by names, where no name stands for the default.
 
-ghost use Rattle.std.specs.Prelude.{◌≡◌, ◌≤◌, length, option_copied};
+ghost use Rattle.std.specs.Prelude.{◌≡◌, ◌≤◌, length, Some, None, option_copied};
+ghost use Rattle.std.specs.Option.{option_or};
 ghost use Rattle.std.specs.Map.{lookup};
 ghost use Rattle.domain_map.specs.Domains.{same_domain};
 
@@ -22,6 +23,40 @@ pub fn value_of<'a, V>(entries: &'a IndexMap<Option<Name>, V>, name: Option<&Nam
     } else {
         entries.get(&key_of(name))
     }
+}
+
+/// The value of a name, or else the default one.
+#[inline(always)]
+pub fn value_or_default<'a, V>(entries: &'a IndexMap<Option<Name>, V>, name: &Name) -> Option<&'a V>
+    ensures { option_copied result ≡ option_or
+        (lookup (same_domain (Some name.now)) entries.now.entries)
+        (lookup (same_domain None) entries.now.entries) }
+{
+    if entries.len() <= FEW {
+        return first_or_default(entries, name);
+    }
+    match value_of(entries, Some(name)) {
+        Some(value) => Some(value),
+        None => value_of(entries, None),
+    }
+}
+
+// The same from the front, once over all entries.
+fn first_or_default<'a, V>(entries: &'a IndexMap<Option<Name>, V>, name: &Name) -> Option<&'a V>
+    ensures { option_copied result ≡ option_or
+        (lookup (same_domain (Some name.now)) entries.now.entries)
+        (lookup (same_domain None) entries.now.entries) }
+{
+    let mut default = None;
+    for place in 0..entries.len() {
+        let (key, value) = entry_at(entries, place);
+        match key {
+            Some(own) if own == name => return Some(value),
+            Some(_) => {}
+            None => default = Some(value),
+        }
+    }
+    default
 }
 
 // The same from the front.

@@ -9,7 +9,7 @@ use crate::key::{entry_at, key_of};
 use crate::reply::Refusal;
 use crate::stop::Stop;
 use address_text::Name;
-use domain_map::value_of;
+use domain_map::value_or_default;
 use indexmap::IndexMap;
 use mls_label::OutOfMemory;
 use mls_range::{KeptRange, Range};
@@ -24,10 +24,7 @@ pub fn find_range<'a>(
 ) -> Option<&'a KeptRange>
     ensures { option_copied result ≡ find_range_of ranges.now.entries interface.now }
 {
-    match value_of(ranges, Some(interface)) {
-        Some(range) => Some(range),
-        None => value_of(ranges, None),
-    }
+    value_or_default(ranges, interface)
 }
 
 /// Adds the range of an interface that has none.
