@@ -1,12 +1,12 @@
 //! The packets of a capture, read in batches.
 
-ghost use Rattle.std.specs.Prelude.{◌≡◌, ◌≤◌, ◌<◌, ◌⊎◌, IsTrue, ◌+◌, [], length, None, Some, Ok, Err, IsSome, if◌then◌else◌, All, OnErr, IfOk, IfErr, true, false, vec_len, vec_capacity};
+ghost use Rattle.std.specs.Prelude.{◌≡◌, ◌≤◌, ◌<◌, ◌⊎◌, IsTrue, ◌+◌, [], length, take, None, Some, Ok, Err, IsSome, if◌then◌else◌, All, OnErr, IfOk, IfErr, true, false, vec_len, vec_capacity};
 ghost use Rattle.net_io.specs.Depot.{OnlyReads};
 ghost use Rattle.capture_reader.specs.Reader.{file_name_of, format_of, IsReadable, IsFileBegun};
 ghost use Rattle.capture_reader.specs.Written.{IsTime};
 ghost use Rattle.label_flow.specs.Feed.{HasFetched};
 ghost use Rattle.flow_run.specs.inside.Flown.{IsFresh};
-ghost use Rattle.flow_run.specs.inside.Source.{IsAmid, StandsBy, HasGot, HasOnlyRead, IsFed, HasFilled, HasStepped, left_in, due_in, pending, is_end, file_of, behind_at};
+ghost use Rattle.flow_run.specs.inside.Source.{IsAmid, StandsBy, HasGot, HasOnlyRead, IsFed, HasFilled, read_into, HasStepped, left_in, due_in, pending, is_end, file_of, behind_at};
 
 use crate::end::FlowStop;
 use capture_reader::{CaptureReader, FileFault, ReadStop};
@@ -15,7 +15,6 @@ use net_io::Depot;
 use packet_walk::{Octets, PacketIn};
 use pcap_frames::FrameHead;
 use std::alloc::Global;
-use std::mem;
 
 /// The most packets of a batch.
 const BATCH: usize = 1024;
@@ -43,32 +42,32 @@ pub struct Source {
     pub most: u64,
     pub read: u64,
     pub behind: Option<Behind>,
-    /// Packets that were given back.
-    pub spare: Vec<PacketIn>,
     /// The times of the batch's frames, of which those in front of `at` are used.
     pub heads: Vec<FrameHead>,
     pub at: usize,
 }
 
-// A packet to read into, one that was given back if there is one.
-fn spare_packet(alloc: Global, spare: &mut Vec<PacketIn>) -> PacketIn {
-    match spare.pop() {
-        Some(packet) => packet,
-        None => PacketIn {
-            bytes: Octets::of(Vec::new(alloc)),
-            is_ip: false,
-        },
-    }
-}
-
-// Whether there is room for a packet and its time.
-fn has_room(batch: &mut Vec<PacketIn>, heads: &mut Vec<FrameHead>) -> bool
-    ensures batch { batch.new.items ≡ batch.old.items }
+// Makes room for a packet and its time: behind those of the batch there is no packet yet, or one whose room is used again.
+fn has_place(alloc: Global, batch: &mut Vec<PacketIn>, heads: &mut Vec<FrameHead>) -> bool
+    requires { length heads.old.items ≤ length batch.old.items }
+    ensures batch { take (length heads.old.items) batch.new.items
+        ≡ take (length heads.old.items) batch.old.items }
     ensures heads { heads.new.items ≡ heads.old.items }
-    ensures free { IsTrue result → (vec_len batch.new < vec_capacity batch.new)
+    ensures place { IsTrue result → (length heads.new.items < length batch.new.items)
         × (vec_len heads.new < vec_capacity heads.new) }
 {
-    batch.reserve(1).is_ok() && heads.reserve(1).is_ok()
+    if heads.reserve(1).is_err() {
+        return false;
+    }
+    heads.len() < batch.len() || batch.push(empty_packet(alloc)).is_ok()
+}
+
+// A packet to read into.
+fn empty_packet(alloc: Global) -> PacketIn {
+    PacketIn {
+        bytes: Octets::of(Vec::new(alloc)),
+        is_ip: false,
+    }
 }
 
 // What stands behind the packets that were read, where the reader stops.
@@ -95,6 +94,7 @@ fn read_one<D: Depot>(
         → IsAmid source.old (file_of (D.state depot.old) source.old) }
     requires within { source.old.read ≤ source.old.most }
     requires begins { source.old.behind ≡ None }
+    requires places { length source.old.heads.items ≤ length batch.old.items }
     ensures within { source.new.read ≤ source.new.most }
     ensures ready { IsReadable (D.state depot.new) source.new.reader }
     ensures reads { HasOnlyRead source.new.behind (file_name_of source.old.reader)
@@ -102,18 +102,20 @@ fn read_one<D: Depot>(
     ensures stands { IsTrue (D.state depot.old).tells
         → StandsBy source.new.behind source.new (file_of (D.state depot.old) source.old) }
     ensures got { HasGot (D.state depot.old).tells (file_of (D.state depot.old) source.old)
-        source.old source.new batch.old.items batch.new.items }
+        source.old source.new
+        (read_into source.old batch.old.items) (read_into source.new batch.new.items) }
     ensures more { result ≡ true → source.new.behind ≡ None }
     ensures last { result ≡ false → IsSome source.new.behind }
-    ensures count { length batch.new.items
-        ≡ length batch.old.items + (if result then 1 else 0) }
+    ensures count { length source.new.heads.items
+        ≡ length source.old.heads.items + (if result then 1 else 0) }
+    ensures places { length source.new.heads.items ≤ length batch.new.items }
 {
-    if !has_room(batch, &mut source.heads) {
+    if !has_place(alloc, batch, &mut source.heads) {
         source.behind = Some(Behind::NoMemory);
         return false;
     }
-    let mut packet = spare_packet(alloc, &mut source.spare);
-    match source.reader.next(depot, &mut packet) {
+    let place = source.heads.len();
+    match source.reader.next(depot, &mut batch[place]) {
         Ok(Some(head)) => {
             if source.read == source.most {
                 source.behind = Some(Behind::TooMany);
@@ -121,7 +123,6 @@ fn read_one<D: Depot>(
             }
             source.read += 1;
             source.heads.push_reserved(head);
-            batch.push_reserved(packet);
             true
         }
         Ok(None) => {
@@ -135,18 +136,6 @@ fn read_one<D: Depot>(
     }
 }
 
-// Empties the batch, whose packets are kept for what is read next.
-fn give_back(source: &mut Source, batch: &mut Vec<PacketIn>)
-    ensures empty { (batch.new.items ≡ []) × (source.new.heads.items ≡ []) × (source.new.at ≡ 0) }
-    ensures same { (source.new.reader ≡ source.old.reader) × (source.new.most ≡ source.old.most)
-        × (source.new.read ≡ source.old.read) × (source.new.behind ≡ source.old.behind) }
-{
-    mem::swap(batch, &mut source.spare);
-    batch.clear();
-    source.heads.clear();
-    source.at = 0;
-}
-
 // Reads until the batch is full, or up to what stands behind the last packet.
 fn fill<D: Depot>(alloc: Global, depot: &mut D, source: &mut Source, batch: &mut Vec<PacketIn>)
     requires ready { IsReadable (D.state depot.old) source.old.reader }
@@ -154,7 +143,7 @@ fn fill<D: Depot>(alloc: Global, depot: &mut D, source: &mut Source, batch: &mut
         → IsAmid source.old (file_of (D.state depot.old) source.old) }
     requires within { source.old.read ≤ source.old.most }
     requires begins { source.old.behind ≡ None }
-    requires empty { batch.old.items ≡ [] }
+    requires empty { source.old.heads.items ≡ [] }
     ensures within { source.new.read ≤ source.new.most }
     ensures ready { IsReadable (D.state depot.new) source.new.reader }
     ensures reads { HasOnlyRead source.new.behind (file_name_of source.old.reader)
@@ -162,11 +151,13 @@ fn fill<D: Depot>(alloc: Global, depot: &mut D, source: &mut Source, batch: &mut
     ensures stands { IsTrue (D.state depot.old).tells
         → StandsBy source.new.behind source.new (file_of (D.state depot.old) source.old) }
     ensures got { HasGot (D.state depot.old).tells (file_of (D.state depot.old) source.old)
-        source.old source.new batch.old.items batch.new.items }
-    ensures few { length batch.new.items ≤ 1024 }
-    ensures some { (0 < length batch.new.items) ⊎ IsSome source.new.behind }
+        source.old source.new
+        (read_into source.old batch.old.items) (read_into source.new batch.new.items) }
+    ensures few { length source.new.heads.items ≤ 1024 }
+    ensures places { length source.new.heads.items ≤ length batch.new.items }
+    ensures some { (0 < length source.new.heads.items) ⊎ IsSome source.new.behind }
 {
-    while batch.len() < BATCH {
+    while source.heads.len() < BATCH {
         if !read_one(alloc, depot, source, batch) {
             return;
         }
@@ -176,9 +167,10 @@ fn fill<D: Depot>(alloc: Global, depot: &mut D, source: &mut Source, batch: &mut
 // Fills the batch, unless what stands behind the last packet is known already.
 fn fill_on<D: Depot>(alloc: Global, depot: &mut D, source: &mut Source, batch: &mut Vec<PacketIn>)
     requires fed { IsFed (D.state depot.old) source.old }
-    requires empty { batch.old.items ≡ [] }
-    ensures { HasFilled (D.state depot.old) (D.state depot.new)
-        source.old source.new batch.new.items }
+    requires empty { source.old.heads.items ≡ [] }
+    ensures filled { HasFilled (D.state depot.old) (D.state depot.new)
+        source.old source.new (read_into source.new batch.new.items) }
+    ensures places { length source.new.heads.items ≤ length batch.new.items }
 {
     if source.behind.is_some() {
         return;
@@ -221,8 +213,10 @@ pub(crate) fn fetch_batch<D: Depot>(
     ensures stepped { HasStepped source.old source.new (D.state depot.old) (D.state depot.new) }
     ensures at { source.new.at ≤ length source.new.heads.items }
 {
-    give_back(source, batch);
+    source.heads.clear();
+    source.at = 0;
     fill_on(alloc, depot, source, batch);
+    batch.truncate(source.heads.len());
     if !batch.is_empty() {
         return Ok(true);
     }
@@ -251,7 +245,6 @@ pub(crate) fn begin_source<D: Depot>(
             most,
             read: 0,
             behind: None,
-            spare: Vec::new(alloc),
             heads: Vec::new(alloc),
             at: 0,
         }),

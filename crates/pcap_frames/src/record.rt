@@ -27,12 +27,27 @@ pub struct RecordHead {
 }
 
 /// Reads the head of a record at the octet `at` of a file, from the octets there: at least 16, or all that are left.
-#[tactic(auto, unfolding(crate::specs::Record::head_at))]
 pub fn read_record_head(
     order: OctetOrder,
     at: u64,
     octets: &[u8],
 ) -> Result<Option<RecordHead>, CaptureFault>
+    requires { at + length octets.now < 2 ^ 64 }
+    ensures value { result ≡ head_at order at octets.now }
+    ensures head { IfOk result (λ read. IfSome read (λ head. 16 ≤ length octets.now)) }
+    ensures captured { IfOk result (λ read. IfSome read (λ head. head.captured ≤ 262144)) }
+{
+    // Of either order by itself, so that it isn't asked for at each number.
+    match order {
+        OctetOrder::Little => read_head(OctetOrder::Little, at, octets),
+        OctetOrder::Big => read_head(OctetOrder::Big, at, octets),
+    }
+}
+
+// The same, whose order its caller knows.
+#[tactic(auto, unfolding(crate::specs::Record::head_at))]
+#[inline(always)]
+fn read_head(order: OctetOrder, at: u64, octets: &[u8]) -> Result<Option<RecordHead>, CaptureFault>
     requires { at + length octets.now < 2 ^ 64 }
     ensures value { result ≡ head_at order at octets.now }
     ensures head { IfOk result (λ read. IfSome read (λ head. 16 ≤ length octets.now)) }

@@ -123,6 +123,10 @@ pub record HasGot (tells : Bool) (file : List ℕ) (old new : Source) (batch bat
   pub short : All (λ packet. length packet.bytes ≤ 262144) packets
   pub read : IsTrue tells → AreRead file old new times packets
 
+-- the packets of a batch that were read, each with its time: those behind them are of the batch before
+abbrev pub read_into : Source → List PacketIn → List PacketIn
+read_into source batch = take (length source.heads.items) batch
+
 -- the numbers of failed reads: that of this name rose where one has failed, and else none has moved
 abbrev pub ReadsMove : Option Behind → List ℕ → (List ℕ → ℕ) → (List ℕ → ℕ) → Type 0
 ReadsMove None name old new = SameCounts old new

@@ -1,10 +1,10 @@
 use Rattle.std.proofs.Common.{◌≡◌, ◌≤◌, ◌-◌, IsTrue, length, None}
 use Rattle.capture_reader.specs.Reader.{file_name_of, IsReadable}
-use Rattle.flow_run.specs.inside.Source.{IsAmid, HasGot, HasOnlyRead, file_of}
+use Rattle.flow_run.specs.inside.Source.{IsAmid, HasGot, HasOnlyRead, read_into, file_of}
 use Rattle.flow_run.proofs.source.fill.Given as goal
 
 abbrev pub decreases-loop-alloc : goal.decreases-loop-alloc
-decreases-loop-alloc g l = 1024 - length l.batch.items
+decreases-loop-alloc g l = 1024 - length l.source.heads.items
 
 -- so many packets were read, one behind the other, and the reader stands in front of the next
 abbrev pub invariant-loop-alloc : goal.invariant-loop-alloc
@@ -16,7 +16,8 @@ invariant-loop-alloc g l =
       ready : IsReadable now l.source.reader;
       amid : IsTrue before.tells → IsAmid l.source (file_of before l.fn.source);
       reads : HasOnlyRead None (file_name_of l.fn.source.reader) before now;
-      got : HasGot before.tells (file_of before l.fn.source) l.fn.source l.source l.fn.batch.items l.batch.items;
+      got : HasGot before.tells (file_of before l.fn.source) l.fn.source l.source (read_into l.fn.source l.fn.batch.items) (read_into l.source l.batch.items);
       behind : l.source.behind ≡ None;
-      few : length l.batch.items ≤ 1024;
+      few : length l.source.heads.items ≤ 1024;
+      places : length l.source.heads.items ≤ length l.batch.items;
     }
