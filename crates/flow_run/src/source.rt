@@ -16,8 +16,18 @@ use packet_walk::{Octets, PacketIn};
 use pcap_frames::FrameHead;
 use std::alloc::Global;
 
-/// The most packets of a batch.
-const BATCH: usize = 1024;
+// The most packets of a batch for so many workers. One worker has each packet still near when it comes to it; for several, an order
+// has to be worth its way.
+fn most_at_once(workers: usize) -> usize
+    ensures some { 0 < result }
+    ensures few { result ≤ 1024 }
+{
+    match workers {
+        0 | 1 => 256,
+        2 => 512,
+        _ => 1024,
+    }
+}
 
 /// What stands behind the packets that were read.
 #[derive(Clone, Copy, Debug, PartialEq, Eq)]
@@ -38,6 +48,8 @@ pub enum Behind {
 #[derive(Drop)]
 pub struct Source {
     pub reader: CaptureReader,
+    /// How many workers its packets are for.
+    pub workers: usize,
     /// How many packets may be read, and how many were.
     pub most: u64,
     pub read: u64,
@@ -157,7 +169,8 @@ fn fill<D: Depot>(alloc: Global, depot: &mut D, source: &mut Source, batch: &mut
     ensures places { length source.new.heads.items ≤ length batch.new.items }
     ensures some { (0 < length source.new.heads.items) ⊎ IsSome source.new.behind }
 {
-    while source.heads.len() < BATCH {
+    let most = most_at_once(source.workers);
+    while source.heads.len() < most {
         if !read_one(alloc, depot, source, batch) {
             return;
         }
@@ -223,12 +236,13 @@ pub(crate) fn fetch_batch<D: Depot>(
     last_answer(source.behind)
 }
 
-/// Begins to read the capture of this name, of which so many packets may be read.
+/// Begins to read the capture of this name, of which so many packets may be read, for so many workers.
 pub(crate) fn begin_source<D: Depot>(
     alloc: Global,
     depot: &mut D,
     name: &FileName,
     most: u64,
+    workers: usize,
 ) -> Result<Source, ReadStop>
     ensures fresh { IfOk result (λ source. IsFresh name.now most source) }
     ensures fed { IfOk result (λ source. IsFed (D.state depot.new) source) }
@@ -242,6 +256,7 @@ pub(crate) fn begin_source<D: Depot>(
     match CaptureReader::begin(alloc, depot, name.text()) {
         Ok(reader) => Ok(Source {
             reader,
+            workers,
             most,
             read: 0,
             behind: None,

@@ -26,6 +26,6 @@ loop-alloc-preserved g c =
       reads = next_none _ _ _ _ _ _ was.reads was.got c.read_one.new.source _ none one.reads;
       got = next_got _ _ _ _ _ _ was.reads was.got _ _ one.got;
       behind = none;
-      few = omega (arith, (rw c.if-not-read_one.false at one.count), c.loop-alloc-test.true, c.len.ensures);
+      few = omega (arith, (rw c.if-not-read_one.false at one.count), c.loop-alloc-test.true, c.len.ensures, c.most_at_once-most.ensures.few);
       places = one.places;
     }
