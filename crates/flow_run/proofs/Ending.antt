@@ -476,7 +476,8 @@ module _ (plan : PlanState) (names : List (List ℕ)) (workers number most upto 
     unfolding frames
     heads_are =
         let left = map (λ (f : CapturedFrame). f.head) (frames_left was.source (file_of was.folder was.source)) in
-        ap (λ n. drop n was.source.heads.items ++ left) start.fresh.at
+        ap (λ n. (drop n was.source.fetched.items ++ was.source.heads.items) ++ left) start.fresh.at
+        ∙ ap (λ hs. (hs ++ was.source.heads.items) ++ left) start.fresh.fetched
         ∙ ap (λ hs. hs ++ left) start.fresh.heads
         ∙ ap (λ (f : List ℕ). map (λ (x : CapturedFrame). x.head) (frames_left was.source f)) file_was
 
@@ -563,7 +564,7 @@ start_of flow most before mid folder source octets apart read created head =
       here = λ told. created.here refl (ready told);
       others = λ told name other. created.others (ready told) name other ∙ read.kept told name;
       head = head;
-      fed = fed_kept mid folder source source created.told (λ told. created.others told (file_name_of source.reader) (λ is. apart (is ∙ ap Some read.fresh.name))) refl refl refl refl refl read.fed;
+      fed = fed_kept mid folder source source created.told (λ told. created.others told (file_name_of source.reader) (λ is. apart (is ∙ ap Some read.fresh.name))) refl refl refl refl refl refl read.fed;
       reads = λ name. created.reads name ∙ read.reads name;
       creates = λ name. created.moved name ∙ read.creates name;
       appends = λ name. created.appends name ∙ read.appends name;

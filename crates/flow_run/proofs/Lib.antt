@@ -1,5 +1,6 @@
 pub mod Places
 pub mod Reading
+pub mod Ahead
 pub mod Outputs
 pub mod Prints
 pub mod Steps

@@ -23,7 +23,7 @@ use Rattle.call_report.specs.Event.{capture_event}
 use Rattle.flow_run.specs.declared.source.Source.{Source}
 use Rattle.flow_run.specs.declared.source.Behind.{Behind}
 use Rattle.flow_run.specs.declared.source.Behind.TheVariants.{Whole, Broken, TooMany, Failed, NoMemory}
-use Rattle.flow_run.specs.inside.Source.{is_end, frames_left, file_of, IsAmid, behind_at, IsAtEnd, IsSame, AreRead, HasGot, HasOnlyRead, ReadsMove, IsFed, StandsBy}
+use Rattle.flow_run.specs.inside.Source.{is_end, frames_left, file_of, IsAmid, behind_at, IsAtEnd, IsSame, SameFetched, AreRead, HasGot, HasOnlyRead, ReadsMove, IsFed, StandsBy}
 
 -- ---- the frames that are left
 
@@ -180,14 +180,14 @@ module _ (source source' : Source) (file : List ℕ) (amid : IsAmid source file)
 
 -- ---- what was got
 
-module _ (tells : Bool) (file : List ℕ) (old new : Source) (batch batch' : List PacketIn) (same : IsSame old new) (at : new.at ≡ old.at) where
+module _ (tells : Bool) (file : List ℕ) (old new : Source) (batch batch' : List PacketIn) (same : IsSame old new) (fetched : SameFetched old new) where
   pub got_nothing : new.heads.items ≡ old.heads.items → batch' ≡ batch → (IsTrue tells → frames_left old file ≡ frames_left new file) → HasGot tells file old new batch batch'
   got_nothing heads packets left = record {
     times = [];
     packets = [];
     same = same;
     heads = heads ∙ sym (append-nil old.heads.items);
-    at = at;
+    fetched = fetched;
     behind = packets ∙ sym (append-nil batch);
     count = refl;
     written = All-nil _;
@@ -204,7 +204,7 @@ module _ (tells : Bool) (file : List ℕ) (old new : Source) (batch batch' : Lis
     packets = packet ∷ [];
     same = same;
     heads = heads;
-    at = at;
+    fetched = fetched;
     behind = packets;
     count = refl;
     written = one_written (format_of old.reader) head timely;
@@ -269,7 +269,7 @@ got_more tells file a b c xs ys zs one other = record {
   packets = one.packets ++ other.packets;
   same = same_more a b c one.same other.same;
   heads = other.heads ∙ ap (λ hs. hs ++ other.times) one.heads ∙ append_assoc a.heads.items one.times other.times;
-  at = other.at ∙ one.at;
+  fetched = record { times = other.fetched.times ∙ one.fetched.times; at = other.fetched.at ∙ one.fetched.at };
   behind = other.behind ∙ ap (λ ps. ps ++ other.packets) one.behind ∙ append_assoc xs one.packets other.packets;
   count = omega (arith, one.count, other.count, length-append one.times other.times, length-append one.packets other.packets);
   written =
@@ -284,6 +284,13 @@ pub times_more : (old new : Source) (times : List FrameHead) → IsSame old new 
 times_more old new times same heads before more =
     subst (λ (f : CaptureFormat). All (IsTime f) new.heads.items) (sym same.format)
     (subst (λ (hs : List FrameHead). All (IsTime (format_of old.reader)) hs) (sym heads) (All-append (IsTime (format_of old.reader)) old.heads.items times before more))
+
+-- the times of packets that were fetched
+pub times_same : (old new : Source) → IsSame old new → new.fetched.items ≡ old.fetched.items → All (IsTime (format_of old.reader)) old.fetched.items
+    → All (IsTime (format_of new.reader)) new.fetched.items
+times_same old new same fetched before =
+    subst (λ (f : CaptureFormat). All (IsTime f) new.fetched.items) (sym same.format)
+    (subst (λ (hs : List FrameHead). All (IsTime (format_of old.reader)) hs) (sym fetched) before)
 
 -- ---- the folder
 
@@ -344,7 +351,7 @@ got_at tells tells' file file' old new xs ys same files got = record {
   packets = got.packets;
   same = got.same;
   heads = got.heads;
-  at = got.at;
+  fetched = got.fetched;
   behind = got.behind;
   count = got.count;
   written = got.written;
@@ -381,6 +388,7 @@ fed_on a b s s' xs ys fed ready within only stands got = record {
       subst (λ (f : List ℕ). StandsBy s'.behind s' f) (sym (same_file s'.behind a b s s' only got.same.name before)) (stands before);
   within = within;
   times = times_more s s' got.times got.same got.heads fed.times got.written;
+  fetched = times_same s s' got.same got.fetched.times fed.fetched;
 }
 
 at_end_same : (behind : Behind) (s s' : Source) (file : List ℕ) → s'.most ≡ s.most → IsAtEnd s file behind → IsAtEnd s' file behind

@@ -10,6 +10,7 @@ use Rattle.net_io.specs.declared.fault.IoFault.TheVariants as io
 use Rattle.flow_lines.specs.declared.flow.FlowLine.{FlowLine}
 use Rattle.pcap_frames.specs.declared.record.FrameHead.{FrameHead}
 use Rattle.pcap_frames.specs.Record.{Frame}
+use Rattle.packet_walk.specs.declared.packet.PacketIn.{PacketIn}
 use Rattle.packet_walk.specs.declared.walked.Walked.{Walked}
 use Rattle.capture_reader.specs.declared.format.CaptureFormat.{CaptureFormat}
 use Rattle.capture_reader.specs.declared.reader.AnyFrames.{AnyFrames}
@@ -31,11 +32,12 @@ use Rattle.flow_run.specs.declared.source.Behind.TheVariants.{Whole, Broken, Too
 use Rattle.flow_run.specs.Run.{is_denied, passed_in, denied_in, walked_lines}
 use Rattle.flow_run.specs.Ends.{IsHandedOn}
 use Rattle.flow_run.specs.inside.Output.{IsAppended, IsThere, AppendsMove, HasAppended, frame_of}
-use Rattle.flow_run.specs.inside.Source.{IsSame, HasMoved, HasStepped, ReadsMove, pending, frames_left, heads_left, file_of, IsFed, StandsBy}
+use Rattle.flow_run.specs.inside.Source.{IsSame, HasMoved, HasStepped, ReadsMove, pending, frames_left, heads_left, file_of, IsFed, IsAhead, StandsBy}
 use Rattle.flow_run.specs.inside.Taken.{Moment, Outlets, outlets_at, IsPrintedTo, print_stop, HasHanded, kept_by, IsMoved, outside_of, HasTaken, IsGoing}
 use Rattle.flow_run.proofs.Outputs.{appended_more, appended_cut, appended_stops}
 use Rattle.flow_run.proofs.Prints.{cut_off, print_fails, print_goes, lines_more}
 use Rattle.flow_run.proofs.Reading.{reads_more, same_more, stands_same, readable_kept}
+use Rattle.flow_run.proofs.Ahead.{same_ahead}
 
 -- ---- what may follow
 
@@ -447,8 +449,8 @@ module _ (stop : Option FlowStop) (text : List ℕ) (output : Option (List ℕ))
   handed_there (inr failed) there = subst (λ (d : DepotState). IsThere output d) (sym failed.3) there
 
 pub fed_kept : (a b : DepotState) (s s' : Source) → b.tells ≡ a.tells → (IsTrue a.tells → b.held (file_name_of s.reader) ≡ a.held (file_name_of s.reader))
-    → s'.reader ≡ s.reader → s'.most ≡ s.most → s'.read ≡ s.read → s'.behind ≡ s.behind → s'.heads.items ≡ s.heads.items → IsFed a s → IsFed b s'
-fed_kept a b s s' told held reader most read behind heads fed = record {
+    → s'.reader ≡ s.reader → s'.most ≡ s.most → s'.read ≡ s.read → s'.behind ≡ s.behind → s'.heads.items ≡ s.heads.items → s'.fetched.items ≡ s.fetched.items → IsFed a s → IsFed b s'
+fed_kept a b s s' told held reader most read behind heads fetched fed = record {
   ready = subst (λ (r : AnyFrames). IsReadable b r) (sym reader) (readable_kept a b s.reader told held fed.ready);
   stands = λ told'.
       let before = subst IsTrue told told' in
@@ -458,16 +460,18 @@ fed_kept a b s s' told held reader most read behind heads fed = record {
   within = subst (λ n. s'.read ≤ n) (sym most) (subst (λ n. n ≤ s.most) (sym read) fed.within);
   times = subst (λ (r : AnyFrames). All (IsTime (format_of r)) s'.heads.items) (sym reader)
       (subst (λ (hs : List FrameHead). All (IsTime (format_of s.reader)) hs) (sym heads) fed.times);
+  fetched = subst (λ (r : AnyFrames). All (IsTime (format_of r)) s'.fetched.items) (sym reader)
+      (subst (λ (hs : List FrameHead). All (IsTime (format_of s.reader)) hs) (sym fetched) fed.fetched);
 }
 
 module _ (flow : FlowLine) (now new : Moment) (stop : Option FlowStop) (text frame : List ℕ) (going : IsGoing flow now)
     (handed : HasHanded stop text flow.output frame (outlets_at now) (outlets_at new)) (reader : new.source.reader ≡ now.source.reader) where
   fed_handed : IsFed now.folder now.source → new.source.most ≡ now.source.most → new.source.read ≡ now.source.read → new.source.behind ≡ now.source.behind → new.source.heads.items ≡ now.source.heads.items
-      → IsFed new.folder new.source
-  fed_handed fed most read behind heads =
+      → new.source.fetched.items ≡ now.source.fetched.items → IsFed new.folder new.source
+  fed_handed fed most read behind heads fetched =
       fed_kept now.folder new.folder now.source new.source (handed_told stop text flow.output frame (outlets_at now) (outlets_at new) handed)
       (λ told. handed_others stop text flow.output frame (outlets_at now) (outlets_at new) handed told (file_name_of now.source.reader) (λ is. going.apart (is ∙ ap Some going.input)))
-      reader most read behind heads fed
+      reader most read behind heads fetched fed
 
   going_handed : (versions : List ℕ) (denied : Bool) → new.seen ≡ now.seen ++ versions ∷ [] → new.passed ≡ now.passed + cond denied 0 1 → new.denied ≡ now.denied + cond denied 1 0 → IsGoing flow new
   going_handed versions denied seen passed more = record {
@@ -477,23 +481,26 @@ module _ (flow : FlowLine) (now new : Moment) (stop : Option FlowStop) (text fra
     counts = omega (arith, going.counts, ap length seen, length-append now.seen (versions ∷ []), passed, more, one_counts denied);
   }
 
-pub ready_handed : (flow : FlowLine) (now new : Moment) (stop : Option FlowStop) (text frame : List ℕ) (versions : List ℕ) (denied : Bool) → IsFed now.folder now.source × IsGoing flow now
+pub ready_handed : (flow : FlowLine) (now new : Moment) (next : List PacketIn) (stop : Option FlowStop) (text frame : List ℕ) (versions : List ℕ) (denied : Bool)
+    → IsFed now.folder now.source × IsGoing flow now × IsAhead now.source next
     → new.source.reader ≡ now.source.reader → new.source.most ≡ now.source.most → new.source.read ≡ now.source.read → new.source.behind ≡ now.source.behind
-    → new.source.heads.items ≡ now.source.heads.items
+    → new.source.heads.items ≡ now.source.heads.items → new.source.fetched.items ≡ now.source.fetched.items
     → new.seen ≡ now.seen ++ versions ∷ [] → new.passed ≡ now.passed + cond denied 0 1 → new.denied ≡ now.denied + cond denied 1 0
-    → HasHanded stop text flow.output frame (outlets_at now) (outlets_at new) → IsFed new.folder new.source × IsGoing flow new
-ready_handed flow now new stop text frame versions denied ready reader most read behind heads seen passed more handed = (
-  fed_handed flow now new stop text frame ready.1 handed reader ready.0 most read behind heads,
+    → HasHanded stop text flow.output frame (outlets_at now) (outlets_at new) → IsFed new.folder new.source × IsGoing flow new × IsAhead new.source next
+ready_handed flow now new next stop text frame versions denied ready reader most read behind heads fetched seen passed more handed = (
+  fed_handed flow now new stop text frame ready.1 handed reader ready.0 most read behind heads fetched,
   going_handed flow now new stop text frame ready.1 handed reader versions denied seen passed more,
+  same_ahead now.source new.source next heads ready.2,
 )
 
 -- the first time that isn't used yet
-pub head_first : (source : Source) (d : FrameHead) (file : List ℕ) → source.at < length source.heads.items → d ≡ get_or source.heads.items source.at d
+pub head_first : (source : Source) (d : FrameHead) (file : List ℕ) → source.at < length source.fetched.items → d ≡ get_or source.fetched.items source.at d
     → heads_left source file ≡ d ∷ heads_left (record source { at = source.at + 1 }) file
 head_first source d file less first =
     let one : suc source.at ≡ source.at + 1 = omega arith in
-    ap (λ hs. hs ++ map (λ (f : CapturedFrame). f.head) (frames_left source file)) (drop-cons source.heads.items source.at d less)
-    ∙ ap (λ n. (get_or source.heads.items source.at d ∷ drop n source.heads.items) ++ map (λ (f : CapturedFrame). f.head) (frames_left source file)) one
+    let left = map (λ (f : CapturedFrame). f.head) (frames_left source file) in
+    ap (λ hs. (hs ++ source.heads.items) ++ left) (drop-cons source.fetched.items source.at d less)
+    ∙ ap (λ n. ((get_or source.fetched.items source.at d ∷ drop n source.fetched.items) ++ source.heads.items) ++ left) one
     ∙ ap (λ x. x ∷ heads_left (record source { at = source.at + 1 }) file) (sym first)
 
 -- ---- the beginning, and the end

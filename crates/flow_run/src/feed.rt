@@ -12,7 +12,7 @@ use crate::end::{FlowPlace, FlowStop};
 use crate::judged::Judged;
 use crate::lines::print_judged;
 use crate::output::{add_frame, is_denied};
-use crate::source::{Source, fetch_batch};
+use crate::source::{Source, fetch_batch, read_ahead};
 use call_report::{FlowSeen, Report, WalkLines};
 use label_flow::{Feed, PacketIn, Walked};
 use net_io::{Depot, IoFault, Sink};
@@ -32,6 +32,8 @@ pub struct RunFeed<'d, 'o, 'r, 'f, D, S> {
     pub alloc: Global,
     pub place: FlowPlace<'f>,
     pub source: Source,
+    /// The packets that were read ahead, and behind them places of a batch before.
+    pub next: Vec<PacketIn>,
     /// What waits for the output.
     pub octets: Vec<u8>,
     pub seen: FlowSeen,
@@ -122,13 +124,30 @@ impl<'d, 'o, 'r, 'f, D: Depot, S: Sink> Feed for RunFeed<'d, 'o, 'r, 'f, D, S> {
             Some(stop) => return Err(stop),
             None => {}
         }
-        match fetch_batch(self.alloc, self.depot, &mut self.source, batch) {
+        match fetch_batch(
+            self.alloc,
+            self.depot,
+            &mut self.source,
+            &mut self.next,
+            batch,
+        ) {
             Ok(more) => Ok(more),
             Err(stop) => {
                 self.stop = Some(stop);
                 Err(stop)
             }
         }
+    }
+
+    fn read_ahead(&mut self) {
+        // One worker has nobody who judges meanwhile.
+        if self.source.workers < 2 {
+            return;
+        }
+        if self.stop.is_some() {
+            return;
+        }
+        read_ahead(self.alloc, self.depot, &mut self.source, &mut self.next);
     }
 
     fn accept(&mut self, walked: &Walked, packet: &[u8]) -> Result<(), FlowStop> {
@@ -147,7 +166,7 @@ impl<'d, 'o, 'r, 'f, D: Depot, S: Sink> Feed for RunFeed<'d, 'o, 'r, 'f, D, S> {
         let judged = Judged {
             number: self.seen.len() as u64,
             format: self.source.reader.format(),
-            head: self.source.heads[self.source.at],
+            head: self.source.fetched[self.source.at],
             walked,
             packet,
         };

@@ -6,7 +6,7 @@ ghost use Rattle.capture_reader.specs.Reader.{file_name_of, format_of, IsReadabl
 ghost use Rattle.capture_reader.specs.Written.{IsTime};
 ghost use Rattle.label_flow.specs.Feed.{HasFetched};
 ghost use Rattle.flow_run.specs.inside.Flown.{IsFresh};
-ghost use Rattle.flow_run.specs.inside.Source.{IsAmid, StandsBy, HasGot, HasOnlyRead, IsFed, HasFilled, read_into, HasStepped, left_in, due_in, pending, is_end, file_of, behind_at};
+ghost use Rattle.flow_run.specs.inside.Source.{IsAmid, StandsBy, HasGot, HasOnlyRead, IsFed, IsAhead, SameFetched, read_into, HasStepped, left_in, due_in, pending, is_end, file_of, behind_at};
 
 use crate::end::FlowStop;
 use capture_reader::{CaptureReader, FileFault, ReadStop};
@@ -15,17 +15,17 @@ use net_io::Depot;
 use packet_walk::{Octets, PacketIn};
 use pcap_frames::FrameHead;
 use std::alloc::Global;
+use std::mem;
 
-// The most packets of a batch for so many workers. One worker has each packet still near when it comes to it; for several, an order
-// has to be worth its way.
+// The most packets of a batch for so many workers. One worker has each packet still near when it comes to it; for several, a batch has
+// to be worth their waking.
 fn most_at_once(workers: usize) -> usize
     ensures some { 0 < result }
     ensures few { result ≤ 1024 }
 {
     match workers {
         0 | 1 => 256,
-        2 => 512,
-        _ => 1024,
+        _ => 512,
     }
 }
 
@@ -44,7 +44,7 @@ pub enum Behind {
     NoMemory,
 }
 
-/// Reads the packets of a capture. Buffers are used again from batch to batch.
+/// Reads the packets of a capture, some of them ahead. Buffers are used again from batch to batch.
 #[derive(Drop)]
 pub struct Source {
     pub reader: CaptureReader,
@@ -54,8 +54,10 @@ pub struct Source {
     pub most: u64,
     pub read: u64,
     pub behind: Option<Behind>,
-    /// The times of the batch's frames, of which those in front of `at` are used.
+    /// The times of the frames that were read ahead, whose packets are to be fetched.
     pub heads: Vec<FrameHead>,
+    /// The times of the frames whose packets were fetched last, of which those in front of `at` are used.
+    pub fetched: Vec<FrameHead>,
     pub at: usize,
 }
 
@@ -177,18 +179,46 @@ fn fill<D: Depot>(alloc: Global, depot: &mut D, source: &mut Source, batch: &mut
     }
 }
 
-// Fills the batch, unless what stands behind the last packet is known already.
-fn fill_on<D: Depot>(alloc: Global, depot: &mut D, source: &mut Source, batch: &mut Vec<PacketIn>)
+/// Reads the packets that come next, unless some were read ahead, or what stands behind the last one is known already.
+pub(crate) fn read_ahead<D: Depot>(
+    alloc: Global,
+    depot: &mut D,
+    source: &mut Source,
+    next: &mut Vec<PacketIn>,
+)
     requires fed { IsFed (D.state depot.old) source.old }
-    requires empty { source.old.heads.items ≡ [] }
-    ensures filled { HasFilled (D.state depot.old) (D.state depot.new)
-        source.old source.new (read_into source.new batch.new.items) }
-    ensures places { length source.new.heads.items ≤ length batch.new.items }
+    requires ahead { IsAhead source.old next.old.items }
+    ensures fed { IsFed (D.state depot.new) source.new }
+    ensures ahead { IsAhead source.new next.new.items }
+    ensures some { (0 < length source.new.heads.items) ⊎ IsSome source.new.behind }
+    ensures fetched { SameFetched source.old source.new }
+    ensures left { left_in (D.state depot.new) source.new next.new.items
+        ≡ left_in (D.state depot.old) source.old next.old.items }
+    ensures stepped { HasStepped source.old source.new (D.state depot.old) (D.state depot.new) }
 {
-    if source.behind.is_some() {
+    if !source.heads.is_empty() || source.behind.is_some() {
         return;
     }
-    fill(alloc, depot, source, batch)
+    fill(alloc, depot, source, next)
+}
+
+// What was read ahead is fetched: it moves to the batch, in place of what that held.
+fn give(source: &mut Source, next: &mut Vec<PacketIn>, batch: &mut Vec<PacketIn>)
+    requires { IsAhead source.old next.old.items }
+    ensures batch { batch.new.items ≡ read_into source.old next.old.items }
+    ensures fetched { source.new.fetched.items ≡ source.old.heads.items }
+    ensures heads { source.new.heads.items ≡ [] }
+    ensures at { source.new.at ≡ 0 }
+    ensures reader { (source.new.reader ≡ source.old.reader)
+        × (source.new.most ≡ source.old.most)
+        × (source.new.read ≡ source.old.read)
+        × (source.new.behind ≡ source.old.behind) }
+{
+    source.fetched.clear();
+    source.at = 0;
+    mem::swap(&mut source.heads, &mut source.fetched);
+    mem::swap(batch, next);
+    batch.truncate(source.fetched.len());
 }
 
 // What is answered behind the last packet.
@@ -211,25 +241,27 @@ pub(crate) fn fetch_batch<D: Depot>(
     alloc: Global,
     depot: &mut D,
     source: &mut Source,
+    next: &mut Vec<PacketIn>,
     batch: &mut Vec<PacketIn>,
 ) -> Result<bool, FlowStop>
     requires fed { IsFed (D.state depot.old) source.old }
+    requires ahead { IsAhead source.old next.old.items }
     requires due { due_in source.old ≡ 0 }
     ensures fed { IsFed (D.state depot.new) source.new }
-    ensures fetched { IfOk result (λ more. HasFetched (left_in (D.state depot.old) source.old)
-        more batch.new.items (left_in (D.state depot.new) source.new) (due_in source.new)) }
+    ensures ahead { IsAhead source.new next.new.items }
+    ensures fetched { IfOk result (λ more.
+        HasFetched (left_in (D.state depot.old) source.old next.old.items) more batch.new.items
+        (left_in (D.state depot.new) source.new next.new.items) (due_in source.new)) }
     ensures ended { IfOk result (λ more. more ≡ false → is_end source.new.behind ≡ true) }
-    ensures left { OnErr result (left_in (D.state depot.new) source.new
-        ≡ left_in (D.state depot.old) source.old) }
+    ensures left { OnErr result (left_in (D.state depot.new) source.new next.new.items
+        ≡ left_in (D.state depot.old) source.old next.old.items) }
     ensures stop { IfErr result (λ stop. (due_in source.new ≡ 0)
         × (pending source.new.behind ≡ Some stop)) }
     ensures stepped { HasStepped source.old source.new (D.state depot.old) (D.state depot.new) }
-    ensures at { source.new.at ≤ length source.new.heads.items }
+    ensures at { source.new.at ≤ length source.new.fetched.items }
 {
-    source.heads.clear();
-    source.at = 0;
-    fill_on(alloc, depot, source, batch);
-    batch.truncate(source.heads.len());
+    read_ahead(alloc, depot, source, next);
+    give(source, next, batch);
     if !batch.is_empty() {
         return Ok(true);
     }
@@ -261,6 +293,7 @@ pub(crate) fn begin_source<D: Depot>(
             read: 0,
             behind: None,
             heads: Vec::new(alloc),
+            fetched: Vec::new(alloc),
             at: 0,
         }),
         Err(stop) => Err(stop),

@@ -11,7 +11,7 @@ use Rattle.label_flow.specs.Feed.{MayAccept}
 use Rattle.label_flow.specs.Round.{pick, IsWork, IsLater, AreLater}
 use Rattle.label_flow.specs.declared.work.Batch.{Batch}
 use Rattle.label_flow.specs.inside.Work.{AreWorks}
-use Rattle.label_flow.specs.inside.Crew.{IsTold, DoneState, IsDone, IsShare, AreShared}
+use Rattle.label_flow.specs.inside.Crew.{IsTold, IsShare, AreShared}
 use Rattle.label_flow.proofs.Works.{pick_mine, pick_other}
 use Rattle.label_flow.proofs.Handing.{read_any}
 use Rattle.label_flow.proofs.Batches.{pick_all, work_fits}
@@ -99,10 +99,6 @@ shares_each hops told w n count k (v ∷ vs) (d ∷ ds) (u ∷ us) a b h = (
   shares_each hops told w n count (k + 1) vs ds us (omega (arith, a)) (omega (arith, b))
       (λ j e lt. subst (λ (i : ℕ). IsShare hops told i w n count (get_or vs j e) (get_or ds j []) (get_or us j e)) (omega arith) (h (suc j) e (omega (arith, lt)))),
 )
-
-pub share_of : (hops : List Hop) (told : Option (List PacketIn)) (d : DoneState) → IsDone hops told d
-    → IsShare hops told d.number d.batch.workers d.batch.base (length d.batch.packets.items) d.from d.pairs d.to
-share_of hops told d h = record { packets = d.batch.packets.items; count_is = refl; told = h.told; short = h.short; work = h.work; later = h.later }
 
 -- the batches of which the shares are
 abbrev batches : (hops : List Hop) (told : Option (List PacketIn)) (w n count k : ℕ) (vs : List ViewerState) (ds : List (List PairState)) (us : List ViewerState) → AreShares hops told w n count k vs ds us

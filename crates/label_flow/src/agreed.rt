@@ -5,6 +5,7 @@ ghost use Rattle.shared_tables.specs.Plan.{PlanState};
 ghost use Rattle.flow_lines.specs.declared.hop.Hop.{Hop};
 ghost use Rattle.packet_walk.specs.declared.packet.PacketIn.{PacketIn};
 
+use crate::trays::Trays;
 use flow_lines::FlowLine;
 use shared_tables::{Note, Viewer};
 use std::alloc::Global;
@@ -36,13 +37,14 @@ impl Agreed for Brand {
     ghost left = { None };
 }
 
-/// What all parts of a round share: the outside, the flow, and the gate.
+/// What all parts of a round share: the outside, the flow, the gate, and the trays.
 #[derive(Drop)]
-pub struct Shift<'r, 'f, 'g, R, G> {
+pub struct Shift<'r, 'f, 'g, 't, A: Agreed, R, G> {
     pub rt: &'r R,
     pub alloc: Global,
     pub flow: &'f FlowLine,
     pub gate: &'g G,
+    pub trays: &'t Trays<A>,
 }
 
 /// What a worker's viewer has seen at some moment. Contracts see it as the viewer that it was then.

@@ -49,6 +49,19 @@ pub trait Feed {
         ensures took { (was : Self) (h : List PairState)
             → took was self.old h → took was self.new h };
 
+    /// May read packets that come later, while those that were fetched are judged: so that `fetch` finds them read. Nothing that is told
+    /// of the feed changes, and a fault that it meets is for `fetch` to answer.
+    fn read_ahead(&mut self)
+        requires ready { ready self.old }
+        ensures left { left self.new ≡ left self.old }
+        ensures due { due self.new ≡ due self.old }
+        ensures stop { stop self.new ≡ stop self.old }
+        ensures ready { ready self.new }
+        ensures hops { hops self.new ≡ hops self.old }
+        ensures took { (was : Self) (h : List PairState)
+            → took was self.old h → took was self.new h }
+    {}
+
     /// Takes what became of the next packet, and the octets that its walk left. After a stop it may have been taken or not.
     fn accept(&mut self, walked: &Walked, packet: &[u8]) -> Result<(), Self::Stop>
         requires due { 0 < due self.old }

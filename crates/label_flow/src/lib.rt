@@ -7,13 +7,13 @@
 mod agreed;
 mod bench;
 mod crew;
-mod desk;
 mod feed;
 pub mod laws;
 mod order;
 mod pair;
 mod rounds;
 mod staff;
+mod trays;
 mod work;
 
 pub use feed::Feed;

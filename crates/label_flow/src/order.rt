@@ -63,9 +63,9 @@ impl<A: Agreed> Model for Done<A> {
         }) };
 }
 
-/// One worker's packets of a batch, of which none is judged below what was seen; and what the viewer has seen after them.
-pub fn work_from<A: Agreed, R, G: Gate>(
-    shift: &Shift<'_, '_, '_, R, G>,
+// One worker's packets of a batch, of which none is judged below what was seen; and what the viewer has seen after them.
+fn work_from<A: Agreed, R, G: Gate>(
+    shift: &Shift<'_, '_, '_, '_, A, R, G>,
     batch: &Batch,
     number: u32,
     from: &Seen<A>,
@@ -84,9 +84,6 @@ pub fn work_from<A: Agreed, R, G: Gate>(
           batch = batch.now;
           pairs = bench.new;
         })) }
-    ensures share { IfOk result (λ to. IsShare A.hops A.left number
-        batch.now.workers batch.now.base (length batch.now.packets.items)
-        from.now bench.new to) }
 {
     from.teach(viewer);
     let worker = Worker {
@@ -112,15 +109,10 @@ impl<A: Agreed> Order<A> {
         }
     }
 
-    /// Takes back a bench that wasn't used.
-    pub fn into_bench(self) -> Bench {
-        self.bench
-    }
-
     /// Judges the packets.
     pub fn fulfil<R, G: Gate>(
         self,
-        shift: &Shift<'_, '_, '_, R, G>,
+        shift: &Shift<'_, '_, '_, '_, A, R, G>,
         viewer: &mut Viewer,
     ) -> Result<Done<A>, OutOfMemory>
         requires { IsServant A.board A.plan A.hops shift.now.flow.now.hops viewer.old }

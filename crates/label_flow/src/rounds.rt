@@ -15,8 +15,8 @@ ghost use Rattle.label_flow.specs.inside.Crew.{IsServant, IsTold, IsShort, IsAt,
 ghost use Rattle.label_flow.specs.inside.Crew.{AreOfOne};
 
 use crate::agreed::{Agreed, Seen, Shift};
-use crate::crew::judge;
-use crate::desk::Desk;
+use crate::bench::Bench;
+use crate::crew::{gather, help, order_all};
 use crate::feed::Feed;
 use crate::staff::all_batches;
 use crate::work::{Batch, next_turn};
@@ -69,9 +69,9 @@ fn step_to<G: Gate, R: Wait>(
 }
 
 // Hands what the workers made to the feed, in the order of the packets.
-fn hand_over<A: Agreed, Q: Feed>(
+fn hand_over<Q: Feed>(
     batch: &Batch,
-    done: &[Desk<A>],
+    done: &[Bench],
     shown: &mut ShownWalks,
     feed: &mut Q,
 ) -> Result<(), RoundStop<Q::Stop>>
@@ -110,19 +110,20 @@ fn hand_over<A: Agreed, Q: Feed>(
     Ok(())
 }
 
-// Judges a batch that was fetched, with a worker for each desk, and hands it over.
+// Judges a batch that was fetched, with a worker for each bench, and hands it over.
 fn judge_batch<A: Agreed, Q: Feed, G: Gate, R: Wait>(
-    shift: &Shift<'_, '_, '_, R, G>,
+    shift: &Shift<'_, '_, '_, '_, A, R, G>,
     batch: &Arc<Batch>,
     viewer: &mut Viewer,
     feed: &mut Q,
-    desks: &mut [Desk<A>],
+    benches: &mut [Bench],
     seens: &mut [Seen<A>],
     shown: &mut ShownWalks,
 ) -> Result<(), RoundStop<Q::Stop>>
     requires viewer { IsServant A.board A.plan A.hops shift.now.flow.now.hops viewer.old }
     requires crew { HasCrew shift.now.flow.now.hops (arc_value batch.now).workers
-        (length desks.old) seens.old }
+        (length benches.old) seens.old }
+    requires trays { shift.now.trays.now ≡ length benches.old }
     requires numbers { (arc_value batch.now).base
         + length (arc_value batch.now).packets.items < 2 ^ 63 }
     requires told { IsTold A.left (arc_value batch.now).base
@@ -131,7 +132,7 @@ fn judge_batch<A: Agreed, Q: Feed, G: Gate, R: Wait>(
         (length (arc_value batch.now).packets.items)
         (Q.hops feed.old) (Q.due feed.old) (Q.ready feed.old) }
     requires short { All IsShort (arc_value batch.now).packets.items }
-    ensures desks { length desks.new ≡ length desks.old }
+    ensures benches { length benches.new ≡ length benches.old }
     ensures later { IsLater viewer.old viewer.new }
     ensures seens { AreLater seens.old seens.new }
     ensures left { Q.left feed.new ≡ Q.left feed.old }
@@ -143,10 +144,16 @@ fn judge_batch<A: Agreed, Q: Feed, G: Gate, R: Wait>(
         × OnOk result (length packets ≡ length (arc_value batch.now).packets.items))
         seens.old seens.new }
 {
-    let Ok(()) = judge(shift, batch, viewer, desks, seens) else {
+    let Ok(()) = order_all(shift, batch, benches, seens) else {
         return Err(RoundStop::OutOfMemory);
     };
-    hand_over(batch, desks, shown, feed)
+    // The others judge meanwhile.
+    feed.read_ahead();
+    help(shift, viewer);
+    let Ok(()) = gather(shift, batch, benches, seens) else {
+        return Err(RoundStop::OutOfMemory);
+    };
+    hand_over(batch, benches, shown, feed)
 }
 
 const MOST: u64 = 1 << 62;
@@ -186,17 +193,18 @@ fn fetch_next<Q: Feed>(batch: &mut Arc<Batch>, feed: &mut Q) -> Result<bool, Rou
 
 // One batch: true if there was one.
 fn batch_round<A: Agreed, Q: Feed, G: Gate, R: Wait>(
-    shift: &Shift<'_, '_, '_, R, G>,
+    shift: &Shift<'_, '_, '_, '_, A, R, G>,
     batch: &mut Arc<Batch>,
     viewer: &mut Viewer,
     feed: &mut Q,
-    desks: &mut [Desk<A>],
+    benches: &mut [Bench],
     seens: &mut [Seen<A>],
     shown: &mut ShownWalks,
 ) -> Result<bool, RoundStop<Q::Stop>>
     requires viewer { IsServant A.board A.plan A.hops shift.now.flow.now.hops viewer.old }
     requires crew { HasCrew shift.now.flow.now.hops (arc_value batch.old).workers
-        (length desks.old) seens.old }
+        (length benches.old) seens.old }
+    requires trays { shift.now.trays.now ≡ length benches.old }
     requires few { length (arc_value batch.old).packets.items ≤ 1024 }
     requires at { IsAt A.left (Q.left feed.old)
         ((arc_value batch.old).base + length (arc_value batch.old).packets.items) }
@@ -205,7 +213,7 @@ fn batch_round<A: Agreed, Q: Feed, G: Gate, R: Wait>(
     ensures workers { (arc_value batch.new).workers ≡ (arc_value batch.old).workers }
     ensures base { OnOk result ((arc_value batch.new).base
         ≡ (arc_value batch.old).base + length (arc_value batch.old).packets.items) }
-    ensures desks { length desks.new ≡ length desks.old }
+    ensures benches { length benches.new ≡ length benches.old }
     ensures later { IsLater viewer.old viewer.new }
     ensures seens { AreLater seens.old seens.new }
     ensures feed { LeavesFeed result (Q.hops feed.old) (Q.hops feed.new) (Q.due feed.new)
@@ -223,7 +231,7 @@ fn batch_round<A: Agreed, Q: Feed, G: Gate, R: Wait>(
         seens.old seens.new }
 {
     match fetch_next(batch, feed) {
-        Ok(true) => match judge_batch(shift, batch, viewer, feed, desks, seens, shown) {
+        Ok(true) => match judge_batch(shift, batch, viewer, feed, benches, seens, shown) {
             Ok(()) => Ok(true),
             Err(stop) => Err(stop),
         },
@@ -232,17 +240,18 @@ fn batch_round<A: Agreed, Q: Feed, G: Gate, R: Wait>(
     }
 }
 
-/// All batches, by the workers at these desks. The viewer is that of the one who leads.
+/// All batches, by the workers at these benches. The viewer is that of the one who leads.
 pub(crate) fn each_batch<A: Agreed, Q: Feed, G: Gate, R: Wait>(
-    shift: &Shift<'_, '_, '_, R, G>,
+    shift: &Shift<'_, '_, '_, '_, A, R, G>,
     viewer: &mut Viewer,
     feed: &mut Q,
-    desks: &mut [Desk<A>],
+    benches: &mut [Bench],
     seens: &mut [Seen<A>],
 ) -> Result<(), RoundStop<Q::Stop>>
     requires viewer { IsServant A.board A.plan A.hops shift.now.flow.now.hops viewer.old }
     requires lead { MayLead A.hops shift.now.flow.now.hops A.left (Q.left feed.old)
-        seens.old (length desks.old) }
+        seens.old (length benches.old) }
+    requires trays { shift.now.trays.now ≡ length benches.old }
     requires feed { IsReadyFor shift.now.flow.now.hops 0
         (Q.hops feed.old) (Q.due feed.old) (Q.ready feed.old) }
     ensures later { IsLater viewer.old viewer.new }
@@ -254,7 +263,7 @@ pub(crate) fn each_batch<A: Agreed, Q: Feed, G: Gate, R: Wait>(
     };
     let mut shown = ShownWalks::new();
     for _ in shift.rt.forever() {
-        match batch_round(shift, &mut batch, viewer, feed, desks, seens, &mut shown) {
+        match batch_round(shift, &mut batch, viewer, feed, benches, seens, &mut shown) {
             Ok(true) => {}
             Ok(false) => return Ok(()),
             Err(stop) => return Err(stop),

@@ -8,24 +8,24 @@ ghost use Rattle.label_flow.specs.inside.Work.{HasViewers, IsReadyFor, LeavesFee
 ghost use Rattle.label_flow.specs.inside.Crew.{IsServant, MayLead, HasLed, HaveLearnt, AreOfOne};
 
 use crate::agreed::{Agreed, Seen, Shift};
+use crate::bench::Bench;
 use crate::crew::serve;
-use crate::desk::{Desk, Post, desk_and_post};
 use crate::feed::Feed;
 use crate::rounds::{RoundStop, each_batch};
+use crate::trays::Trays;
 use flow_lines::FlowLine;
 use mls_label::OutOfMemory;
 use packet_walk::Gate;
 use shared_tables::Viewer;
 use std::alloc::Global;
 use std::marker::Brand;
-use std::mem;
 use std::sync::Wait;
 use std::thread::{Threads, join_mut};
 
-/// What the one who leads keeps of the workers: a desk for each, and what each has seen.
+/// What the one who leads keeps of the workers: a bench for each, and what each has seen.
 #[derive(Drop)]
 struct Crew<A: Agreed> {
-    desks: Vec<Desk<A>>,
+    benches: Vec<Bench>,
     seens: Vec<Seen<A>>,
 }
 
@@ -50,70 +50,57 @@ pub fn all_batches<Q: Feed, G: Gate + Sync, R: Threads + Wait + Sync>(
         (Q.left feed.old) (λ packets. OnOk result (AreWhole (Q.left feed.old) packets))
         viewers.old viewers.new }
 {
+    with_crew::<Brand, Q, G, R>(rt, alloc, flow, gate, viewers, feed)
+}
+
+// The trays and benches, and then the crew.
+fn with_crew<A: Agreed + Send + Sync, Q: Feed, G: Gate + Sync, R: Threads + Wait + Sync>(
+    rt: &R,
+    alloc: Global,
+    flow: &FlowLine,
+    gate: &G,
+    viewers: &mut [Viewer],
+    feed: &mut Q,
+) -> Result<(), RoundStop<Q::Stop>>
+    requires servants { All (IsServant A.board A.plan A.hops flow.now.hops) viewers.old }
+    requires left { Q.left feed.old ≡ A.left }
+    requires viewers { HasViewers flow.now.hops viewers.old }
+    requires feed { IsReadyFor flow.now.hops 0
+        (Q.hops feed.old) (Q.due feed.old) (Q.ready feed.old) }
+    ensures { HasLed Q.took Q.left Q.ended Q.due Q.stop Q.hops Q.ready flow.now.hops
+        result feed.old feed.new viewers.old viewers.new }
+{
+    let Ok(trays) = Trays::<A>::new(alloc, viewers.len()) else {
+        return Err(RoundStop::OutOfMemory);
+    };
+    let Ok(mut crew) = crew_of::<A>(alloc, viewers) else {
+        return Err(RoundStop::OutOfMemory);
+    };
     let shift = Shift {
         rt,
         alloc,
         flow,
         gate,
+        trays: &trays,
     };
-    with_crew::<Brand, Q, G, R>(&shift, viewers, feed)
-}
-
-// The desks and posts, and then the crew.
-fn with_crew<A: Agreed + Send + Sync, Q: Feed, G: Gate + Sync, R: Threads + Wait + Sync>(
-    shift: &Shift<'_, '_, '_, R, G>,
-    viewers: &mut [Viewer],
-    feed: &mut Q,
-) -> Result<(), RoundStop<Q::Stop>>
-    requires servants { All
-        (IsServant A.board A.plan A.hops shift.now.flow.now.hops) viewers.old }
-    requires left { Q.left feed.old ≡ A.left }
-    requires viewers { HasViewers shift.now.flow.now.hops viewers.old }
-    requires feed { IsReadyFor shift.now.flow.now.hops 0
-        (Q.hops feed.old) (Q.due feed.old) (Q.ready feed.old) }
-    ensures { HasLed Q.took Q.left Q.ended Q.due Q.stop Q.hops Q.ready shift.now.flow.now.hops
-        result feed.old feed.new viewers.old viewers.new }
-{
-    let Ok(seens) = seens_of(shift.alloc, viewers) else {
-        return Err(RoundStop::OutOfMemory);
-    };
-    let Ok((mut crew, mut posts)) = hire::<A>(shift.alloc, seens) else {
-        return Err(RoundStop::OutOfMemory);
-    };
-    let led = staff(shift, viewers, posts.as_mut_slice(), feed, &mut crew);
+    let led = staff(&shift, viewers, feed, &mut crew);
     learn_all(viewers, crew.seens.as_slice());
     led
 }
 
-// What each viewer has seen.
-fn seens_of<A: Agreed>(alloc: Global, viewers: &[Viewer]) -> Result<Vec<Seen<A>>, OutOfMemory>
+// An empty bench for each viewer, and what it has seen.
+fn crew_of<A: Agreed>(alloc: Global, viewers: &[Viewer]) -> Result<Crew<A>, OutOfMemory>
     requires { All (λ v. (v.board ≡ A.board) × (v.plan ≡ A.plan)) viewers.now }
-    ensures { IfOk result (λ seens. seens.items ≡ viewers.now) }
+    ensures { IfOk result (λ crew. (crew.seens.items ≡ viewers.now)
+        × (length crew.benches.items ≡ length viewers.now)) }
 {
+    let mut benches = Vec::new(alloc);
     let mut seens = Vec::new(alloc);
     for viewer in viewers {
+        benches.push(Bench::new(alloc)).map_err(|_| OutOfMemory)?;
         seens.push(Seen::of(viewer)).map_err(|_| OutOfMemory)?;
     }
-    Ok(seens)
-}
-
-// A desk for each worker, and its post.
-fn hire<A: Agreed>(
-    alloc: Global,
-    seens: Vec<Seen<A>>,
-) -> Result<(Crew<A>, Vec<Option<Post<A>>>), OutOfMemory>
-    ensures { IfOk result (λ hired. (hired.0.seens.items ≡ seens.items)
-        × (length hired.0.desks.items ≡ length seens.items)
-        × (length hired.1.items ≡ length seens.items)) }
-{
-    let mut desks = Vec::new(alloc);
-    let mut posts = Vec::new(alloc);
-    for _ in 0..seens.len() {
-        let (desk, post) = desk_and_post(alloc)?;
-        desks.push(desk).map_err(|_| OutOfMemory)?;
-        posts.push(Some(post)).map_err(|_| OutOfMemory)?;
-    }
-    Ok((Crew { desks, seens }, posts))
+    Ok(Crew { benches, seens })
 }
 
 // Each viewer learns of what was judged in its name.
@@ -132,17 +119,17 @@ fn learn_all<A: Agreed>(viewers: &mut [Viewer], seens: &[Seen<A>])
 // The workers, one for each viewer, beside each other. The first is the one who leads, in this thread.
 #[cycle(staffs)]
 fn staff<A: Agreed + Send + Sync, Q: Feed, G: Gate + Sync, R: Threads + Wait + Sync>(
-    shift: &Shift<'_, '_, '_, R, G>,
+    shift: &Shift<'_, '_, '_, '_, A, R, G>,
     viewers: &mut [Viewer],
-    posts: &mut [Option<Post<A>>],
     feed: &mut Q,
     crew: &mut Crew<A>,
 ) -> Result<(), RoundStop<Q::Stop>>
-    requires some { (0 < length viewers.old) × (length posts.old ≡ length viewers.old) }
+    requires some { 0 < length viewers.old }
     requires servants { All
         (IsServant A.board A.plan A.hops shift.now.flow.now.hops) viewers.old }
     requires lead { MayLead A.hops shift.now.flow.now.hops A.left (Q.left feed.old)
-        crew.old.seens.items (length crew.old.desks.items) }
+        crew.old.seens.items (length crew.old.benches.items) }
+    requires trays { shift.now.trays.now ≡ length crew.old.benches.items }
     requires feed { IsReadyFor shift.now.flow.now.hops 0
         (Q.hops feed.old) (Q.due feed.old) (Q.ready feed.old) }
     ensures later { AreLater viewers.old viewers.new }
@@ -155,31 +142,29 @@ fn staff<A: Agreed + Send + Sync, Q: Feed, G: Gate + Sync, R: Threads + Wait + S
     }
     let at = viewers.len() - 1;
     let (viewers, viewer) = viewers.split_at_mut(at);
-    let (posts, post) = posts.split_at_mut(at);
-    let (_, led) = beside(shift, viewer, post, viewers, posts, feed, crew);
+    let (_, led) = beside(shift, viewer, viewers, feed, crew);
     led
 }
 
 // A function of its own, so that what the closures require is what it is given. Where no thread can be made, the worker's side runs last,
-// when its orders have ended.
+// when no order comes any more.
 #[cycle(staffs)]
 fn beside<A: Agreed + Send + Sync, Q: Feed, G: Gate + Sync, R: Threads + Wait + Sync>(
-    shift: &Shift<'_, '_, '_, R, G>,
+    shift: &Shift<'_, '_, '_, '_, A, R, G>,
     viewer: &mut [Viewer],
-    post: &mut [Option<Post<A>>],
     viewers: &mut [Viewer],
-    posts: &mut [Option<Post<A>>],
     feed: &mut Q,
     crew: &mut Crew<A>,
 ) -> ((), Result<(), RoundStop<Q::Stop>>)
-    requires one { (length viewer.old ≡ 1) × (length post.old ≡ 1) }
+    requires one { length viewer.old ≡ 1 }
     requires servant { All
         (IsServant A.board A.plan A.hops shift.now.flow.now.hops) viewer.old }
-    requires some { (0 < length viewers.old) × (length posts.old ≡ length viewers.old) }
+    requires some { 0 < length viewers.old }
     requires servants { All
         (IsServant A.board A.plan A.hops shift.now.flow.now.hops) viewers.old }
     requires lead { MayLead A.hops shift.now.flow.now.hops A.left (Q.left feed.old)
-        crew.old.seens.items (length crew.old.desks.items) }
+        crew.old.seens.items (length crew.old.benches.items) }
+    requires trays { shift.now.trays.now ≡ length crew.old.benches.items }
     requires feed { IsReadyFor shift.now.flow.now.hops 0
         (Q.hops feed.old) (Q.due feed.old) (Q.ready feed.old) }
     ensures one_later { AreLater viewer.old viewer.new }
@@ -188,53 +173,48 @@ fn beside<A: Agreed + Send + Sync, Q: Feed, G: Gate + Sync, R: Threads + Wait + 
         shift.now.flow.now.hops result.1 feed.old feed.new
         crew.old.seens.items crew.new.seens.items }
 {
+    let worker = viewers.len();
     let mut one = ||
         requires { (length viewer.now ≡ 1)
-            × (length post.now ≡ 1)
             × All (IsServant A.board A.plan A.hops shift.now.flow.now.hops) viewer.now }
         ensures { AreLater viewer.entry.now viewer.exit.now }
-    { serve_alone(shift, viewer, post) };
+    { serve_alone(shift, viewer, worker) };
     let mut other = || -> Result<(), RoundStop<Q::Stop>>
         requires { IsSync R.row
             × IsSync G.row
             × IsSend A.row
             × IsSync A.row
             × (0 < length viewers.now)
-            × (length posts.now ≡ length viewers.now)
             × All (IsServant A.board A.plan A.hops shift.now.flow.now.hops) viewers.now
             × MayLead A.hops shift.now.flow.now.hops A.left (Q.left feed.now)
-            crew.now.seens.items (length crew.now.desks.items)
+            crew.now.seens.items (length crew.now.benches.items)
+            × (shift.now.trays.now ≡ length crew.now.benches.items)
             × IsReadyFor shift.now.flow.now.hops 0
             (Q.hops feed.now) (Q.due feed.now) (Q.ready feed.now) }
         ensures { AreLater viewers.entry.now viewers.exit.now
             × HasLed Q.took Q.left Q.ended Q.due Q.stop Q.hops Q.ready
             shift.entry.now.flow.now.hops result feed.entry.now feed.exit.now
             crew.entry.now.seens.items crew.exit.now.seens.items }
-    { staff(shift, viewers, posts, feed, crew) };
+    { staff(shift, viewers, feed, crew) };
     join_mut(shift.rt, &mut one, &mut other)
 }
 
 fn serve_alone<A: Agreed, G: Gate, R: Wait>(
-    shift: &Shift<'_, '_, '_, R, G>,
+    shift: &Shift<'_, '_, '_, '_, A, R, G>,
     viewers: &mut [Viewer],
-    posts: &mut [Option<Post<A>>],
+    worker: usize,
 )
-    requires one { (length viewers.old ≡ 1) × (length posts.old ≡ 1) }
+    requires one { length viewers.old ≡ 1 }
     requires servants { All
         (IsServant A.board A.plan A.hops shift.now.flow.now.hops) viewers.old }
     ensures { AreLater viewers.old viewers.new }
 {
-    let Some(post) = posts[0].take() else {
-        return;
-    };
-    let mut post = post;
-    serve(shift, &mut viewers[0], &mut post);
-    post.close();
+    serve(shift, &mut viewers[0], worker);
 }
 
-// The one who leads. The desks end with it, however it ends: so no worker waits for an order that doesn't come.
+// The one who leads. However it ends, no order comes then: so no worker waits for one.
 fn lead<A: Agreed, Q: Feed, G: Gate, R: Wait>(
-    shift: &Shift<'_, '_, '_, R, G>,
+    shift: &Shift<'_, '_, '_, '_, A, R, G>,
     viewers: &mut [Viewer],
     feed: &mut Q,
     crew: &mut Crew<A>,
@@ -243,7 +223,8 @@ fn lead<A: Agreed, Q: Feed, G: Gate, R: Wait>(
     requires servants { All
         (IsServant A.board A.plan A.hops shift.now.flow.now.hops) viewers.old }
     requires lead { MayLead A.hops shift.now.flow.now.hops A.left (Q.left feed.old)
-        crew.old.seens.items (length crew.old.desks.items) }
+        crew.old.seens.items (length crew.old.benches.items) }
+    requires trays { shift.now.trays.now ≡ length crew.old.benches.items }
     requires feed { IsReadyFor shift.now.flow.now.hops 0
         (Q.hops feed.old) (Q.due feed.old) (Q.ready feed.old) }
     ensures later { AreLater viewers.old viewers.new }
@@ -251,26 +232,10 @@ fn lead<A: Agreed, Q: Feed, G: Gate, R: Wait>(
         shift.now.flow.now.hops result feed.old feed.new
         crew.old.seens.items crew.new.seens.items }
 {
-    let mut desks = mem::replace(&mut crew.desks, Vec::new(shift.alloc));
-    await_workers(shift.rt, desks.as_slice());
     let viewer = &mut viewers[0];
+    let benches = crew.benches.as_mut_slice();
     let seens = crew.seens.as_mut_slice();
-    let led = each_batch(shift, viewer, feed, desks.as_mut_slice(), seens);
-    close_all(desks);
+    let led = each_batch(shift, viewer, feed, benches, seens);
+    shift.trays.close();
     led
-}
-
-// Where one doesn't come, no thread could be made for it: so one isn't waited for the next.
-fn await_workers<A: Agreed, R: Wait>(rt: &R, desks: &[Desk<A>]) {
-    let mut at = 1;
-    while at < desks.len() && desks[at].await_worker(rt) {
-        at += 1;
-    }
-}
-
-fn close_all<A: Agreed>(desks: Vec<Desk<A>>) {
-    let mut desks = desks;
-    while let Some(desk) = desks.pop() {
-        desk.close();
-    }
 }

@@ -11,7 +11,7 @@ use Rattle.call_report.specs.Outside.{Outside}
 use Rattle.flow_run.specs.declared.end.FlowEnd.{FlowEnd}
 use Rattle.flow_run.specs.declared.feed.RunFeed.{RunFeed}
 use Rattle.flow_run.specs.inside.Output.{IsThere}
-use Rattle.flow_run.specs.inside.Source.{IsFed, left_in, due_in}
+use Rattle.flow_run.specs.inside.Source.{IsFed, IsAhead, left_in, due_in}
 use Rattle.flow_run.specs.inside.Taken.{Moment, HasTakenAt, IsGoing}
 use Rattle.flow_run.specs.inside.Flown.{IsFresh, EndsBehind, HasFlownAt, stop_of}
 
@@ -32,11 +32,11 @@ moment_of folder stream feed = record {
 abbrev pub outside_at : {D S : Type 0} → (D → DepotState) → (S → SinkState) → RunFeed D S → Outside
 outside_at folder stream feed = record { folder = folder feed.depot.now; stream = stream feed.out.now }
 
--- the packets that it may still read, where the folder tells what it holds
+-- the packets that are still to be fetched, where the folder tells what it holds
 abbrev pub left_of : {D S : Type 0} → (D → DepotState) → RunFeed D S → Option (List PacketIn)
-left_of folder feed = left_in (folder feed.depot.now) feed.source
+left_of folder feed = left_in (folder feed.depot.now) feed.source feed.next.items
 
--- how many packets it has read that aren't accepted yet
+-- how many packets were fetched that aren't accepted yet
 abbrev pub due_of : {D S : Type 0} → RunFeed D S → ℕ
 due_of feed = due_in feed.source
 
@@ -48,7 +48,8 @@ IsSameFlow old new =
 
 -- what each call of it needs, and leaves
 abbrev pub IsReadyFeed : {D S : Type 0} → (D → DepotState) → (S → SinkState) → RunFeed D S → Type 0
-IsReadyFeed folder stream feed = IsFed (folder feed.depot.now) feed.source × IsGoing feed.place.flow.now (moment_of folder stream feed)
+IsReadyFeed folder stream feed =
+    IsFed (folder feed.depot.now) feed.source × IsGoing feed.place.flow.now (moment_of folder stream feed) × IsAhead feed.source feed.next.items
 
 -- since an earlier state of it these pairs were accepted
 abbrev pub HasTakenSince : {D S : Type 0} → (D → DepotState) → (S → SinkState) → RunFeed D S → RunFeed D S → List PairState → Type 0

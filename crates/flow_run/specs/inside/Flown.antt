@@ -40,6 +40,7 @@ pub record IsFresh (input : List ℕ) (most : ℕ) (source : Source) : Type 0 wh
   pub read : source.read ≡ 0
   pub behind : source.behind ≡ None
   pub heads : source.heads.items ≡ []
+  pub fetched : source.fetched.items ≡ []
   pub at : source.at ≡ 0
 
 -- the numbers of failed makings: none has moved, unless it stopped for that

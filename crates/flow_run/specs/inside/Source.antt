@@ -1,5 +1,5 @@
 -- A source of packets: what it has left of its capture, and what reads change.
-use Rattle.std.specs.Prelude.{ℕ, ◌≡◌, ◌≤◌, ◌<◌, ◌⊎◌, ◌-◌, if◌then◌else◌, IsSome, Bool, true, false, IsTrue, List, [], ◌++◌, length, take, drop, map, All, Option, Some, None, Ok}
+use Rattle.std.specs.Prelude.{ℕ, ◌≡◌, ◌≤◌, ◌⊎◌, ◌-◌, if◌then◌else◌, Bool, true, false, IsTrue, List, [], ◌++◌, length, take, drop, map, All, Option, Some, None, Ok}
 use Rattle.net_io.specs.Depot.{DepotState, octets_of, SameHeld}
 use Rattle.net_io.specs.Faults.{Rose, SameCounts}
 use Rattle.pcap_frames.specs.declared.record.FrameHead.{FrameHead}
@@ -42,16 +42,26 @@ packets_left false source file = None
 abbrev pub file_of : DepotState → Source → List ℕ
 file_of folder source = octets_of (folder.held (file_name_of source.reader))
 
-abbrev pub left_in : DepotState → Source → Option (List PacketIn)
-left_in folder source = packets_left folder.tells source (file_of folder source)
+-- the packets that were read ahead, each with its time: those behind them are of a batch before
+abbrev pub read_into : Source → List PacketIn → List PacketIn
+read_into source next = take (length source.heads.items) next
 
--- how many packets were read whose times aren't used yet
+-- these packets in front of those, where these are told
+abbrev pub in_front : List PacketIn → Option (List PacketIn) → Option (List PacketIn)
+in_front packets None = None
+in_front packets (Some left) = Some (packets ++ left)
+
+-- the packets that are still to be fetched, with those that were read ahead
+abbrev pub left_in : DepotState → Source → List PacketIn → Option (List PacketIn)
+left_in folder source next = in_front (read_into source next) (packets_left folder.tells source (file_of folder source))
+
+-- how many packets were fetched whose times aren't used yet
 abbrev pub due_in : Source → ℕ
-due_in source = length source.heads.items - source.at
+due_in source = length source.fetched.items - source.at
 
 -- the times of the frames that aren't used yet
 abbrev pub heads_left : Source → List ℕ → List FrameHead
-heads_left source file = drop source.at source.heads.items ++ map (λ frame. frame.head) (frames_left source file)
+heads_left source file = drop source.at source.fetched.items ++ source.heads.items ++ map (λ frame. frame.head) (frames_left source file)
 
 -- so many frames stand in front of those that are left as were read
 pub record IsAmid (source : Source) (file : List ℕ) : Type 0 where
@@ -110,22 +120,23 @@ pub record AreRead (file : List ℕ) (old new : Source) (times : List FrameHead)
   pub packets_are : map packet_in frames ≡ packets
   pub left : frames_left old file ≡ frames ++ frames_left new file
 
--- Frames were read from a source into a batch, behind those that it has.
+-- the packets that were fetched, and which of their times were used, are as they were
+pub record SameFetched (old new : Source) : Type 0 where
+  pub times : new.fetched.items ≡ old.fetched.items
+  pub at : new.at ≡ old.at
+
+-- Frames were read from a source, behind those that were read ahead.
 pub record HasGot (tells : Bool) (file : List ℕ) (old new : Source) (batch batch' : List PacketIn) : Type 0 where
   pub times : List FrameHead
   pub packets : List PacketIn
   pub same : IsSame old new
   pub heads : new.heads.items ≡ old.heads.items ++ times
-  pub at : new.at ≡ old.at
+  pub fetched : SameFetched old new
   pub behind : batch' ≡ batch ++ packets
   pub count : length times ≡ length packets
   pub written : All (IsTime (format_of old.reader)) times
   pub short : All (λ packet. length packet.bytes ≤ 262144) packets
   pub read : IsTrue tells → AreRead file old new times packets
-
--- the packets of a batch that were read, each with its time: those behind them are of the batch before
-abbrev pub read_into : Source → List PacketIn → List PacketIn
-read_into source batch = take (length source.heads.items) batch
 
 -- the numbers of failed reads: that of this name rose where one has failed, and else none has moved
 abbrev pub ReadsMove : Option Behind → List ℕ → (List ℕ → ℕ) → (List ℕ → ℕ) → Type 0
@@ -150,20 +161,19 @@ pub record IsFed (folder : DepotState) (source : Source) : Type 0 where
   pub stands : IsTrue folder.tells → StandsBy source.behind source (file_of folder source)
   pub within : source.read ≤ source.most
   pub times : All (IsTime (format_of source.reader)) source.heads.items
+  pub fetched : All (IsTime (format_of source.reader)) source.fetched.items
 
--- a batch was read, or nothing where what stands behind the last packet is known already
+-- what was read ahead stands in these places
+pub record IsAhead (source : Source) (next : List PacketIn) : Type 0 where
+  pub places : length source.heads.items ≤ length next
+  pub few : length source.heads.items ≤ 1024
+  pub short : All (λ packet. length packet.bytes ≤ 262144) (read_into source next)
+
+-- packets were read ahead, or nothing where what stands behind the last packet is known already
 abbrev pub HasMoved : Source → Source → DepotState → DepotState → Type 0
 HasMoved old new before after = ((old.behind ≡ None) × HasOnlyRead new.behind (file_name_of old.reader) before after) ⊎ ((new.behind ≡ old.behind) × (after ≡ before))
 
--- An empty batch was filled.
-pub record HasFilled (before after : DepotState) (old new : Source) (batch : List PacketIn) : Type 0 where
-  pub fed : IsFed after new
-  pub got : HasGot before.tells (file_of before old) old new [] batch
-  pub few : length batch ≤ 1024
-  pub some : (0 < length batch) ⊎ IsSome new.behind
-  pub moved : HasMoved old new before after
-
--- Packets moved to a batch; the times of what is to come stay.
+-- Packets were read ahead or fetched; the times of what is to come stay.
 pub record HasStepped (old new : Source) (before after : DepotState) : Type 0 where
   pub same : IsSame old new
   pub heads : IsTrue before.tells → heads_left new (file_of before old) ≡ heads_left old (file_of before old)

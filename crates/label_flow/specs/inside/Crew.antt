@@ -62,12 +62,12 @@ pub record IsServant (board : ℕ) (plan : PlanState) (agreed hops : List Hop) (
   pub hops_are : hops ≡ agreed
   pub nodes : HasNodes hops v
 
--- a batch for all workers, each of which has a desk
-pub record MayShare (left : Option (List PacketIn)) (batch : Batch) (desks seens : ℕ) : Type 0 where
+-- a batch for all workers, each of which has a bench
+pub record MayShare (left : Option (List PacketIn)) (batch : Batch) (benches seens : ℕ) : Type 0 where
   pub some : 0 < seens
   pub few : seens ≤ 16
   pub workers : batch.workers ≡ seens
-  pub same : desks ≡ seens
+  pub same : benches ≡ seens
   pub numbers : batch.base + length batch.packets.items < 2 ^ 63
   pub told : IsTold left batch.base batch.packets.items
   pub short : All IsShort batch.packets.items
@@ -86,12 +86,12 @@ pub record IsAt (told left : Option (List PacketIn)) (n : ℕ) : Type 0 where
   pub count_is : length packets ≡ n
   pub fetched : AreFetched told packets left
 
--- a feed at its start, as all agree, with a desk for each of these viewers
-pub record MayLead (agreed hops : List Hop) (told left : Option (List PacketIn)) (viewers : List ViewerState) (desks : ℕ) : Type 0 where
+-- a feed at its start, as all agree, with a bench for each of these viewers
+pub record MayLead (agreed hops : List Hop) (told left : Option (List PacketIn)) (viewers : List ViewerState) (benches : ℕ) : Type 0 where
   pub hops_are : hops ≡ agreed
   pub left_is : left ≡ told
   pub viewers_are : HasViewers hops viewers
-  pub desks_are : desks ≡ length viewers
+  pub benches_are : benches ≡ length viewers
 
 -- All batches of a feed were judged, or it stopped before.
 pub record HasLed {Q A E : Type 0} (took : Q → Q → List PairState → Type 0) (left : Q → Option (List PacketIn)) (ended : Q → Bool) (due : Q → ℕ) (stop : Q → Option E) (told : Q → ℕ)

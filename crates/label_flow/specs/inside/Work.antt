@@ -47,10 +47,10 @@ pub record HasViewers (hops : List Hop) (viewers : List ViewerState) : Type 0 wh
   pub few : length viewers ≤ 16
   pub nodes : All (HasNodes hops) viewers
 
--- w workers, each with a desk, and these viewers
-pub record HasCrew (hops : List Hop) (w desks : ℕ) (viewers : List ViewerState) : Type 0 where
+-- w workers, each with a bench, and these viewers
+pub record HasCrew (hops : List Hop) (w benches : ℕ) (viewers : List ViewerState) : Type 0 where
   pub all : w ≡ length viewers
-  pub same : desks ≡ length viewers
+  pub same : benches ≡ length viewers
   pub viewers_are : HasViewers hops viewers
 
 -- a feed is ready, with so many packets due, and its flow has these hops

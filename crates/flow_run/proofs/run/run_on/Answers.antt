@@ -1,7 +1,10 @@
-use Rattle.std.proofs.Common.{◌≡◌, length, refl, sym, ap, ◌∙◌, Some}
+use Rattle.std.proofs.Common.{◌≡◌, List, Option, length, refl, sym, ap, subst, ◌∙◌, Some}
+use Rattle.packet_walk.specs.declared.packet.PacketIn.{PacketIn}
 use Rattle.shared_tables.specs.Plan.{PlanState}
+use Rattle.label_flow.specs.Feed.{AreBegun, AreWhole}
 use Rattle.flow_run.specs.inside.Feed.{last_moment}
 use Rattle.flow_run.specs.declared.end.FlowPlace.{FlowPlace}
+use Rattle.flow_run.proofs.Ahead.{left_unread}
 use Rattle.flow_run.proofs.Flown.{round_walked, round_lawful, ok_none, steps_flown}
 use Rattle.flow_run.proofs.run.run_on.Goals as goal
 
@@ -21,6 +24,7 @@ returns-clause-flown g c =
     let feed = c.drive-driven.new.feed in
     let same : feed.place ≡ place = round.taken.0.3 in
     let prepared = c.requires.prepared in
+    let left = left_unread (g.D.Depot.state c.args.feed.now.depot.now) c.args.feed.now.source c.args.feed.now.next.items prepared.new.fresh.heads in
     let stands = c.requires.stands in
     let seats = rw (sym c.as_mut_slice-seats.ensures.value) at c.requires.board.seats in
     let count = rw (sym c.as_mut_slice-seats.ensures.value) at c.requires.board.count in
@@ -37,8 +41,8 @@ returns-clause-flown g c =
       whole = rw same at ended.sent;
       behind = ended.behind;
       fed = ended.fed driven.fed (λ is. stands.apart (ap (λ (p : FlowPlace). p.flow.now.output) (sym same) ∙ is ∙ ap Some (round.taken.1.source.name ∙ prepared.new.fresh.name)));
-      begun = round.begun;
-      all = λ done. round.whole (driven.stop ∙ ok_none c.drive-driven.result (ended.done done));
+      begun = subst (λ (ps : Option (List PacketIn)). AreBegun ps round.packets) left round.begun;
+      all = λ done. subst (λ (ps : Option (List PacketIn)). AreWhole ps round.packets) left (round.whole (driven.stop ∙ ok_none c.drive-driven.result (ended.done done)));
       walked = round_walked plan _ _ _ _ _ _ _ _ _ seats count stands.workers.0 stands.beside.1 stands.beside.0 round.round;
       lawful = round_lawful plan _ _ _ _ _ _ _ _ _ seats count stands.workers.0 stands.beside.1 stands.beside.0 round.round;
       steps = steps_flown plan _ _ c.finish.result c.drive-driven.result c.close-network.result c.args.board.0 c.drive-driven.new.publisher ended.done ended.gives driven.replies c.close-network.ensures driven.plan c.requires.board.plan c.requires.board.version;

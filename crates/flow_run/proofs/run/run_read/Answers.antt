@@ -11,7 +11,7 @@ run_made-requires-clause-prepared g c κs within =
     record {
       new = record {
         fresh = new.fresh;
-        fed = fed_kept _ _ _ _ created.told (λ told. created.others told _ (λ is. stands.apart (is ∙ ap Some new.fresh.name))) refl refl refl refl refl new.fed;
+        fed = fed_kept _ _ _ _ created.told (λ told. created.others told _ (λ is. stands.apart (is ∙ ap Some new.fresh.name))) refl refl refl refl refl refl new.fed;
         seen = new.seen;
         passed = new.passed;
         denied = new.denied;

@@ -8,7 +8,7 @@ loop-alloc-init g c = record {
   ready = c.requires.ready;
   amid = c.requires.amid;
   reads = only_none _ _;
-  got = got_nothing _ _ _ _ _ _ (record { name = refl; format = refl; most = refl }) refl refl refl (λ told. refl);
+  got = got_nothing _ _ _ _ _ _ (record { name = refl; format = refl; most = refl }) (record { times = refl; at = refl }) refl refl (λ told. refl);
   behind = c.requires.begins;
   few = omega (arith, ap length c.requires.empty);
   places = omega (arith, ap length c.requires.empty);

@@ -6,14 +6,14 @@ use Rattle.flow_run.proofs.source.read_one.Goals as goal
 pub returns-then-not-has_place-clause-got : goal.returns-then-not-has_place-clause-got
 returns-then-not-has_place-clause-got g c =
     let room = c.has_place.ensures in
-    got_unready _ _ _ _ _ _ (record { name = refl; format = refl; most = refl }) refl room.heads
+    got_unready _ _ _ _ _ _ (record { name = refl; format = refl; most = refl }) (record { times = refl; at = refl }) room.heads
     (kept c.args.source.now.heads.items c.has_place.new.heads.items c.args.batch.now.items c.has_place.new.batch.items room.heads room.batch) c.requires.begins refl refl refl
 
 pub returns-then-source-clause-got : goal.returns-then-source-clause-got
 returns-then-source-clause-got g c =
     let room = c.has_place.ensures in
     let clauses = rw c.in-Ok-Some.field-0-is at c.in-Ok-Some.ensures in
-    got_full _ _ _ _ _ _ (record { name = clauses.name; format = clauses.format; most = refl }) refl room.heads
+    got_full _ _ _ _ _ _ (record { name = clauses.name; format = clauses.format; most = refl }) (record { times = refl; at = refl }) room.heads
     (kept_before c.args.source.now.heads.items c.has_place.new.heads.items c.args.batch.now.items c.has_place.new.batch.items room.heads room.batch
     c.len-place.result c.next.new.into (omega (arith, c.len-place.ensures, c.has_place.new.heads.ok))) c.if-source.true refl
 
@@ -26,7 +26,7 @@ pub returns-else-source-clause-got : goal.returns-else-source-clause-got
 returns-else-source-clause-got g c =
     let room = c.has_place.ensures in
     let clauses = rw c.in-Ok-Some.field-0-is at c.in-Ok-Some.ensures in
-    got_one _ _ _ _ _ _ (record { name = clauses.name; format = clauses.format; most = refl }) refl c.in-Ok-Some.head c.next.new.into
+    got_one _ _ _ _ _ _ (record { name = clauses.name; format = clauses.format; most = refl }) (record { times = refl; at = refl }) c.in-Ok-Some.head c.next.new.into
     (c.push_reserved.ensures.items ∙ ap (λ hs. hs ++ c.in-Ok-Some.head ∷ []) room.heads)
     (kept_and_one c.args.source.now.heads.items c.has_place.new.heads.items c.args.batch.now.items c.has_place.new.batch.items room.heads room.batch
     c.len-place.result c.next.new.into (omega (arith, c.len-place.ensures, c.has_place.new.heads.ok))
@@ -37,7 +37,7 @@ pub returns-in-Ok-None-clause-got : goal.returns-in-Ok-None-clause-got
 returns-in-Ok-None-clause-got g c =
     let room = c.has_place.ensures in
     let clauses = rw c.in-Ok-None.field-0-is at c.in-Ok-None.ensures in
-    got_end _ _ _ _ _ _ (record { name = clauses.name; format = clauses.format; most = refl }) refl room.heads
+    got_end _ _ _ _ _ _ (record { name = clauses.name; format = clauses.format; most = refl }) (record { times = refl; at = refl }) room.heads
     (kept_before c.args.source.now.heads.items c.has_place.new.heads.items c.args.batch.now.items c.has_place.new.batch.items room.heads room.batch
     c.len-place.result c.next.new.into (omega (arith, c.len-place.ensures, c.has_place.new.heads.ok))) c.requires.begins refl (λ told. (clauses.answer told).0)
 
@@ -45,7 +45,7 @@ pub returns-in-Err-clause-got : goal.returns-in-Err-clause-got
 returns-in-Err-clause-got g c =
     let room = c.has_place.ensures in
     let clauses = c.in-Err.ensures in
-    got_stop _ _ _ _ _ _ (record { name = clauses.name; format = clauses.format; most = refl }) refl c.in-Err.stop c.next.new.into room.heads
+    got_stop _ _ _ _ _ _ (record { name = clauses.name; format = clauses.format; most = refl }) (record { times = refl; at = refl }) c.in-Err.stop c.next.new.into room.heads
     (kept_before c.args.source.now.heads.items c.has_place.new.heads.items c.args.batch.now.items c.has_place.new.batch.items room.heads room.batch
     c.len-place.result c.next.new.into (omega (arith, c.len-place.ensures, c.has_place.new.heads.ok))) c.requires.begins
     (ap Some c.behind_at.ensures) (clauses.stands _) refl clauses.answer

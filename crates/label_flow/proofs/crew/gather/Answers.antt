@@ -11,8 +11,7 @@ pub loop-at-init : goal.loop-at-init
 loop-at-init g c = record {
   inside = search rules;
   seens = search rules;
-  desks = search rules;
-  later = search rules;
+  benches = search rules;
   grown = later_same _;
   mine = search rules;
   others = search rules;
@@ -24,16 +23,16 @@ returns-clause-ok g c =
     let r = c.requires.share in
     let vs = c.args.seens.now in
     let whole : length vs ≤ c.loop-at.at = omega (arith, c.loop-at-test.false, h.seens) in
-    all_shared g.A.Agreed.hops g.A.Agreed.left c.args.batch.now vs c.loop-at.desks c.loop-at.seens r.some r.workers (h.desks ∙ r.same) h.seens (λ j d lt. h.mine j d (le_trans lt whole))
+    all_shared g.A.Agreed.hops g.A.Agreed.left c.args.batch.now vs c.loop-at.benches c.loop-at.seens r.some r.workers (h.benches ∙ r.same) h.seens (λ j d lt. h.mine j d (le_trans lt whole))
 
 -- what was seen before and after the share at this place
-pub returns-in_err-share-clause-seens : goal.returns-in_err-share-clause-seens
-returns-in_err-share-clause-seens g c =
+pub returns-in_err-take_share-clause-seens : goal.returns-in_err-take_share-clause-seens
+returns-in_err-take_share-clause-seens g c =
     let h = c.loop-at.invariant in
     let vs = c.loop-at.seens in
     let v = c.index-seens-at.result in
     let inside : c.loop-at.at < length vs = omega (arith, c.loop-at-test.true, h.seens) in
-    later_set _ _ _ _ h.grown (λ d. subst (λ (y : ViewerState). IsLater y c.share.new.seen) (read_any vs c.loop-at.at v d inside) c.share.ensures.seen)
+    later_set _ _ _ _ h.grown (λ d. subst (λ (y : ViewerState). IsLater y c.take_share.new.seen) (read_any vs c.loop-at.at v d inside) c.take_share.ensures.seen)
 
 pub loop-at-preserved : goal.loop-at-preserved
 loop-at-preserved g c =
@@ -42,16 +41,14 @@ loop-at-preserved g c =
     let at = c.loop-at.at in
     let v = c.index-seens-at.result in
     let b = c.args.batch.now in
-    let x = c.share.new.seen in
-    let later = c.share.ensures.later in
+    let x = c.take_share.new.seen in
     let inside : at < length vs = omega (arith, c.loop-at-test.true, h.seens) in
-    let share : IsShare g.A.Agreed.hops g.A.Agreed.left at b.workers b.base (length b.packets.items) v c.share.new.desk x = search (c.in_ok-share.ensures.ok, rules) in
+    let share : IsShare g.A.Agreed.hops g.A.Agreed.left at b.workers b.base (length b.packets.items) v c.take_share.new.bench x = search (c.in_ok-take_share.ensures.ok, rules) in
     record {
       inside = omega (arith, inside, h.seens);
       seens = length-set vs at x ∙ h.seens;
-      desks = length-set c.loop-at.desks at c.share.new.desk ∙ h.desks;
-      later = record { board = later.board ∙ h.later.board; plan = later.plan ∙ h.later.plan; seen = le_trans h.later.seen later.seen };
-      grown = later_set _ _ _ _ h.grown (λ d. subst (λ (y : ViewerState). IsLater y x) (read_any vs at v d inside) c.share.ensures.seen);
-      mine = mine_more _ _ _ _ _ at c.args.seens.now vs c.loop-at.desks v x c.share.new.desk inside (omega (arith, inside, h.seens, h.desks, c.requires.share.same)) c.index-seens-at.is h.others h.mine share;
+      benches = length-set c.loop-at.benches at c.take_share.new.bench ∙ h.benches;
+      grown = later_set _ _ _ _ h.grown (λ d. subst (λ (y : ViewerState). IsLater y x) (read_any vs at v d inside) c.take_share.ensures.seen);
+      mine = mine_more _ _ _ _ _ at c.args.seens.now vs c.loop-at.benches v x c.take_share.new.bench inside (omega (arith, inside, h.seens, h.benches, c.requires.share.same)) c.index-seens-at.is h.others h.mine share;
       others = λ k d le. get_or-set_other vs at k x d (λ (t : k ≡ at). absurd (omega (arith, le, t))) ∙ h.others k d (omega (arith, le));
     }

@@ -1,6 +1,6 @@
 use Rattle.std.proofs.Common.{◌≡◌, ℕ, ◌-◌, ◌<◌, ◌≤◌, [], length, get_or}
 use Rattle.shared_tables.specs.Board.{ViewerState}
-use Rattle.label_flow.specs.Round.{IsLater, AreLater}
+use Rattle.label_flow.specs.Round.{AreLater}
 use Rattle.label_flow.specs.inside.Crew.{IsShare}
 use Rattle.label_flow.proofs.crew.gather.Given as goal
 
@@ -8,11 +8,10 @@ abbrev pub invariant-loop-at : goal.invariant-loop-at
 invariant-loop-at g l = record {
   inside : l.at ≤ length l.fn.seens;
   seens : length l.seens ≡ length l.fn.seens;
-  desks : length l.desks ≡ length l.fn.desks;
-  later : IsLater l.fn.viewer l.viewer;
+  benches : length l.benches ≡ length l.fn.benches;
   grown : AreLater l.fn.seens l.seens;
   mine : (k : ℕ) (d : ViewerState) → k < l.at
-      → IsShare g.A.Agreed.hops g.A.Agreed.left k l.batch.workers l.batch.base (length l.batch.packets.items) (get_or l.fn.seens k d) (get_or l.desks k []) (get_or l.seens k d);
+      → IsShare g.A.Agreed.hops g.A.Agreed.left k l.batch.workers l.batch.base (length l.batch.packets.items) (get_or l.fn.seens k d) (get_or l.benches k []) (get_or l.seens k d);
   others : (k : ℕ) (d : ViewerState) → l.at ≤ k → get_or l.seens k d ≡ get_or l.fn.seens k d;
 }
 

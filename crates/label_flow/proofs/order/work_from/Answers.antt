@@ -4,7 +4,6 @@ use Rattle.shared_tables.specs.Plan.{PlanState}
 use Rattle.shared_tables.specs.Board.{ViewerState}
 use Rattle.label_flow.specs.Round.{pick, IsWork}
 use Rattle.label_flow.proofs.Works.{work_lower}
-use Rattle.label_flow.proofs.Shares.{share_of}
 use Rattle.label_flow.proofs.order.work_from.Goals as goal
 
 pub returns-clause-done : goal.returns-clause-done
@@ -34,6 +33,3 @@ returns-clause-done g c =
         seen = le_trans low w.later.seen;
       });
     }
-
-pub returns-clause-share : goal.returns-clause-share
-returns-clause-share g c = share_of _ _ _ (returns-clause-done g c)

@@ -19,7 +19,7 @@ loop-init g c =
     record {
       viewer = record { board = refl; plan = refl; seen = le_refl _ };
       later = later_same _;
-      desks = c.requires.lead.desks_are;
+      benches = c.requires.lead.benches_are;
       workers = search rules;
       few = omega (arith, ap length empty);
       due = c.requires.feed.due_is;
@@ -36,7 +36,7 @@ pub batch_round-requires-clause-crew : goal.batch_round-requires-clause-crew
 batch_round-requires-clause-crew g c κs within =
     let h = c.loop.invariant in
     let len = later_length _ _ h.later in
-    record { all = h.workers ∙ sym len; same = h.desks ∙ sym len; viewers_are = viewers_later _ _ _ h.later c.requires.lead.viewers_are }
+    record { all = h.workers ∙ sym len; same = h.benches ∙ sym len; viewers_are = viewers_later _ _ _ h.later c.requires.lead.viewers_are }
 
 pub batch_round-requires-clause-feed : goal.batch_round-requires-clause-feed
 batch_round-requires-clause-feed g c κs within =
@@ -53,7 +53,7 @@ loop-preserved g c =
     record {
       viewer = record { board = e.later.board ∙ h.viewer.board; plan = e.later.plan ∙ h.viewer.plan; seen = le_trans h.viewer.seen e.later.seen };
       later = later_later _ _ _ h.later e.seens;
-      desks = e.desks ∙ h.desks;
+      benches = e.benches ∙ h.benches;
       workers = e.workers ∙ h.workers;
       few = e.ok.0;
       due = e.feed.ok.0;

@@ -11,7 +11,7 @@ abbrev pub invariant-loop : goal.invariant-loop
 invariant-loop g l = record {
   viewer : IsLater l.fn.viewer l.viewer;
   later : AreLater l.fn.seens l.seens;
-  desks : length l.desks ≡ length l.fn.seens;
+  benches : length l.benches ≡ length l.fn.seens;
   workers : (arc_value l.batch).workers ≡ length l.fn.seens;
   few : length (arc_value l.batch).packets.items ≤ 1024;
   due : g.Q.Feed.due l.feed ≡ 0;

@@ -5,6 +5,6 @@ abbrev pub ghosts-with_crew : goal.ghosts-with_crew
 ghosts-with_crew g a = record {
   board = (first_of a.viewers.now).board;
   plan = (first_of a.viewers.now).plan;
-  hops = a.shift.now.flow.now.hops;
+  hops = a.flow.now.hops;
   left = g.Q.Feed.left a.feed.now;
 }

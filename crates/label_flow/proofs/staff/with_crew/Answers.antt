@@ -9,24 +9,24 @@ use Rattle.label_flow.proofs.staff.with_crew.Goals as goal
 pub returns-in_default : goal.returns-in_default
 returns-in_default g c = not_led _ _ _ _ _ _ _ _ _ _ _ _ (later_same _) refl c.requires.feed.is_ready
 
-pub returns-in_default-hire : goal.returns-in_default-hire
-returns-in_default-hire g c = not_led _ _ _ _ _ _ _ _ _ _ _ _ (later_same _) refl c.requires.feed.is_ready
+pub returns-in_default-crew_of : goal.returns-in_default-crew_of
+returns-in_default-crew_of g c = not_led _ _ _ _ _ _ _ _ _ _ _ _ (later_same _) refl c.requires.feed.is_ready
 
 pub staff-led-requires-clause-lead : goal.staff-led-requires-clause-lead
 staff-led-requires-clause-lead g c κs within =
-    let crew = c.in-Ok-hire.crew in
+    let crew = c.in-Ok-crew_of.crew in
     let begun : crew.seens.items ≡ c.args.viewers.now = search rules in
-    let desks : length crew.desks.items ≡ length c.args.viewers.now = search rules in
+    let benches : length crew.benches.items ≡ length c.args.viewers.now = search rules in
     record {
       hops_are = (c.requires.servants 0 (first_of []) c.requires.viewers.some).hops_are;
       left_is = c.requires.left;
-      viewers_are = subst (λ (vs : List ViewerState). HasViewers c.args.shift.now.flow.now.hops vs) (sym begun) c.requires.viewers;
-      desks_are = desks ∙ ap length (sym begun);
+      viewers_are = subst (λ (vs : List ViewerState). HasViewers c.args.flow.now.hops vs) (sym begun) c.requires.viewers;
+      benches_are = benches ∙ ap length (sym begun);
     }
 
 pub learn_all-requires-clause-same : goal.learn_all-requires-clause-same
 learn_all-requires-clause-same g c =
-    let begun : c.in-Ok-hire.crew.seens.items ≡ c.args.viewers.now = search rules in
+    let begun : c.in-Ok-crew_of.crew.seens.items ≡ c.args.viewers.now = search rules in
     let e = c.staff-led.ensures in
     ap length c.as_slice.ensures.value ∙ later_length _ _ e.led.later ∙ ap length begun ∙ sym (later_length _ _ e.later)
 
@@ -36,9 +36,9 @@ learn_all-requires-clause-board g c = later_boards _ _ _ _ _ _ c.staff-led.ensur
 pub returns : goal.returns
 returns g c =
     let q = g.Q.Feed in
-    let begun : c.in-Ok-hire.crew.seens.items ≡ c.args.viewers.now = search rules in
+    let begun : c.in-Ok-crew_of.crew.seens.items ≡ c.args.viewers.now = search rules in
     let led = c.staff-led in
     let xs = c.learn_all.new.viewers in
     let learn = subst (λ (ss : List ViewerState). HaveLearnt led.new.viewers ss xs) c.as_slice.ensures.value c.learn_all.ensures in
-    led_learnt q.took q.left q.ended q.due q.stop q.hops q.ready c.args.shift.now.flow.now.hops led.result c.args.feed.now led.new.feed c.args.viewers.now led.new.viewers
-    c.in-Ok-hire.crew.seens.items led.new.crew.seens.items xs begun led.ensures.later learn led.ensures.led
+    led_learnt q.took q.left q.ended q.due q.stop q.hops q.ready c.args.flow.now.hops led.result c.args.feed.now led.new.feed c.args.viewers.now led.new.viewers
+    c.in-Ok-crew_of.crew.seens.items led.new.crew.seens.items xs begun led.ensures.later learn led.ensures.led

@@ -28,10 +28,10 @@ returns-in-Err-hand_on-clause-cut g c was h t =
 
 pub returns-in-Ok-hand_on-clause-ready : goal.returns-in-Ok-hand_on-clause-ready
 returns-in-Ok-hand_on-clause-ready g c =
-    ready_handed _ _ _ _ _ _ c.args.walked.now.versions (is_denied c.args.walked.now.end) c.requires.ready refl refl refl refl refl
+    ready_handed _ _ _ _ _ _ _ c.args.walked.now.versions (is_denied c.args.walked.now.end) c.requires.ready refl refl refl refl refl refl
     c.in-Ok.ensures.ok c.count.ensures.passed c.count.ensures.denied c.in-Ok-hand_on.ensures
 
 pub returns-in-Err-hand_on-clause-ready : goal.returns-in-Err-hand_on-clause-ready
 returns-in-Err-hand_on-clause-ready g c =
-    ready_handed _ _ _ _ _ _ c.args.walked.now.versions (is_denied c.args.walked.now.end) c.requires.ready refl refl refl refl refl
+    ready_handed _ _ _ _ _ _ _ c.args.walked.now.versions (is_denied c.args.walked.now.end) c.requires.ready refl refl refl refl refl refl
     c.in-Ok.ensures.ok c.count.ensures.passed c.count.ensures.denied c.in-Err-hand_on.ensures
