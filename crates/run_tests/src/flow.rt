@@ -515,6 +515,38 @@ fn pcapng_captures_end_somewhere(rt: HostRuntime) {
     }
 }
 
+// What stands behind the first batch of two workers, where some packets are read ahead.
+const AHEAD: [(usize, u64, usize, Ended); 3] = [
+    (26_444, 9999, 600, Ended::Broken),
+    (26_424, 9999, 600, Ended::GoesOn),
+    (90_180, 550, 550, Ended::TooMany),
+];
+
+// Packets that were read ahead come in front of what stands behind them: an end, a broken record, one packet too many, or a read that fails.
+#[test]
+fn packets_that_were_read_ahead_come_first(rt: HostRuntime) {
+    let alloc = rt.alloc();
+    let whole = capture(&rt, alloc, 2049);
+    for case in AHEAD {
+        let depot = ends_so(&rt, alloc, &whole, case);
+        let (_, _, packets, _) = case;
+        assert!(rt; depot.get("out.pcap") == whole.get(..24 + 44 * packets.min(2049)));
+    }
+    let mut late = 0u32;
+    for call in 8..40u32 {
+        let mut depot = folder(&rt, alloc, &whole, call);
+        let ran = called(&rt, alloc, 9999, &mut depot, 0);
+        if ran.seen.len() > 512 && depot.failed() == Some(DepotCall::Read) {
+            let text = from_utf8(&ran.printed).expect(&rt, "a text");
+            let lines = text.lines().filter(|line| line.starts_with("packet "));
+            assert!(rt; lines.count() == ran.seen.len());
+            assert!(rt; end_of(&rt, &ran.end, 0) == Ended::Stopped(FlowStop::Read));
+            late += 1;
+        }
+    }
+    assert!(rt; late > 0);
+}
+
 // Each call of the folder fails in turn, and each write.
 #[test]
 fn calls_that_fail_stop_a_flow(rt: HostRuntime) {
