@@ -89,7 +89,8 @@ impl<A: Agreed> Trays<A> {
         self.trays[worker].order.store(rt, Some(order));
     }
 
-    /// Says that orders lie here. It wakes one worker, who wakes the next: a thread takes longer to wake another than to judge some packets.
+    /// Says that orders lie here. It wakes one worker, who wakes the next where it finds one: a thread takes longer to wake another than to judge
+    /// some packets.
     pub fn call(&self) {
         ring(&self.ordered);
     }
@@ -119,13 +120,13 @@ impl<A: Agreed> Trays<A> {
         for _ in rt.forever() {
             // The bell is read first: where it is rung from here on, one doesn't sleep.
             let read = self.ordered.load(Ordering::SeqCst);
-            if slept {
-                self.ordered.wake_one();
-            }
             if self.closed.load(Ordering::SeqCst) > 0 {
                 return None;
             }
             if let Some(taken) = self.take(rt, worker) {
+                if slept {
+                    self.ordered.wake_one();
+                }
                 return Some(taken);
             }
             slept = wait(rt, &self.ordered, read, LOOKS_FOR_ORDERS);
