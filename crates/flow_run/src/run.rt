@@ -310,7 +310,8 @@ pub fn run_flow<D: Depot + Send, S: Sink + Send, G: Gate + Sync, R: Threads + Wa
     let Ok(()) = write_flow(u64::from(place.number), input, &mut report.waiting) else {
         return (none, FlowEnd::Stopped(FlowStop::OutOfMemory));
     };
-    match begin_source(alloc, depot, input, place.most, place.workers) {
+    let hops = place.flow.hops.hops().len();
+    match begin_source(alloc, depot, input, place.most, place.workers, hops) {
         Ok(source) => run_source(runner, place, network, source, report, depot, out),
         Err(stop) => (none, end_at(stop)),
     }

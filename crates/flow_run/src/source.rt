@@ -17,15 +17,16 @@ use pcap_frames::FrameHead;
 use std::alloc::Global;
 use std::mem;
 
-// The most packets of a batch for so many workers. One worker has each packet still near when it comes to it; for several, a batch has
-// to be worth their waking.
-fn most_at_once(workers: usize) -> usize
+// The most packets of a batch for so many workers over so many hops. One worker has each packet still near when it comes to it; for several,
+// a batch has to be worth their waking, and where a walk takes long, it has to last: at its end they wait for each other.
+fn most_at_once(workers: usize, hops: usize) -> usize
     ensures some { 0 < result }
     ensures few { result ≤ 1024 }
 {
-    match workers {
-        0 | 1 => 256,
-        _ => 512,
+    match (workers, hops) {
+        (0 | 1, _) => 256,
+        (_, 0..=3) => 512,
+        _ => 1_024,
     }
 }
 
@@ -48,8 +49,9 @@ pub enum Behind {
 #[derive(Drop)]
 pub struct Source {
     pub reader: CaptureReader,
-    /// How many workers its packets are for.
+    /// How many workers its packets are for, and over how many hops.
     pub workers: usize,
+    pub hops: usize,
     /// How many packets may be read, and how many were.
     pub most: u64,
     pub read: u64,
@@ -171,7 +173,7 @@ fn fill<D: Depot>(alloc: Global, depot: &mut D, source: &mut Source, batch: &mut
     ensures places { length source.new.heads.items ≤ length batch.new.items }
     ensures some { (0 < length source.new.heads.items) ⊎ IsSome source.new.behind }
 {
-    let most = most_at_once(source.workers);
+    let most = most_at_once(source.workers, source.hops);
     while source.heads.len() < most {
         if !read_one(alloc, depot, source, batch) {
             return;
@@ -268,13 +270,14 @@ pub(crate) fn fetch_batch<D: Depot>(
     last_answer(source.behind)
 }
 
-/// Begins to read the capture of this name, of which so many packets may be read, for so many workers.
+/// Begins to read the capture of this name, of which so many packets may be read, for so many workers and hops.
 pub(crate) fn begin_source<D: Depot>(
     alloc: Global,
     depot: &mut D,
     name: &FileName,
     most: u64,
     workers: usize,
+    hops: usize,
 ) -> Result<Source, ReadStop>
     ensures fresh { IfOk result (λ source. IsFresh name.now most source) }
     ensures fed { IfOk result (λ source. IsFed (D.state depot.new) source) }
@@ -289,6 +292,7 @@ pub(crate) fn begin_source<D: Depot>(
         Ok(reader) => Ok(Source {
             reader,
             workers,
+            hops,
             most,
             read: 0,
             behind: None,

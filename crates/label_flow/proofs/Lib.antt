@@ -3,6 +3,7 @@ pub mod Works
 pub mod Handing
 pub mod Batches
 pub mod Told
+pub mod Parts
 pub mod Shares
 pub mod Learning
 pub mod Dealt

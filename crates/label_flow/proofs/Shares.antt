@@ -9,7 +9,7 @@ use Rattle.packet_walk.specs.declared.packet.PacketIn.{PacketIn}
 use Rattle.label_flow.specs.Pair.{PairState}
 use Rattle.label_flow.specs.Feed.{MayAccept}
 use Rattle.label_flow.specs.Round.{pick, IsWork, IsLater, AreLater}
-use Rattle.label_flow.specs.declared.work.Batch.{Batch}
+use Rattle.label_flow.specs.declared.work.Part.{Part}
 use Rattle.label_flow.specs.inside.Work.{AreWorks}
 use Rattle.label_flow.specs.inside.Crew.{IsTold, IsShare, AreShared}
 use Rattle.label_flow.proofs.Works.{pick_mine, pick_other}
@@ -149,13 +149,13 @@ shares_fit hops told w n count k (v ∷ vs) (d ∷ ds) (u ∷ us) h zero j r at 
     work_fits v.plan hops v.seen u.seen (pick k w n h.0.packets) d (pick_all k w n h.0.packets h.0.short) h.0.work j r at
 shares_fit hops told w n count k (v ∷ vs) (d ∷ ds) (u ∷ us) h (suc i) j r at = shares_fit hops told w n count (k + 1) vs ds us h.1 i j r at
 
-pub all_shared : (hops : List Hop) (told : Option (List PacketIn)) (batch : Batch) (vs : List ViewerState) (ds : List (List PairState)) (us : List ViewerState) → 0 < length vs → batch.workers ≡ length vs
+pub all_shared : (hops : List Hop) (told : Option (List PacketIn)) (part : Part) (vs : List ViewerState) (ds : List (List PairState)) (us : List ViewerState) → 0 < length vs → part.workers ≡ length vs
     → length ds ≡ length vs → length us ≡ length vs
-    → ((j : ℕ) (d : ViewerState) → j < length vs → IsShare hops told j batch.workers batch.base (length batch.packets.items) (get_or vs j d) (get_or ds j []) (get_or us j d))
-    → AreShared hops told batch vs ds us
-all_shared hops told batch vs ds us some w a b each =
-    let n = batch.base in
-    let count = length batch.packets.items in
+    → ((j : ℕ) (d : ViewerState) → j < length vs → IsShare hops told j part.workers part.base part.count (get_or vs j d) (get_or ds j []) (get_or us j d))
+    → AreShared hops told part vs ds us
+all_shared hops told part vs ds us some w a b each =
+    let n = part.base in
+    let count = part.count in
     let m = length vs in
     let each' : (j : ℕ) (d : ViewerState) → j < m → IsShare hops told (0 + j) m n count (get_or vs j d) (get_or ds j []) (get_or us j d) =
     λ j d lt. subst (λ (i : ℕ). IsShare hops told i m n count (get_or vs j d) (get_or ds j []) (get_or us j d)) (omega arith)

@@ -1,4 +1,4 @@
-//! What a worker owns.
+//! What a worker made.
 
 ghost use Rattle.std.specs.Prelude.{◌≡◌, ◌+◌, ◌<◌, ◌≤◌, [], length, take, slice_get, Some, OnOk};
 ghost use Rattle.label_flow.specs.Round.{IsLater};
@@ -11,13 +11,11 @@ use packet_walk::{Gate, PacketIn, WalkRoom, Worker};
 use shared_tables::Viewer;
 use std::alloc::Global;
 use std::marker::Model;
-use std::mem;
 
-/// What a worker needs for its walks, and what it made of the packets of a batch: the places are filled again for the next batch.
-/// Contracts see it as the list of what it made.
+/// What a worker made of its packets of a part: the places are filled again for a part of the next batch. Contracts see it as the list
+/// of what it made.
 #[derive(Drop)]
 pub struct Bench {
-    room: Option<WalkRoom>,
     places: Vec<PairSlot>,
     filled: usize,
     // Each packet writes here: so no other worker's bench stands on the same line of a cache.
@@ -41,17 +39,15 @@ impl Bench {
         ensures { result ≡ [] }
     {
         Bench {
-            room: None,
             places: Vec::new(alloc),
             filled: 0,
             _apart: CachePadded::new(()),
         }
     }
 
-    /// The bench, in whose place an empty one is left. It takes no memory.
-    pub fn take(&mut self) -> Bench {
-        let alloc = *self.places.allocator();
-        mem::replace(self, Bench::new(alloc))
+    /// Where its memory comes from.
+    pub fn allocator(&self) -> Global {
+        *self.places.allocator()
     }
 
     /// Forgets what was made.
@@ -67,23 +63,6 @@ impl Bench {
         ensures { slice_get self.now i ≡ Some result.now }
     {
         &self.places[i]
-    }
-
-    /// What the walks of a batch need: it takes memory where the bench has none yet.
-    pub fn lend(&mut self) -> Result<WalkRoom, OutOfMemory>
-        ensures { self.new ≡ self.old }
-    {
-        match self.room.take() {
-            Some(room) => Ok(room),
-            None => WalkRoom::new(*self.places.allocator()),
-        }
-    }
-
-    /// Takes back what was lent.
-    pub fn keep(&mut self, room: WalkRoom)
-        ensures { self.new ≡ self.old }
-    {
-        self.room = Some(room);
     }
 
     /// Walks a packet, and keeps what became of it behind the others.

@@ -3,18 +3,54 @@
 ghost use Rattle.std.specs.Prelude.{◌≡◌, ◌<◌, ◌≤◌, length, OnOk};
 ghost use Rattle.std.specs.Arc.{arc_value};
 ghost use Rattle.label_flow.specs.Round.{IsLater, AreLater};
-ghost use Rattle.label_flow.specs.inside.Crew.{IsServant, MayShare, IsShare, AreShared};
+ghost use Rattle.label_flow.specs.inside.Work.{HasCrew};
+ghost use Rattle.label_flow.specs.inside.Crew.{IsServant, IsHere, IsShare, AreShared};
 
 use crate::agreed::{Agreed, Seen, Shift};
 use crate::bench::Bench;
-use crate::order::Order;
-use crate::work::Batch;
+use crate::order::{Order, order_at};
+use crate::trays::Answer;
+use crate::work::{Batch, Part};
 use mls_label::OutOfMemory;
-use packet_walk::Gate;
+use packet_walk::{Gate, ShownWalks, WalkRoom};
 use shared_tables::Viewer;
+use std::mem;
 use std::sync::{Arc, Wait};
 
-/// The thread of a worker, until no more orders come.
+/// What the one who leads keeps: of each worker what it has seen, and the bench with its packets of the part that is handed over; and room for its own walks,
+/// and for what it shows the feed.
+#[derive(Drop)]
+pub struct Crew<A: Agreed> {
+    pub benches: Vec<Bench>,
+    pub seens: Vec<Seen<A>>,
+    pub room: Option<WalkRoom>,
+    pub shown: ShownWalks,
+}
+
+// Judges what is ordered, lays the order for the worker's next packets in its place, and answers.
+fn fulfil<A: Agreed, G: Gate, R: Wait>(
+    shift: &Shift<'_, '_, '_, '_, A, R, G>,
+    viewer: &mut Viewer,
+    room: &mut Option<WalkRoom>,
+    worker: usize,
+    order: Order<A>,
+)
+    requires servant { IsServant A.board A.plan A.hops shift.now.flow.now.hops viewer.old }
+    requires tray { worker < shift.now.trays.now }
+    ensures { IsLater viewer.old viewer.new }
+{
+    let place = order.place();
+    let bench = shift.trays.lend(shift.rt, shift.alloc, worker, place);
+    match order.fulfil(shift, viewer, bench, room) {
+        Ok((done, next)) => {
+            shift.trays.lay(shift.rt, worker, next);
+            shift.trays.answer(shift.rt, worker, place, Ok(done));
+        }
+        Err(stop) => shift.trays.answer(shift.rt, worker, place, Err(stop)),
+    }
+}
+
+/// The thread of a worker, until no more orders come. It goes from tray to tray, so that no worker's packets stay behind.
 pub fn serve<A: Agreed, G: Gate, R: Wait>(
     shift: &Shift<'_, '_, '_, '_, A, R, G>,
     viewer: &mut Viewer,
@@ -23,47 +59,32 @@ pub fn serve<A: Agreed, G: Gate, R: Wait>(
     requires { IsServant A.board A.plan A.hops shift.now.flow.now.hops viewer.old }
     ensures { IsLater viewer.old viewer.new }
 {
+    let mut room = None;
+    let mut from = worker;
     for _ in shift.rt.forever() {
-        let Some((at, order)) = shift.trays.next(shift.rt, worker) else {
+        let Some((at, order)) = shift.trays.next(shift.rt, from) else {
             return;
         };
-        let answer = order.fulfil(shift, viewer);
-        shift.trays.answer(shift.rt, at, answer);
+        fulfil(shift, viewer, &mut room, at, order);
+        shift.trays.tell();
+        from = at + 1;
     }
 }
 
-/// The one who leads takes each order that nobody else has taken.
-pub fn help<A: Agreed, G: Gate, R: Wait>(
-    shift: &Shift<'_, '_, '_, '_, A, R, G>,
-    viewer: &mut Viewer,
-)
-    requires { IsServant A.board A.plan A.hops shift.now.flow.now.hops viewer.old }
-    ensures { IsLater viewer.old viewer.new }
-{
-    for _ in shift.rt.forever() {
-        let Some((at, order)) = shift.trays.take(shift.rt, 0) else {
-            return;
-        };
-        let answer = order.fulfil(shift, viewer);
-        shift.trays.answer(shift.rt, at, answer);
-    }
-}
-
-/// An order for each worker's packets of a batch, with its bench.
+/// An order for each worker's packets of the first part of a batch.
 pub fn order_all<A: Agreed, G, R: Wait>(
     shift: &Shift<'_, '_, '_, '_, A, R, G>,
     batch: &Arc<Batch>,
-    benches: &mut [Bench],
     seens: &[Seen<A>],
 ) -> Result<(), OutOfMemory>
-    requires share { MayShare A.left (arc_value batch.now) (length benches.old) (length seens.now) }
-    requires trays { shift.now.trays.now ≡ length benches.old }
-    ensures { length benches.new ≡ length benches.old }
+    requires here { IsHere A.left (arc_value batch.now) }
+    requires few { length seens.now ≤ 16 }
+    requires workers { (arc_value batch.now).workers ≡ length seens.now }
+    requires trays { shift.now.trays.now ≡ length seens.now }
 {
     let mut at = 0;
     while at < seens.len() {
-        let batch = Arc::try_clone(batch)?;
-        let order = Order::new(at as u32, seens[at].again(), batch, benches[at].take());
+        let order = order_at(at as u32, seens[at].again(), Arc::try_clone(batch)?, 0);
         shift.trays.lay(shift.rt, at, order);
         at += 1;
     }
@@ -73,49 +94,86 @@ pub fn order_all<A: Agreed, G, R: Wait>(
     Ok(())
 }
 
-/// What became of the orders, in the workers' order.
-pub fn gather<A: Agreed, G, R: Wait>(
+// What became of a part of this worker's packets. While it isn't judged, the one who leads takes orders itself.
+fn await_answer<A: Agreed, G: Gate, R: Wait>(
     shift: &Shift<'_, '_, '_, '_, A, R, G>,
-    batch: &Batch,
-    benches: &mut [Bench],
-    seens: &mut [Seen<A>],
+    viewer: &mut Viewer,
+    room: &mut Option<WalkRoom>,
+    worker: usize,
+    place: usize,
+) -> Answer<A>
+    requires servant { IsServant A.board A.plan A.hops shift.now.flow.now.hops viewer.old }
+    requires tray { worker < shift.now.trays.now }
+    requires place { place < 8 }
+    ensures { IsLater viewer.old viewer.new }
+{
+    for _ in shift.rt.forever() {
+        // The bell is read first: where it is rung from here on, one doesn't sleep.
+        let read = shift.trays.answered();
+        if let Some(answer) = shift.trays.answer_of(shift.rt, worker, place) {
+            return answer;
+        }
+        match shift.trays.take(shift.rt, worker) {
+            Some((at, order)) => fulfil(shift, viewer, room, at, order),
+            None => shift.trays.await_answers(shift.rt, read),
+        }
+    }
+    unreachable!()
+}
+
+/// What became of a part, in the workers' order.
+pub fn gather<A: Agreed, G: Gate, R: Wait>(
+    shift: &Shift<'_, '_, '_, '_, A, R, G>,
+    part: Part,
+    viewer: &mut Viewer,
+    crew: &mut Crew<A>,
 ) -> Result<(), OutOfMemory>
-    requires share { MayShare A.left batch.now (length benches.old) (length seens.old) }
-    requires trays { shift.now.trays.now ≡ length benches.old }
-    ensures seens { AreLater seens.old seens.new }
-    ensures benches { length benches.new ≡ length benches.old }
-    ensures ok { OnOk result
-        (AreShared A.hops A.left batch.now seens.old benches.new seens.new) }
+    requires viewer { IsServant A.board A.plan A.hops shift.now.flow.now.hops viewer.old }
+    requires place { part.place < 8 }
+    requires crew { HasCrew shift.now.flow.now.hops part.workers
+        (length crew.old.benches.items) shift.now.trays.now crew.old.seens.items }
+    ensures later { IsLater viewer.old viewer.new }
+    ensures seens { AreLater crew.old.seens.items crew.new.seens.items }
+    ensures benches { length crew.new.benches.items ≡ length crew.old.benches.items }
+    ensures ok { OnOk result (AreShared A.hops A.left part
+        crew.old.seens.items crew.new.benches.items crew.new.seens.items) }
 {
     let mut at = 0;
-    while at < seens.len() {
-        take_share(shift, batch, at, &mut benches[at], &mut seens[at])?;
+    while at < crew.seens.len() {
+        let bench = &mut crew.benches[at];
+        let seen = &mut crew.seens[at];
+        take_share(shift, part, at, viewer, &mut crew.room, bench, seen)?;
         at += 1;
     }
     Ok(())
 }
 
-// What became of one order. An answer to something else counts as memory that ran out.
-fn take_share<A: Agreed, G, R: Wait>(
+// What became of one worker's packets. An answer to something else counts as memory that ran out.
+fn take_share<A: Agreed, G: Gate, R: Wait>(
     shift: &Shift<'_, '_, '_, '_, A, R, G>,
-    batch: &Batch,
+    part: Part,
     at: usize,
+    viewer: &mut Viewer,
+    room: &mut Option<WalkRoom>,
     bench: &mut Bench,
     seen: &mut Seen<A>,
 ) -> Result<(), OutOfMemory>
+    requires viewer { IsServant A.board A.plan A.hops shift.now.flow.now.hops viewer.old }
     requires few { at ≤ 16 }
     requires tray { at < shift.now.trays.now }
+    requires place { part.place < 8 }
+    ensures later { IsLater viewer.old viewer.new }
     ensures seen { IsLater seen.old seen.new }
     ensures ok { OnOk result
-        (IsShare A.hops A.left at batch.now.workers batch.now.base
-        (length batch.now.packets.items) seen.old bench.new seen.new) }
+        (IsShare A.hops A.left at part.workers part.base part.count seen.old bench.new seen.new) }
 {
-    let done = shift.trays.await_answer(shift.rt, at)?;
-    if !done.answers(at as u32, batch, seen) {
+    let done = await_answer(shift, viewer, room, at, part.place)?;
+    if !done.answers(at as u32, part, seen) {
         return Err(OutOfMemory);
     }
     let (made, to) = done.into_parts();
-    *bench = made;
+    let used = mem::replace(bench, made);
+    shift.trays.keep(shift.rt, at, part.place, used);
     *seen = to;
     Ok(())
 }

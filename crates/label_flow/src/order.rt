@@ -1,26 +1,27 @@
 //! What goes to a worker, and what comes back.
 
-ghost use Rattle.std.specs.Prelude.{◌≡◌, true, length, IfOk};
+ghost use Rattle.std.specs.Prelude.{◌≡◌, ◌+◌, ◌*◌, ◌<◌, ◌≤◌, true, length, IfOk};
 ghost use Rattle.std.specs.Arc.{arc_value};
 ghost use Rattle.label_flow.specs.Round.{IsLater};
-ghost use Rattle.label_flow.specs.inside.Crew.{MayOrder, IsDone, IsShare, IsServant};
+ghost use Rattle.label_flow.specs.inside.Work.{part_at};
+ghost use Rattle.label_flow.specs.inside.Crew.{MayOrder, IsShare, IsServant, IsHere};
 
 use crate::agreed::{Agreed, Seen, Shift};
 use crate::bench::Bench;
-use crate::work::{Batch, work};
+use crate::work::{Batch, PART, Part, work};
 use mls_label::OutOfMemory;
-use packet_walk::{Gate, Worker};
+use packet_walk::{Gate, WalkRoom, Worker};
 use shared_tables::Viewer;
 use std::marker::Model;
 use std::sync::Arc;
 
-/// A worker's packets of a batch, of which none is to be judged below what was seen, and the bench to work on.
+/// A worker's packets of a part of a batch, of which none is to be judged below what was seen.
 #[derive(Drop)]
 pub struct Order<A: Agreed> {
     number: u32,
     from: Seen<A>,
     batch: Arc<Batch>,
-    bench: Bench,
+    place: usize,
 }
 
 impl<A: Agreed> Model for Order<A> {
@@ -29,124 +30,132 @@ impl<A: Agreed> Model for Order<A> {
 
     ghost Value = { OrderState };
 
-    ghost view = { λ o. record { number = o.number; from = o.from; batch = arc_value o.batch } };
+    ghost view = { λ o. record { number = o.number; from = o.from; batch = arc_value o.batch; place = o.place } };
 
-    ghost invariant = { λ o. MayOrder A.left
-        (record { number = o.number; from = o.from; batch = arc_value o.batch }) };
+    ghost invariant = { λ o. MayOrder A.left o.number (arc_value o.batch) o.place };
 }
 
 /// The same packets, judged: what was made of them stands on the bench.
 #[derive(Drop)]
 pub struct Done<A: Agreed> {
     number: u32,
+    part: Part,
     from: Seen<A>,
     to: Seen<A>,
-    batch: Arc<Batch>,
     bench: Bench,
 }
 
 impl<A: Agreed> Model for Done<A> {
-    ghost use Rattle.std.specs.Arc.{arc_value};
-    ghost use Rattle.label_flow.specs.inside.Crew.{DoneState, IsDone};
+    ghost use Rattle.label_flow.specs.inside.Crew.{DoneState, IsShare};
 
     ghost Value = { DoneState };
 
-    ghost view = { λ d. record { number = d.number; from = d.from; to = d.to; batch = arc_value d.batch; pairs = d.bench } };
+    ghost view = { λ d. record { number = d.number; part = d.part; from = d.from; to = d.to; pairs = d.bench } };
 
-    ghost invariant = { λ d. IsDone A.hops A.left
-        (record {
-          number = d.number;
-          from = d.from;
-          to = d.to;
-          batch = arc_value d.batch;
-          pairs = d.bench;
-        }) };
+    ghost invariant = { λ d. IsShare A.hops A.left d.number d.part.workers d.part.base d.part.count
+        d.from d.bench d.to };
 }
 
-// One worker's packets of a batch, of which none is judged below what was seen; and what the viewer has seen after them.
-fn work_from<A: Agreed, R, G: Gate>(
-    shift: &Shift<'_, '_, '_, '_, A, R, G>,
-    batch: &Batch,
+/// An order, or none where the batch has no part at this place.
+pub fn order_at<A: Agreed>(
     number: u32,
-    from: &Seen<A>,
-    viewer: &mut Viewer,
-    bench: &mut Bench,
-) -> Result<Seen<A>, OutOfMemory>
-    requires viewer { IsServant A.board A.plan A.hops shift.now.flow.now.hops viewer.old }
-    requires order { MayOrder A.left
-        (record { number = number; from = from.now; batch = batch.now }) }
-    ensures later { IsLater viewer.old viewer.new }
-    ensures done { IfOk result (λ to. IsDone A.hops A.left
-        (record {
-          number = number;
-          from = from.now;
-          to = to;
-          batch = batch.now;
-          pairs = bench.new;
-        })) }
+    from: Seen<A>,
+    batch: Arc<Batch>,
+    place: usize,
+) -> Option<Order<A>>
+    requires worker { number < (arc_value batch).workers }
+    requires here { IsHere A.left (arc_value batch) }
+    requires place { place ≤ 8 }
 {
-    from.teach(viewer);
-    let worker = Worker {
-        flow: shift.flow,
+    if place * PART >= batch.packets.len() {
+        return None;
+    }
+    Some(Order {
         number,
-        gate: shift.gate,
-    };
-    work(&worker, batch, viewer, bench)?;
-    Ok(Seen::of(viewer))
+        from,
+        batch,
+        place,
+    })
 }
 
 impl<A: Agreed> Order<A> {
-    pub fn new(number: u32, from: Seen<A>, batch: Arc<Batch>, bench: Bench) -> Order<A>
-        requires { MayOrder A.left
-            (record { number = number; from = from; batch = arc_value batch }) }
-        ensures { result ≡ record { number = number; from = from; batch = arc_value batch } }
+    /// Which part of its batch it is for.
+    pub fn place(&self) -> usize
+        ensures { result < 8 }
     {
-        Order {
-            number,
-            from,
-            batch,
-            bench,
-        }
+        self.place
     }
 
-    /// Judges the packets.
+    // Judges the packets, of which none is judged below what was seen; and what the viewer has seen after them.
+    fn work<R, G: Gate>(
+        &self,
+        shift: &Shift<'_, '_, '_, '_, A, R, G>,
+        viewer: &mut Viewer,
+        bench: &mut Bench,
+        room: &mut Option<WalkRoom>,
+    ) -> Result<Seen<A>, OutOfMemory>
+        requires { IsServant A.board A.plan A.hops shift.now.flow.now.hops viewer.old }
+        ensures later { IsLater viewer.old viewer.new }
+        ensures share { IfOk result (λ to. IsShare A.hops A.left self.now.number
+            self.now.batch.workers (self.now.batch.base + self.now.place * 128)
+            (length (part_at self.now.place self.now.batch.packets.items))
+            self.now.from bench.new to) }
+    {
+        self.from.teach(viewer);
+        let worker = Worker {
+            flow: shift.flow,
+            number: self.number,
+            gate: shift.gate,
+        };
+        let part = self.batch.part(self.place);
+        let packets = self.batch.packets_at(self.place);
+        work(&worker, part, packets, viewer, bench, room)?;
+        Ok(Seen::of(viewer))
+    }
+
+    /// Judges the packets at this bench. Behind the answer stands the order for the worker's next packets of the batch, from what was seen then.
     pub fn fulfil<R, G: Gate>(
         self,
         shift: &Shift<'_, '_, '_, '_, A, R, G>,
         viewer: &mut Viewer,
-    ) -> Result<Done<A>, OutOfMemory>
+        bench: Bench,
+        room: &mut Option<WalkRoom>,
+    ) -> Result<(Done<A>, Option<Order<A>>), OutOfMemory>
         requires { IsServant A.board A.plan A.hops shift.now.flow.now.hops viewer.old }
         ensures { IsLater viewer.old viewer.new }
     {
+        let mut bench = bench;
+        let to = self.work(shift, viewer, &mut bench, room)?;
         let Order {
             number,
             from,
             batch,
-            bench,
+            place,
         } = self;
-        let mut bench = bench;
-        let to = work_from(shift, &batch, number, &from, viewer, &mut bench)?;
-        Ok(Done {
+        let part = batch.part(place);
+        let next = order_at(number, to.again(), batch, place + 1);
+        let done = Done {
             number,
+            part,
             from,
             to,
-            batch,
             bench,
-        })
+        };
+        Ok((done, next))
     }
 }
 
 impl<A: Agreed> Done<A> {
-    /// Whether this is what was asked for: that worker's packets of that batch, from what was seen. A batch is known by its numbers.
-    pub fn answers(&self, number: u32, batch: &Batch, from: &Seen<A>) -> bool
+    /// Whether this is what was asked for: that worker's packets of that part, from what was seen. A part is known by its numbers.
+    pub fn answers(&self, number: u32, part: Part, from: &Seen<A>) -> bool
         ensures { result ≡ true
-            → IsShare A.hops A.left number batch.now.workers batch.now.base
-            (length batch.now.packets.items) from.now self.now.pairs self.now.to }
+            → IsShare A.hops A.left number part.workers part.base part.count
+            from.now self.now.pairs self.now.to }
     {
         self.number == number
-            && self.batch.workers == batch.workers
-            && self.batch.base == batch.base
-            && self.batch.packets.len() == batch.packets.len()
+            && self.part.workers == part.workers
+            && self.part.base == part.base
+            && self.part.count == part.count
             && self.from.is(from)
     }
 

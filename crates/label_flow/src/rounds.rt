@@ -1,6 +1,6 @@
 //! A round: the steps beside the packets, and the workers beside each other.
 
-ghost use Rattle.std.specs.Prelude.{◌≡◌, ◌+◌, ◌<◌, ◌≤◌, ◌^◌, List, [], ◌++◌, length, All, IfOk, IfErr, OnOk, Some, None, true, false};
+ghost use Rattle.std.specs.Prelude.{◌≡◌, ◌+◌, ◌*◌, ◌<◌, ◌≤◌, ◌^◌, List, [], ◌++◌, length, All, IfOk, IfErr, OnOk, Some, None, true, false};
 ghost use Rattle.std.specs.Arc.{arc_value};
 ghost use Rattle.flow_lines.specs.Hop.{node_of};
 ghost use Rattle.packet_walk.specs.declared.packet.PacketIn.{PacketIn};
@@ -8,22 +8,22 @@ ghost use Rattle.label_flow.specs.Pair.{PairState};
 ghost use Rattle.label_flow.specs.Feed.{AreFetched, HasFetched, IsOver, AreBegun, AreWhole};
 ghost use Rattle.label_flow.specs.Round.{AreReplies, IsLater, AreLater, IsRound};
 ghost use Rattle.label_flow.specs.Stops.{IsStop};
-ghost use Rattle.label_flow.specs.inside.Work.{AreFirst, HasRoom, AllFit};
+ghost use Rattle.label_flow.specs.inside.Work.{AreFirst, HasRoom, AllFit, part_at};
 ghost use Rattle.label_flow.specs.inside.Work.{HasViewers, HasCrew};
 ghost use Rattle.label_flow.specs.inside.Work.{IsReadyFor, LeavesFeed, TakesRound};
-ghost use Rattle.label_flow.specs.inside.Crew.{IsServant, IsTold, IsShort, IsAt, MayLead, HasLed};
+ghost use Rattle.label_flow.specs.inside.Crew.{IsServant, IsHere, IsTold, IsAt, MayLead, HasLed};
 ghost use Rattle.label_flow.specs.inside.Crew.{AreOfOne};
 
-use crate::agreed::{Agreed, Seen, Shift};
+use crate::agreed::{Agreed, Shift};
 use crate::bench::Bench;
-use crate::crew::{gather, help, order_all};
+use crate::crew::{Crew, gather, order_all};
 use crate::feed::Feed;
 use crate::staff::all_batches;
-use crate::work::{Batch, next_turn};
+use crate::work::{Batch, PART, next_turn};
 use flow_lines::FlowLine;
 use mls_label::OutOfMemory;
 use node_tables::Reply;
-use packet_walk::{Gate, ShownWalks};
+use packet_walk::{Gate, PacketIn, ShownWalks};
 use shared_tables::{Publisher, Viewer};
 use std::alloc::Global;
 use std::sync::{Arc, Wait};
@@ -68,34 +68,36 @@ fn step_to<G: Gate, R: Wait>(
     Ok(replies)
 }
 
-// Hands what the workers made to the feed, in the order of the packets.
+// Hands what the workers made of these packets to the feed, in their order. The first has the number `base`, counted from 0.
 fn hand_over<Q: Feed>(
-    batch: &Batch,
+    base: u64,
+    packets: &[PacketIn],
     done: &[Bench],
     shown: &mut ShownWalks,
     feed: &mut Q,
 ) -> Result<(), RoundStop<Q::Stop>>
     requires some { 0 < length done.now }
     requires few { length done.now ≤ 16 }
-    requires numbers { batch.now.base + length batch.now.packets.items < 2 ^ 63 }
+    requires numbers { base + length packets.now < 2 ^ 63 }
     requires ready { Q.ready feed.old }
-    requires due { Q.due feed.old ≡ length batch.now.packets.items }
-    requires room { HasRoom (length done.now) batch.now.base batch.now.packets.items done.now }
+    requires due { length packets.now ≤ Q.due feed.old }
+    requires room { HasRoom (length done.now) base packets.now done.now }
     requires fits { AllFit (Q.hops feed.old) done.now }
     ensures left { Q.left feed.new ≡ Q.left feed.old }
-    ensures feed { LeavesFeed result (Q.hops feed.old) (Q.hops feed.new) (Q.due feed.new)
+    ensures feed { LeavesFeed result (Q.hops feed.old) (Q.hops feed.new)
+        (length packets.now + Q.due feed.new) (Q.due feed.old)
         (Q.stop feed.old) (Q.stop feed.new) (Q.ready feed.new) }
     ensures took { (was : Q) (h : List PairState) → Q.took was feed.old h → (rs : List PairState)
-        × AreFirst (length done.now) batch.now.base done.now rs
-        × (length rs ≤ length batch.now.packets.items)
+        × AreFirst (length done.now) base done.now rs
+        × (length rs ≤ length packets.now)
         × Q.took was feed.new (h ++ rs)
-        × OnOk result (length rs ≡ length batch.now.packets.items) }
+        × OnOk result (length rs ≡ length packets.now) }
 {
     // The next pair of each worker.
     let mut places = [0usize; 16];
     let mut at = 0;
-    let mut turn = (batch.base % done.len() as u64) as u32;
-    while at < batch.packets.len() {
+    let mut turn = (base % done.len() as u64) as u32;
+    while at < packets.len() {
         let worker = turn as usize;
         let place = places[worker];
         let judged = done[worker].get(place);
@@ -110,50 +112,91 @@ fn hand_over<Q: Feed>(
     Ok(())
 }
 
-// Judges a batch that was fetched, with a worker for each bench, and hands it over.
+// A part of a batch that was ordered: what the workers made of it is awaited, and handed over.
+fn part_round<A: Agreed, Q: Feed, G: Gate, R: Wait>(
+    shift: &Shift<'_, '_, '_, '_, A, R, G>,
+    batch: &Batch,
+    place: usize,
+    viewer: &mut Viewer,
+    feed: &mut Q,
+    crew: &mut Crew<A>,
+) -> Result<(), RoundStop<Q::Stop>>
+    requires viewer { IsServant A.board A.plan A.hops shift.now.flow.now.hops viewer.old }
+    requires place { place < 8 }
+    requires inside { place * 128 < length batch.now.packets.items }
+    requires crew { HasCrew shift.now.flow.now.hops batch.now.workers
+        (length crew.old.benches.items) shift.now.trays.now crew.old.seens.items }
+    requires numbers { batch.now.base + length batch.now.packets.items < 2 ^ 63 }
+    requires hops { Q.hops feed.old ≡ length shift.now.flow.now.hops }
+    requires due { length (part_at place batch.now.packets.items) ≤ Q.due feed.old }
+    requires ready { Q.ready feed.old }
+    ensures benches { length crew.new.benches.items ≡ length crew.old.benches.items }
+    ensures later { IsLater viewer.old viewer.new }
+    ensures seens { AreLater crew.old.seens.items crew.new.seens.items }
+    ensures left { Q.left feed.new ≡ Q.left feed.old }
+    ensures feed { LeavesFeed result (Q.hops feed.old) (Q.hops feed.new)
+        (length (part_at place batch.now.packets.items) + Q.due feed.new) (Q.due feed.old)
+        (Q.stop feed.old) (Q.stop feed.new) (Q.ready feed.new) }
+    ensures took { TakesRound Q.took feed.old feed.new shift.now.flow.now.hops
+        (batch.now.base + place * 128) None
+        (λ packets. IsTold A.left (batch.now.base + place * 128) packets
+        × OnOk result (length packets ≡ length (part_at place batch.now.packets.items)))
+        crew.old.seens.items crew.new.seens.items }
+{
+    let part = batch.part(place);
+    let Ok(()) = gather(shift, part, viewer, crew) else {
+        return Err(RoundStop::OutOfMemory);
+    };
+    let packets = batch.packets_at(place);
+    hand_over(
+        part.base,
+        packets,
+        crew.benches.as_slice(),
+        &mut crew.shown,
+        feed,
+    )
+}
+
+// Judges a batch that was fetched, and hands it over part by part: the others judge the next one meanwhile.
 fn judge_batch<A: Agreed, Q: Feed, G: Gate, R: Wait>(
     shift: &Shift<'_, '_, '_, '_, A, R, G>,
     batch: &Arc<Batch>,
     viewer: &mut Viewer,
     feed: &mut Q,
-    benches: &mut [Bench],
-    seens: &mut [Seen<A>],
-    shown: &mut ShownWalks,
+    crew: &mut Crew<A>,
 ) -> Result<(), RoundStop<Q::Stop>>
     requires viewer { IsServant A.board A.plan A.hops shift.now.flow.now.hops viewer.old }
     requires crew { HasCrew shift.now.flow.now.hops (arc_value batch.now).workers
-        (length benches.old) seens.old }
-    requires trays { shift.now.trays.now ≡ length benches.old }
-    requires numbers { (arc_value batch.now).base
-        + length (arc_value batch.now).packets.items < 2 ^ 63 }
-    requires told { IsTold A.left (arc_value batch.now).base
-        (arc_value batch.now).packets.items }
+        (length crew.old.benches.items) shift.now.trays.now crew.old.seens.items }
+    requires here { IsHere A.left (arc_value batch.now) }
     requires feed { IsReadyFor shift.now.flow.now.hops
         (length (arc_value batch.now).packets.items)
         (Q.hops feed.old) (Q.due feed.old) (Q.ready feed.old) }
-    requires short { All IsShort (arc_value batch.now).packets.items }
-    ensures benches { length benches.new ≡ length benches.old }
+    ensures benches { length crew.new.benches.items ≡ length crew.old.benches.items }
     ensures later { IsLater viewer.old viewer.new }
-    ensures seens { AreLater seens.old seens.new }
+    ensures seens { AreLater crew.old.seens.items crew.new.seens.items }
     ensures left { Q.left feed.new ≡ Q.left feed.old }
-    ensures feed { LeavesFeed result (Q.hops feed.old) (Q.hops feed.new) (Q.due feed.new)
+    ensures feed { LeavesFeed result (Q.hops feed.old) (Q.hops feed.new) (Q.due feed.new) 0
         (Q.stop feed.old) (Q.stop feed.new) (Q.ready feed.new) }
     ensures took { TakesRound Q.took feed.old feed.new shift.now.flow.now.hops
         (arc_value batch.now).base None
         (λ packets. IsTold A.left (arc_value batch.now).base packets
         × OnOk result (length packets ≡ length (arc_value batch.now).packets.items))
-        seens.old seens.new }
+        crew.old.seens.items crew.new.seens.items }
 {
-    let Ok(()) = order_all(shift, batch, benches, seens) else {
+    let Ok(()) = order_all(shift, batch, crew.seens.as_slice()) else {
         return Err(RoundStop::OutOfMemory);
     };
     // The others judge meanwhile.
     feed.read_ahead();
-    help(shift, viewer);
-    let Ok(()) = gather(shift, batch, benches, seens) else {
-        return Err(RoundStop::OutOfMemory);
-    };
-    hand_over(batch, benches, shown, feed)
+    let mut place = 0;
+    while place * PART < batch.packets.len() {
+        if let Err(stop) = part_round(shift, batch, place, viewer, feed, crew) {
+            return Err(stop);
+        }
+        place += 1;
+    }
+    Ok(())
 }
 
 const MOST: u64 = 1 << 62;
@@ -197,14 +240,11 @@ fn batch_round<A: Agreed, Q: Feed, G: Gate, R: Wait>(
     batch: &mut Arc<Batch>,
     viewer: &mut Viewer,
     feed: &mut Q,
-    benches: &mut [Bench],
-    seens: &mut [Seen<A>],
-    shown: &mut ShownWalks,
+    crew: &mut Crew<A>,
 ) -> Result<bool, RoundStop<Q::Stop>>
     requires viewer { IsServant A.board A.plan A.hops shift.now.flow.now.hops viewer.old }
     requires crew { HasCrew shift.now.flow.now.hops (arc_value batch.old).workers
-        (length benches.old) seens.old }
-    requires trays { shift.now.trays.now ≡ length benches.old }
+        (length crew.old.benches.items) shift.now.trays.now crew.old.seens.items }
     requires few { length (arc_value batch.old).packets.items ≤ 1024 }
     requires at { IsAt A.left (Q.left feed.old)
         ((arc_value batch.old).base + length (arc_value batch.old).packets.items) }
@@ -213,10 +253,10 @@ fn batch_round<A: Agreed, Q: Feed, G: Gate, R: Wait>(
     ensures workers { (arc_value batch.new).workers ≡ (arc_value batch.old).workers }
     ensures base { OnOk result ((arc_value batch.new).base
         ≡ (arc_value batch.old).base + length (arc_value batch.old).packets.items) }
-    ensures benches { length benches.new ≡ length benches.old }
+    ensures benches { length crew.new.benches.items ≡ length crew.old.benches.items }
     ensures later { IsLater viewer.old viewer.new }
-    ensures seens { AreLater seens.old seens.new }
-    ensures feed { LeavesFeed result (Q.hops feed.old) (Q.hops feed.new) (Q.due feed.new)
+    ensures seens { AreLater crew.old.seens.items crew.new.seens.items }
+    ensures feed { LeavesFeed result (Q.hops feed.old) (Q.hops feed.new) (Q.due feed.new) 0
         (Q.stop feed.old) (Q.stop feed.new) (Q.ready feed.new) }
     ensures ok { OnOk result ((length (arc_value batch.new).packets.items ≤ 1024)
         × AreFetched (Q.left feed.old) (arc_value batch.new).packets.items (Q.left feed.new)) }
@@ -228,10 +268,10 @@ fn batch_round<A: Agreed, Q: Feed, G: Gate, R: Wait>(
         (Q.left feed.old)
         (λ packets. OnOk result (AreFetched (Q.left feed.old) packets (Q.left feed.new)
         × (length packets ≡ length (arc_value batch.new).packets.items)))
-        seens.old seens.new }
+        crew.old.seens.items crew.new.seens.items }
 {
     match fetch_next(batch, feed) {
-        Ok(true) => match judge_batch(shift, batch, viewer, feed, benches, seens, shown) {
+        Ok(true) => match judge_batch(shift, batch, viewer, feed, crew) {
             Ok(()) => Ok(true),
             Err(stop) => Err(stop),
         },
@@ -240,30 +280,28 @@ fn batch_round<A: Agreed, Q: Feed, G: Gate, R: Wait>(
     }
 }
 
-/// All batches, by the workers at these benches. The viewer is that of the one who leads.
+/// All batches. The viewer is that of the one who leads.
 pub(crate) fn each_batch<A: Agreed, Q: Feed, G: Gate, R: Wait>(
     shift: &Shift<'_, '_, '_, '_, A, R, G>,
     viewer: &mut Viewer,
     feed: &mut Q,
-    benches: &mut [Bench],
-    seens: &mut [Seen<A>],
+    crew: &mut Crew<A>,
 ) -> Result<(), RoundStop<Q::Stop>>
     requires viewer { IsServant A.board A.plan A.hops shift.now.flow.now.hops viewer.old }
     requires lead { MayLead A.hops shift.now.flow.now.hops A.left (Q.left feed.old)
-        seens.old (length benches.old) }
-    requires trays { shift.now.trays.now ≡ length benches.old }
+        crew.old.seens.items (length crew.old.benches.items) shift.now.trays.now }
     requires feed { IsReadyFor shift.now.flow.now.hops 0
         (Q.hops feed.old) (Q.due feed.old) (Q.ready feed.old) }
     ensures later { IsLater viewer.old viewer.new }
     ensures led { HasLed Q.took Q.left Q.ended Q.due Q.stop Q.hops Q.ready
-        shift.now.flow.now.hops result feed.old feed.new seens.old seens.new }
+        shift.now.flow.now.hops result feed.old feed.new
+        crew.old.seens.items crew.new.seens.items }
 {
-    let Ok(mut batch) = no_packets(shift.alloc, seens.len()) else {
+    let Ok(mut batch) = no_packets(shift.alloc, crew.seens.len()) else {
         return Err(RoundStop::OutOfMemory);
     };
-    let mut shown = ShownWalks::new();
     for _ in shift.rt.forever() {
-        match batch_round(shift, &mut batch, viewer, feed, benches, seens, &mut shown) {
+        match batch_round(shift, &mut batch, viewer, feed, crew) {
             Ok(true) => {}
             Ok(false) => return Ok(()),
             Err(stop) => return Err(stop),

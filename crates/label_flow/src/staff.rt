@@ -9,25 +9,18 @@ ghost use Rattle.label_flow.specs.inside.Crew.{IsServant, MayLead, HasLed, HaveL
 
 use crate::agreed::{Agreed, Seen, Shift};
 use crate::bench::Bench;
-use crate::crew::serve;
+use crate::crew::{Crew, serve};
 use crate::feed::Feed;
 use crate::rounds::{RoundStop, each_batch};
 use crate::trays::Trays;
 use flow_lines::FlowLine;
 use mls_label::OutOfMemory;
-use packet_walk::Gate;
+use packet_walk::{Gate, ShownWalks};
 use shared_tables::Viewer;
 use std::alloc::Global;
 use std::marker::Brand;
 use std::sync::Wait;
 use std::thread::{Threads, join_mut};
-
-/// What the one who leads keeps of the workers: a bench for each, and what each has seen.
-#[derive(Drop)]
-struct Crew<A: Agreed> {
-    benches: Vec<Bench>,
-    seens: Vec<Seen<A>>,
-}
 
 /// All batches of a feed, with a worker for each viewer. Each worker but the first has a thread of its own.
 pub fn all_batches<Q: Feed, G: Gate + Sync, R: Threads + Wait + Sync>(
@@ -43,7 +36,7 @@ pub fn all_batches<Q: Feed, G: Gate + Sync, R: Threads + Wait + Sync>(
     requires feed { IsReadyFor flow.now.hops 0
         (Q.hops feed.old) (Q.due feed.old) (Q.ready feed.old) }
     ensures later { AreLater viewers.old viewers.new }
-    ensures feed { LeavesFeed result (Q.hops feed.old) (Q.hops feed.new) (Q.due feed.new)
+    ensures feed { LeavesFeed result (Q.hops feed.old) (Q.hops feed.new) (Q.due feed.new) 0
         (Q.stop feed.old) (Q.stop feed.new) (Q.ready feed.new) }
     ensures ok { OnOk result (IsOver (Q.left feed.new) × (Q.ended feed.new ≡ true)) }
     ensures took { TakesRound Q.took feed.old feed.new flow.now.hops 0
@@ -100,7 +93,12 @@ fn crew_of<A: Agreed>(alloc: Global, viewers: &[Viewer]) -> Result<Crew<A>, OutO
         benches.push(Bench::new(alloc)).map_err(|_| OutOfMemory)?;
         seens.push(Seen::of(viewer)).map_err(|_| OutOfMemory)?;
     }
-    Ok(Crew { benches, seens })
+    Ok(Crew {
+        benches,
+        seens,
+        room: None,
+        shown: ShownWalks::new(),
+    })
 }
 
 // Each viewer learns of what was judged in its name.
@@ -128,8 +126,7 @@ fn staff<A: Agreed + Send + Sync, Q: Feed, G: Gate + Sync, R: Threads + Wait + S
     requires servants { All
         (IsServant A.board A.plan A.hops shift.now.flow.now.hops) viewers.old }
     requires lead { MayLead A.hops shift.now.flow.now.hops A.left (Q.left feed.old)
-        crew.old.seens.items (length crew.old.benches.items) }
-    requires trays { shift.now.trays.now ≡ length crew.old.benches.items }
+        crew.old.seens.items (length crew.old.benches.items) shift.now.trays.now }
     requires feed { IsReadyFor shift.now.flow.now.hops 0
         (Q.hops feed.old) (Q.due feed.old) (Q.ready feed.old) }
     ensures later { AreLater viewers.old viewers.new }
@@ -163,8 +160,7 @@ fn beside<A: Agreed + Send + Sync, Q: Feed, G: Gate + Sync, R: Threads + Wait + 
     requires servants { All
         (IsServant A.board A.plan A.hops shift.now.flow.now.hops) viewers.old }
     requires lead { MayLead A.hops shift.now.flow.now.hops A.left (Q.left feed.old)
-        crew.old.seens.items (length crew.old.benches.items) }
-    requires trays { shift.now.trays.now ≡ length crew.old.benches.items }
+        crew.old.seens.items (length crew.old.benches.items) shift.now.trays.now }
     requires feed { IsReadyFor shift.now.flow.now.hops 0
         (Q.hops feed.old) (Q.due feed.old) (Q.ready feed.old) }
     ensures one_later { AreLater viewer.old viewer.new }
@@ -187,8 +183,7 @@ fn beside<A: Agreed + Send + Sync, Q: Feed, G: Gate + Sync, R: Threads + Wait + 
             × (0 < length viewers.now)
             × All (IsServant A.board A.plan A.hops shift.now.flow.now.hops) viewers.now
             × MayLead A.hops shift.now.flow.now.hops A.left (Q.left feed.now)
-            crew.now.seens.items (length crew.now.benches.items)
-            × (shift.now.trays.now ≡ length crew.now.benches.items)
+            crew.now.seens.items (length crew.now.benches.items) shift.now.trays.now
             × IsReadyFor shift.now.flow.now.hops 0
             (Q.hops feed.now) (Q.due feed.now) (Q.ready feed.now) }
         ensures { AreLater viewers.entry.now viewers.exit.now
@@ -223,8 +218,7 @@ fn lead<A: Agreed, Q: Feed, G: Gate, R: Wait>(
     requires servants { All
         (IsServant A.board A.plan A.hops shift.now.flow.now.hops) viewers.old }
     requires lead { MayLead A.hops shift.now.flow.now.hops A.left (Q.left feed.old)
-        crew.old.seens.items (length crew.old.benches.items) }
-    requires trays { shift.now.trays.now ≡ length crew.old.benches.items }
+        crew.old.seens.items (length crew.old.benches.items) shift.now.trays.now }
     requires feed { IsReadyFor shift.now.flow.now.hops 0
         (Q.hops feed.old) (Q.due feed.old) (Q.ready feed.old) }
     ensures later { AreLater viewers.old viewers.new }
@@ -232,10 +226,7 @@ fn lead<A: Agreed, Q: Feed, G: Gate, R: Wait>(
         shift.now.flow.now.hops result feed.old feed.new
         crew.old.seens.items crew.new.seens.items }
 {
-    let viewer = &mut viewers[0];
-    let benches = crew.benches.as_mut_slice();
-    let seens = crew.seens.as_mut_slice();
-    let led = each_batch(shift, viewer, feed, benches, seens);
+    let led = each_batch(shift, &mut viewers[0], feed, crew);
     shift.trays.close();
     led
 }

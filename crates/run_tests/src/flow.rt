@@ -481,67 +481,103 @@ fn ends_so(
     depot
 }
 
+/// A capture of so many packets: how many octets its first section has, what stands in front of the packets, and what each packet takes.
+#[derive(Clone, Copy)]
+struct Whole<'o> {
+    octets: &'o [u8],
+    packets: usize,
+    section: usize,
+    head: usize,
+    packet: usize,
+}
+
+fn pcap_of(octets: &[u8], packets: usize) -> Whole<'_> {
+    Whole {
+        octets,
+        packets,
+        section: 24,
+        head: 24,
+        packet: 44,
+    }
+}
+
+/// Each beginning of a capture ends so, and what is made of it has all packets in front of the end.
+fn all_end_so(
+    rt: &(impl Abort + Threads + Wait + Sync),
+    alloc: Global,
+    whole: &Whole<'_>,
+    cases: &[(usize, u64, usize, Ended)],
+) {
+    for case in cases {
+        let depot = ends_so(rt, alloc, whole.octets, *case);
+        let (octets, _, packets, _) = *case;
+        let output = if octets < whole.section {
+            None
+        } else {
+            let packets = packets.min(whole.packets);
+            whole.octets.get(..whole.head + whole.packet * packets)
+        };
+        assert!(*rt; depot.get("out.pcap") == output);
+    }
+}
+
 // All packets in front of an end are printed and written. Where no more may be read, what stands behind tells the end.
 #[test]
 fn captures_end_somewhere(rt: HostRuntime) {
     let alloc = rt.alloc();
-    let whole = capture(&rt, alloc, 3);
-    for case in ENDS {
-        let depot = ends_so(&rt, alloc, &whole, case);
-        let (octets, _, packets, _) = case;
-        let output = if octets < 24 {
-            None
-        } else {
-            whole.get(..24 + 44 * packets.min(3))
-        };
-        assert!(rt; depot.get("out.pcap") == output);
-    }
+    let octets = capture(&rt, alloc, 3);
+    let whole = pcap_of(&octets, 3);
+    all_end_so(&rt, alloc, &whole, &ENDS);
 }
 
 // The same in pcapng, where an output is made as soon as the first section's header is whole.
 #[test]
 fn pcapng_captures_end_somewhere(rt: HostRuntime) {
     let alloc = rt.alloc();
-    let whole = ng_capture(&rt, alloc, 3);
-    for case in NG_ENDS {
-        let depot = ends_so(&rt, alloc, &whole, case);
-        let (octets, _, packets, _) = case;
-        let output = if octets < 28 {
-            None
-        } else {
-            whole.get(..60 + 60 * packets.min(3))
-        };
-        assert!(rt; depot.get("out.pcap") == output);
-    }
+    let octets = ng_capture(&rt, alloc, 3);
+    let whole = Whole {
+        octets: &octets,
+        packets: 3,
+        section: 28,
+        head: 60,
+        packet: 60,
+    };
+    all_end_so(&rt, alloc, &whole, &NG_ENDS);
 }
 
-// What stands behind the first batch of two workers, where some packets are read ahead.
+// What stands behind the first batch of two workers, where some packets are read ahead: an end, a broken record, or one packet too many.
 const AHEAD: [(usize, u64, usize, Ended); 3] = [
     (26_444, 9999, 600, Ended::Broken),
     (26_424, 9999, 600, Ended::GoesOn),
     (90_180, 550, 550, Ended::TooMany),
 ];
 
-// Packets that were read ahead come in front of what stands behind them: an end, a broken record, one packet too many, or a read that fails.
+// Packets that were read ahead come in front of what stands behind them.
 #[test]
 fn packets_that_were_read_ahead_come_first(rt: HostRuntime) {
     let alloc = rt.alloc();
+    let octets = capture(&rt, alloc, 2049);
+    let whole = pcap_of(&octets, 2049);
+    all_end_so(&rt, alloc, &whole, &AHEAD);
+}
+
+// 65,536 octets are read at once, with 1,488 whole packets: where a read behind them fails, these are told first.
+#[test]
+fn packets_come_in_front_of_a_read_that_fails(rt: HostRuntime) {
+    let alloc = rt.alloc();
     let whole = capture(&rt, alloc, 2049);
-    for case in AHEAD {
-        let depot = ends_so(&rt, alloc, &whole, case);
-        let (_, _, packets, _) = case;
-        assert!(rt; depot.get("out.pcap") == whole.get(..24 + 44 * packets.min(2049)));
-    }
     let mut is_late = false;
     for call in 8..40u32 {
         let mut depot = folder(&rt, alloc, &whole, call);
         let ran = called(&rt, alloc, 9999, &mut depot, 0);
-        if ran.seen.len() > 512 && depot.failed() == Some(DepotCall::Read) {
+        if depot.failed() == Some(DepotCall::Read) {
+            assert!(rt; end_of(&rt, &ran.end, 0) == Ended::Stopped(FlowStop::Read));
+            let packets = ran.seen.len();
+            assert!(rt; packets == 0 || packets == 1488);
             let text = from_utf8(&ran.printed).expect(&rt, "a text");
             let lines = text.lines().filter(|line| line.starts_with("packet "));
-            assert!(rt; lines.count() == ran.seen.len());
-            assert!(rt; end_of(&rt, &ran.end, 0) == Ended::Stopped(FlowStop::Read));
-            is_late = true;
+            assert!(rt; lines.count() == packets);
+            is_late = is_late || packets > 0;
         }
     }
     assert!(rt; is_late);

@@ -1,5 +1,5 @@
 -- What the workers made of a batch, and what is handed over of it.
-use Rattle.std.specs.Prelude.{◌≡◌, ℕ, ◌+◌, ◌<◌, ◌≤◌, List, [], ◌∷◌, ◌++◌, length, take, slice_index_or, slice_get, Option, Some, All, Result, IfErr, OnOk}
+use Rattle.std.specs.Prelude.{◌≡◌, ℕ, ◌+◌, ◌*◌, ◌<◌, ◌≤◌, List, [], ◌∷◌, ◌++◌, length, take, drop, slice_index_or, slice_get, Option, Some, All, Result, IfErr, OnOk}
 use Rattle.flow_lines.specs.declared.hop.Hop.{Hop}
 use Rattle.flow_lines.specs.Hop.{node_of}
 use Rattle.shared_tables.specs.Board.{ViewerState}
@@ -10,6 +10,10 @@ use Rattle.label_flow.specs.Pair.{PairState}
 use Rattle.label_flow.specs.Feed.{MayAccept, AreBegun}
 use Rattle.label_flow.specs.Round.{pick, IsWork, IsRound}
 use Rattle.label_flow.specs.Stops.{IsStop}
+
+-- the packets of the part of a batch at this place, counted from 0: 128 at most
+abbrev pub part_at : ℕ → List PacketIn → List PacketIn
+part_at place packets = take 128 (drop (place * 128) packets)
 
 -- each hop's node is in the viewer's network
 abbrev pub HasNodes : List Hop → ViewerState → Type 0
@@ -47,10 +51,11 @@ pub record HasViewers (hops : List Hop) (viewers : List ViewerState) : Type 0 wh
   pub few : length viewers ≤ 16
   pub nodes : All (HasNodes hops) viewers
 
--- w workers, each with a bench, and these viewers
-pub record HasCrew (hops : List Hop) (w benches : ℕ) (viewers : List ViewerState) : Type 0 where
+-- w workers, each with a bench and a tray, and these viewers
+pub record HasCrew (hops : List Hop) (w benches trays : ℕ) (viewers : List ViewerState) : Type 0 where
   pub all : w ≡ length viewers
   pub same : benches ≡ length viewers
+  pub trays_are : trays ≡ length viewers
   pub viewers_are : HasViewers hops viewers
 
 -- a feed is ready, with so many packets due, and its flow has these hops
@@ -59,11 +64,11 @@ pub record IsReadyFor (hops : List Hop) (n hops_told due : ℕ) (ready : Type 0)
   pub due_is : due ≡ n
   pub is_ready : ready
 
--- how a call leaves its feed: ready, with the same hops; after Ok nothing is due and it has no new stop, else the stop has its cause
-pub record LeavesFeed {A E : Type 0} (result : Result A (RoundStop E)) (hops hops' due : ℕ) (stop stop' : Option E) (ready : Type 0) : Type 0 where
+-- how a call leaves its feed: ready, with the same hops; after Ok so much is due and it has no new stop, else the stop has its cause
+pub record LeavesFeed {A E : Type 0} (result : Result A (RoundStop E)) (hops hops' due rest : ℕ) (stop stop' : Option E) (ready : Type 0) : Type 0 where
   pub hops_stay : hops' ≡ hops
   pub is_ready : ready
-  pub ok : OnOk result ((due ≡ 0) × (stop' ≡ stop))
+  pub ok : OnOk result ((due ≡ rest) × (stop' ≡ stop))
   pub err : IfErr result (λ e. IsStop e stop stop')
 
 -- From one state of a feed to a later one the pairs of a round from number n on were accepted, for the first packets of what was left, of which

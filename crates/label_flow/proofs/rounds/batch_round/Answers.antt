@@ -1,4 +1,4 @@
-use Rattle.std.proofs.Common.{rules, ◌≡◌, ℕ, List, [], length, ap, sym, subst, append-nil}
+use Rattle.std.proofs.Common.{rules, ◌≡◌, ℕ, List, [], length, ap, sym, subst, arith, append-nil}
 use Rattle.std.specs.Arc.{arc_value}
 use Rattle.label_flow.specs.Pair.{PairState}
 use Rattle.label_flow.specs.Round.{IsRound}
@@ -7,17 +7,22 @@ use Rattle.label_flow.proofs.Told.{batch_told, part_begun, whole_fetched}
 use Rattle.label_flow.proofs.Batches.{none_round, later_same, begun_none}
 use Rattle.label_flow.proofs.rounds.batch_round.Goals as goal
 
-pub judge_batch-requires-clause-told : goal.judge_batch-requires-clause-told
-judge_batch-requires-clause-told g c κs within =
+pub judge_batch-requires-clause-here : goal.judge_batch-requires-clause-here
+judge_batch-requires-clause-here g c κs within =
     let f = c.in-Ok-true.ensures in
-    rw f.base.1 (batch_told _ _ _ _ _ c.requires.at f.ok.front)
+    record {
+      few = f.ok.few;
+      numbers = omega (arith, f.base.0, f.base.1, f.ok.few, c.requires.few);
+      told = rw f.base.1 (batch_told _ _ _ _ _ c.requires.at f.ok.front);
+      short = f.ok.octets;
+    }
 
 pub returns-in-Ok-clause-took : goal.returns-in-Ok-clause-took
 returns-in-Ok-clause-took g c was hist took =
     let f = c.in-Ok-true.ensures in
     let t = c.in-Ok.ensures.took was hist (c.fetch_next.ensures.took was hist took) in
-    let vs = c.args.seens.now in
-    let us = c.judge_batch.new.seens in
+    let vs = c.args.crew.now.seens.items in
+    let us = c.judge_batch.new.crew.seens.items in
     let round = subst (λ (n : ℕ). IsRound c.args.shift.now.flow.now.hops n t.0 t.1 vs us) f.base.1 t.2 in
     let told = subst (λ (n : ℕ). IsTold g.A.Agreed.left n t.0) f.base.1 t.5.0 in
     (t.0, t.1, round, part_begun _ _ _ t.0 c.requires.at told, t.4, (rw c.in-Ok.ensures.left (whole_fetched _ _ _ _ _ t.0 c.requires.at f.ok.front told t.5.1), t.5.1))
@@ -26,8 +31,8 @@ pub returns-in-Err-judge_batch-clause-took : goal.returns-in-Err-judge_batch-cla
 returns-in-Err-judge_batch-clause-took g c was hist took =
     let f = c.in-Ok-true.ensures in
     let t = c.judge_batch.ensures.took was hist (c.fetch_next.ensures.took was hist took) in
-    let vs = c.args.seens.now in
-    let us = c.judge_batch.new.seens in
+    let vs = c.args.crew.now.seens.items in
+    let us = c.judge_batch.new.crew.seens.items in
     let round = subst (λ (n : ℕ). IsRound c.args.shift.now.flow.now.hops n t.0 t.1 vs us) f.base.1 t.2 in
     let told = subst (λ (n : ℕ). IsTold g.A.Agreed.left n t.0) f.base.1 t.5.0 in
     (t.0, t.1, round, part_begun _ _ _ t.0 c.requires.at told, t.4, tt)

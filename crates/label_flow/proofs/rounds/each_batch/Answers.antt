@@ -36,7 +36,7 @@ pub batch_round-requires-clause-crew : goal.batch_round-requires-clause-crew
 batch_round-requires-clause-crew g c κs within =
     let h = c.loop.invariant in
     let len = later_length _ _ h.later in
-    record { all = h.workers ∙ sym len; same = h.benches ∙ sym len; viewers_are = viewers_later _ _ _ h.later c.requires.lead.viewers_are }
+    record { all = h.workers ∙ sym len; same = h.benches ∙ sym len; trays_are = c.requires.lead.trays_are ∙ sym len; viewers_are = viewers_later _ _ _ h.later c.requires.lead.viewers_are }
 
 pub batch_round-requires-clause-feed : goal.batch_round-requires-clause-feed
 batch_round-requires-clause-feed g c κs within =

@@ -6,12 +6,12 @@ use Rattle.label_flow.proofs.rounds.hand_over.Goals as goal
 
 pub loop-at-init : goal.loop-at-init
 loop-at-init g c = record {
-  due = omega (arith, c.requires.due);
+  due = add-zero _;
   ready = c.requires.ready;
   hops = refl;
   left = refl;
   stop = refl;
-  turn = ap (λ n. n % length c.args.done.now) (sym (add-zero c.args.batch.now.base));
+  turn = ap (λ n. n % length c.args.done.now) (sym (add-zero c.args.base));
   placed = record { long = c.requires.few; inside = omega arith; each = λ k less. zero_at 16 k };
   took = λ was hist took.
       let T : List PairState → Type 0 = λ rs. g.Q.Feed.took was c.args.feed.now rs in
@@ -26,7 +26,7 @@ get-judged-requires g c =
     let below : m < length c.args.done.now = omega (arith, c.requires.some, h.turn) in
     let d = c.index-done-worker.result in
     let is : d ≡ get_or c.args.done.now m [] = c.index-done-worker.is ∙ read_any c.args.done.now m d [] below in
-    let room = pick_room m (length c.args.done.now) c.args.batch.now.base c.args.batch.now.packets.items c.loop-at.at (record { bytes = []; is_ip = true }) (omega arith) mine in
+    let room = pick_room m (length c.args.done.now) c.args.base c.args.packets.now c.loop-at.at (record { bytes = []; is_ip = true }) (omega arith) mine in
     omega (arith, h.placed.each m below, c.requires.room.each m below, ap length is, room)
 
 pub accept-requires-clause-fits : goal.accept-requires-clause-fits
@@ -46,8 +46,8 @@ overflow_add-places g c =
     let m = c.loop-at.turn in
     let mine = sym h.turn in
     let below : m < length c.args.done.now = omega (arith, c.requires.some, h.turn) in
-    let room = pick_room m (length c.args.done.now) c.args.batch.now.base c.args.batch.now.packets.items c.loop-at.at (record { bytes = []; is_ip = true }) (omega arith) mine in
-    omega (arith, h.placed.each m below, room, pick_le m (length c.args.done.now) c.args.batch.now.base c.args.batch.now.packets.items, c.requires.numbers)
+    let room = pick_room m (length c.args.done.now) c.args.base c.args.packets.now c.loop-at.at (record { bytes = []; is_ip = true }) (omega arith) mine in
+    omega (arith, h.placed.each m below, room, pick_le m (length c.args.done.now) c.args.base c.args.packets.now, c.requires.numbers)
 
 pub returns-in-Err-clause-took : goal.returns-in-Err-clause-took
 returns-in-Err-clause-took g c was hist took =
@@ -86,7 +86,7 @@ loop-at-preserved g c =
       hops = c.accept.ensures.hops ∙ h.hops;
       left = c.accept.ensures.left ∙ h.left;
       stop = e.stop ∙ h.stop;
-      turn = turn_on _ _ _ _ (c.next_turn-turn.ensures (c.args.batch.now.base + c.loop-at.at) h.turn);
+      turn = turn_on _ _ _ _ (c.next_turn-turn.ensures (c.args.base + c.loop-at.at) h.turn);
       placed = placed_more _ _ _ _ _ (record { bytes = []; is_ip = true }) m (place + 1) h.placed (omega arith) mine below refl;
       took = λ was hist took.
           let T : List PairState → Type 0 = λ rs. g.Q.Feed.took was c.accept.new.self rs in

@@ -17,11 +17,13 @@ staff-led-requires-clause-lead g c κs within =
     let crew = c.in-Ok-crew_of.crew in
     let begun : crew.seens.items ≡ c.args.viewers.now = search rules in
     let benches : length crew.benches.items ≡ length c.args.viewers.now = search rules in
+    let trays : c.in-Ok.trays ≡ length c.args.viewers.now = search rules in
     record {
       hops_are = (c.requires.servants 0 (first_of []) c.requires.viewers.some).hops_are;
       left_is = c.requires.left;
       viewers_are = subst (λ (vs : List ViewerState). HasViewers c.args.flow.now.hops vs) (sym begun) c.requires.viewers;
       benches_are = benches ∙ ap length (sym begun);
+      trays_are = trays ∙ ap length (sym begun);
     }
 
 pub learn_all-requires-clause-same : goal.learn_all-requires-clause-same
