@@ -515,7 +515,9 @@ fn all_end_so(
             None
         } else {
             let packets = packets.min(whole.packets);
-            whole.octets.get(..whole.head + whole.packet * packets)
+            let records = whole.packet.checked_mul(packets).expect(rt, "a length");
+            let end = whole.head.checked_add(records).expect(rt, "a length");
+            whole.octets.get(..end)
         };
         assert!(*rt; depot.get("out.pcap") == output);
     }
