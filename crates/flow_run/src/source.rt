@@ -18,14 +18,14 @@ use std::alloc::Global;
 use std::mem;
 
 // The most packets of a batch for so many workers over so many hops. One worker has each packet still near when it comes to it; for several,
-// a batch has to be worth their waking, and where a walk takes long, it has to last: at its end they wait for each other.
+// a batch has to last where a walk takes long: at its end they wait for each other.
 fn most_at_once(workers: usize, hops: usize) -> usize
     ensures some { 0 < result }
     ensures few { result ≤ 1024 }
 {
     match (workers, hops) {
-        (0 | 1, _) => 256,
-        (_, 0..=3) => 512,
+        (0 | 1, _) | (_, 0 | 1) => 256,
+        (_, 2 | 3) => 512,
         _ => 1_024,
     }
 }

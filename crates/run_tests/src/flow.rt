@@ -447,7 +447,7 @@ fn written_packets_are_read(rt: HostRuntime) {
     assert!(rt; depot.get("out.pcap") == Some(output.as_slice()));
 }
 
-// Three batches, of which the last has one packet. The output is the input again.
+// Nine batches, of which the last has one packet. The output is the input again.
 #[test]
 fn batches_follow_each_other(rt: HostRuntime) {
     let alloc = rt.alloc();
