@@ -491,16 +491,6 @@ struct Whole<'o> {
     packet: usize,
 }
 
-fn pcap_of(octets: &[u8], packets: usize) -> Whole<'_> {
-    Whole {
-        octets,
-        packets,
-        section: 24,
-        head: 24,
-        packet: 44,
-    }
-}
-
 /// Each beginning of a capture ends so, and what is made of it has all packets in front of the end.
 fn all_end_so(
     rt: &(impl Abort + Threads + Wait + Sync),
@@ -523,13 +513,28 @@ fn all_end_so(
     }
 }
 
+/// The same of a libpcap capture of so many packets.
+fn pcap_ends_so(
+    rt: &(impl Abort + Threads + Wait + Sync),
+    alloc: Global,
+    packets: usize,
+    cases: &[(usize, u64, usize, Ended)],
+) {
+    let octets = capture(rt, alloc, packets);
+    let whole = Whole {
+        octets: &octets,
+        packets,
+        section: 24,
+        head: 24,
+        packet: 44,
+    };
+    all_end_so(rt, alloc, &whole, cases);
+}
+
 // All packets in front of an end are printed and written. Where no more may be read, what stands behind tells the end.
 #[test]
 fn captures_end_somewhere(rt: HostRuntime) {
-    let alloc = rt.alloc();
-    let octets = capture(&rt, alloc, 3);
-    let whole = pcap_of(&octets, 3);
-    all_end_so(&rt, alloc, &whole, &ENDS);
+    pcap_ends_so(&rt, rt.alloc(), 3, &ENDS);
 }
 
 // The same in pcapng, where an output is made as soon as the first section's header is whole.
@@ -557,10 +562,7 @@ const AHEAD: [(usize, u64, usize, Ended); 3] = [
 // Packets that were read ahead come in front of what stands behind them.
 #[test]
 fn packets_that_were_read_ahead_come_first(rt: HostRuntime) {
-    let alloc = rt.alloc();
-    let octets = capture(&rt, alloc, 2049);
-    let whole = pcap_of(&octets, 2049);
-    all_end_so(&rt, alloc, &whole, &AHEAD);
+    pcap_ends_so(&rt, rt.alloc(), 2049, &AHEAD);
 }
 
 // 65,536 octets are read at once, with 1,488 whole packets: where a read behind them fails, these are told first.
