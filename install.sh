@@ -19,8 +19,9 @@ refuse() {
     exit 1
 }
 
-# Whether a call of an example makes this file, where it is run in place: then it has the name of one in `wanted`, or `wanted-run` and the like.
+# Whether an example makes this file, where it is run in place: then it has the name of one in `wanted`, or `wanted-run` and the like, or is the program in C.
 is_made() {
+    [ "$1" != examples/c/labels ] || return 0
     for wanted in "${1%/*}"/wanted*/"${1##*/}"; do
         [ ! -e "$wanted" ] || return 0
     done

@@ -23,7 +23,8 @@ INSTALLED = ["bin/netlabel", "share/man/man1/netlabel.1", "share/bash-completion
 PROGRAMS = {"netlabel_run": "netlabel", "netlabel_cover": "netlabel_cover", "netlabel_audit": "netlabel_audit", "ripso_border_run": "ripso_border", "netlabel_report": "netlabel_report"}
 LIBRARY = "netlabel_codec"
 # What stands on the line, and the words that complete it, in a folder with the files below.
-FILES = ["site", "site.pcap", "with blank", "-dash", "sub/one.pcap"]
+MADE_IN_PLACE = ["crossing/far.pcap", "ripso-border/passed.pcap", "c/labels"]
+FILES = ["site", "site.pcap", "with blank", "-dash", "at:noon", "sub/one.pcap"]
 COMPLETED = {
     "netlabel ": "agree check judge make run show", "netlabel s": "show", "netlabel show s": "site site.pcap sub", "netlabel run site": "site site.pcap",
     "netlabel run site ": "-w", "netlabel run site -w 1": "1 10 11 12 13 14 15 16", "netlabel judge ": "", "netlabel judge 16 s2:c0.c5 si": "site site.pcap",
@@ -35,11 +36,14 @@ COMPLETED = {
     "ripso_border ": "in out", "ripso_border o": "out", "ripso_border in si": "site site.pcap", "ripso_border in site ": "",
     "ripso_border out site 16 sub/": "sub/one.pcap", "ripso_border in site 16 site.pcap s": "site site.pcap sub", "ripso_border in site 16 site.pcap o ": "",
     "netlabel_audit si": "site site.pcap", "netlabel_audit site si": "site site.pcap", "netlabel_audit site site 1": "1 10 11 12 13 14 15 16", "netlabel_audit site site 1 ": "",
+    "netlabel show at:": "noon", "netlabel agree at:noon ": "", "netlabel_audit at:noon s": "site site.pcap sub", "netlabel_audit at:noon at:n": "noon", "netlabel_audit at:noon at:noon 2": "2",
+    "netlabel_cover at:": "noon", "netlabel_report -s at:noon ": "csv denied json summary", "netlabel_report denied at:": "noon", "ripso_border in at:noon 16 at:": "noon",
 }
 BASH = r"""
 . "$1"; complete -p "$3" >/dev/null || exit 9
 COMP_LINE=$2 COMP_POINT=${#2}
-COMP_WORDS=(); for word in $2; do COMP_WORDS+=("${word##*:}"); done
+# bash makes a word of each colon, and of what stands on its two sides
+COMP_WORDS=(); for word in ${2//:/ : }; do COMP_WORDS+=("$word"); done
 [[ $2 == *" " ]] && COMP_WORDS+=("")
 COMP_CWORD=$((${#COMP_WORDS[@]} - 1)) "_$3"; printf '%s\n' "${COMPREPLY[@]}"
 """
@@ -133,13 +137,13 @@ def test_install(tree, made):
     refused = run(tree / "install.sh", blocked)
     tell("refuses where it can't write", refused.returncode == 1 and "Nothing was changed" in refused.stderr, refused.stderr)
     tell("refuses a relative prefix", run(tree / "install.sh", "opt", cwd=made).returncode == 2)
-    for made_in_place in ("crossing/far.pcap", "ripso-border/passed.pcap"):
+    for made_in_place in MADE_IN_PLACE:
         (tree / "examples" / made_in_place).write_text("made in place")
     done = run(tree / "install.sh", "/usr", env={**os.environ, "DESTDIR": str(prefix)}, umask=0o077)
     there = held(prefix / "usr") if done.returncode == 0 else []
     closed = [path.relative_to(prefix) for path in prefix.rglob("*") if path.is_dir() and path.stat().st_mode & 0o777 != 0o755]
     tell("everybody may read the folders", bool(there) and not closed, closed)
-    for made_in_place in ("crossing/far.pcap", "ripso-border/passed.pcap"):
+    for made_in_place in MADE_IN_PLACE:
         tell(f"leaves out {made_in_place}, made in place", f"share/doc/netlabel/examples/{made_in_place}" not in there)
     tell("takes the inputs of examples", "share/doc/netlabel/examples/ripso-border/inside.pcap" in there)
     tell("puts each file below DESTDIR", all(name in there for name in INSTALLED), done.stderr)

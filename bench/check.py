@@ -1,8 +1,8 @@
 """Times `netlabel check` on a script of 16,384 lines and measures its memory.
 
-    python3 bench/check.py [--runs N] [--keep FOLDER]
+    python3 bench/check.py [--runs N] [--keep FOLDER] [--program PROGRAM]
 
-The script has 32 nodes and commands of every kind in a random order, so tables grow, are listed, and are full. A time is the median of several runs,
+The script has 32 nodes and commands of twelve kinds in a random order, so tables grow, are listed, and are full. A time is the median of several runs,
 the report thrown away and the process's start included: processor time, and beside it the time that passed. Memory is the most that the process held.
 """
 import argparse

@@ -1,9 +1,8 @@
 """Times `netlabel_cover` on flows of up to 16 nodes with up to 256 static entries each, by their readings and labels, and measures its memory.
 
-    python3 bench/cover.py [--runs N] [--keep FOLDER] [--program PROGRAM]
+    python3 bench/cover.py [--runs N] [--only WORD] [--keep FOLDER] [--program PROGRAM]
 
-In each script every node but the first takes what has no label, with so many entries that all count for the flow's interface; each node has a reading line that names
-so many categories, and a range for the interface where packets go out. Every link is covered, so that each entry is compared with the range's high end,
+In each script every node but the first takes what has no label, with so many entries that all count for the flow's interface; each node has a reading line that names so many categories, or none in the rows without readings, and a range for the interface where packets go out. Every link is covered, so that each entry is compared with the range's high end,
 category by category. "The longest readings" are those that a script of 1,048,576 octets has room for beside its entries.
 
 A time is the least of several runs, the report thrown away and the process's start included: processor time, and beside it the time that passed. Memory is the most

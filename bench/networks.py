@@ -1,4 +1,4 @@
-"""Random networks for bench/access.py: 2 to 5 nodes in a row, each with numbers of its own, whose neighbours agree by construction.
+"""Random networks for bench/access.py, bench/audit.py and bench/coverage.py: 2 to 5 nodes in a row, each with numbers of its own, whose neighbours agree by construction.
 
 A network speaks of some meanings. Each node has a number of its own for each of them, and says so by a `reading` line. What two neighbours share is a DOI of
 CIPSO for packets of IPv4, one of CALIPSO for packets of IPv6, or both, with a number on the wire for each meaning. A node passes a DOI's numbers where they are

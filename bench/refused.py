@@ -1,12 +1,12 @@
 """Refuses one allocation after another of two rounds of two workers beside the steps of a plan, and checks what each round answers.
 
-    python3 bench/refused.py [--keep FOLDER]
+    python3 bench/refused.py [--times N] [--keep FOLDER]
 
 One flow delivers packets and the other sends them; each denies every third, which has a broken header. A round's answer has to be Ok with
 all packets and all steps, or want of memory, or the stop of the feed, which takes memory too; the packets that the feed took have to be the
 first ones, in order and each with its end and its octets, and the version has to stand between. After a refusal a second round, with the
 rest of the packets, has to bring all to the end, behind the steps that were left, and closing has to give the tables that all steps make. bench/refused.c, which is loaded before the
-proved program, refuses the allocation; it counts those of threads too. What came of it is told with the times that it did.
+proved program, refuses the allocation; it counts those of threads too. It prints what came of it, and how often.
 """
 import argparse
 import collections

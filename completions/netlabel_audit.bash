@@ -10,11 +10,23 @@ _netlabel_audit_files() {
 }
 
 _netlabel_audit() {
+    # the line is split at blanks alone: bash itself splits names at their colons
+    local line=${COMP_LINE:0:COMP_POINT} current=
+    local -a words
+    read -ra words <<<"$line"
+    [[ $line == *[[:blank:]] ]] || current=${words[-1]}
+    [[ $line == *[[:blank:]] ]] && words+=("")
     COMPREPLY=()
-    case $COMP_CWORD in
-    1 | 2) _netlabel_audit_files "${COMP_WORDS[COMP_CWORD]}" ;;
-    3) mapfile -t COMPREPLY < <(compgen -W '{1..16}' -- "${COMP_WORDS[3]}") ;;
+    case $((${#words[@]} - 1)) in
+    1 | 2) _netlabel_audit_files "$current" ;;
+    3) mapfile -t COMPREPLY < <(compgen -W '{1..16}' -- "$current") ;;
     esac
+    # bash replaces what stands behind the last colon alone
+    local behind=${current##*:} at
+    [[ $current == *:* ]] || return 0
+    for at in "${!COMPREPLY[@]}"; do
+        COMPREPLY[at]=${COMPREPLY[at]#"${current%"$behind"}"}
+    done
 }
 
 complete -F _netlabel_audit netlabel_audit

@@ -10,8 +10,20 @@ _netlabel_cover_files() {
 }
 
 _netlabel_cover() {
+    # the line is split at blanks alone: bash itself splits names at their colons
+    local line=${COMP_LINE:0:COMP_POINT} current=
+    local -a words
+    read -ra words <<<"$line"
+    [[ $line == *[[:blank:]] ]] || current=${words[-1]}
+    [[ $line == *[[:blank:]] ]] && words+=("")
     COMPREPLY=()
-    [[ $COMP_CWORD != 1 ]] || _netlabel_cover_files "${COMP_WORDS[1]}"
+    [[ ${#words[@]} != 2 ]] || _netlabel_cover_files "$current"
+    # bash replaces what stands behind the last colon alone
+    local behind=${current##*:} at
+    [[ $current == *:* ]] || return 0
+    for at in "${!COMPREPLY[@]}"; do
+        COMPREPLY[at]=${COMPREPLY[at]#"${current%"$behind"}"}
+    done
 }
 
 complete -F _netlabel_cover netlabel_cover

@@ -32,7 +32,7 @@ struct netlabel_run {
 #define NETLABEL_CIPSO 1
 #define NETLABEL_CALIPSO 2
 
-/* What an option says but its categories, or where the first fault is. What isn't said of is 0. */
+/* What an option says but its categories, or where the first fault is. What a call doesn't tell is 0. */
 struct netlabel_label {
     size_t octet;   /* the octet of the option's type, or the octet at fault */
     size_t length;  /* how many octets an option has that was read by itself */
