@@ -1,8 +1,8 @@
 -- The first bits of octets.
-use Rattle.std.proofs.Common.{◌≡◌, ℕ, zero, suc, ◌-◌, ◌%◌, ◌^◌, ◌<◌, ◌≤◌, List, [], ◌∷◌, length, get_or, refl, ap, ap₂, ◌∙◌, arith}
+use Rattle.std.proofs.Common.{◌≡◌, ℕ, zero, suc, ◌-◌, ◌%◌, ◌^◌, ◌≤◌, List, [], ◌∷◌, refl, ap, ap₂, arith}
 use Rattle.address_text.specs.declared.address.Address.{Address}
 use Rattle.address_text.specs.declared.address.Address.TheVariants.{V4, V6}
-use Rattle.address_text.specs.Address.{IsOctetsOf, IsAddress, width_of}
+use Rattle.address_text.specs.Address.{IsAddress, width_of}
 use Rattle.address_text.specs.Prefix.{first_bits, masked, block_of, IsBlock}
 
 -- clearing the last k bits a second time changes nothing

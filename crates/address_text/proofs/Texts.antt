@@ -1,24 +1,22 @@
 -- Texts of addresses: the grammar, and the function that computes.
-use Rattle.std.proofs.Common.{◌≡◌, ℕ, zero, suc, ◌+◌, ◌*◌, ◌/◌, ◌%◌, ◌^◌, ◌<◌, ◌⊎◌, Bool, true, false, List, [], ◌∷◌, ◌++◌, length, get_or, Option, Some, None, refl, sym, ap, ap₂, ◌∙◌, subst, arith, append-nil, All, ne_eqb, inl, inr, lit≤, ◌-◌}
-use Rattle.std.specs.Prelude.{◌==◌, option_map, if◌then◌else◌}
-use Rattle.std.specs.List.{list_any}
+use Rattle.std.proofs.Common.{◌≡◌, ℕ, zero, suc, ◌+◌, ◌*◌, ◌/◌, ◌%◌, ◌^◌, ◌<◌, true, false, List, [], ◌∷◌, length, get_or, Option, Some, None, refl, sym, ap, ◌∙◌, subst, arith, append-nil, All, ne_eqb, lit≤, ◌-◌}
+use Rattle.std.specs.Prelude.{◌==◌, option_map}
 use Rattle.std.specs.Net.Addr.{segments_of, octets_of}
 use Rattle.std.specs.Net.Grammar.{IsDotted, IsColonHex}
 use Rattle.std.specs.Net.Reader.{read_ipv4, read_ipv6, whole_value}
-use Rattle.std.specs.Net.Text.{ipv4_text, hex_groups_text}
 use Rattle.std.proofs.lemmas.Bool.{cond-false, both_ways}
 use Rattle.std.proofs.lemmas.Bool.Decides.{nat_tests}
 use Rattle.std.proofs.lemmas.List.Folds.{list_any_none}
 use Rattle.std.proofs.lemmas.List.Elements.{All-weaker}
 use Rattle.std.proofs.lemmas.Option.{none-some, same_Some}
-use Rattle.std.proofs.NetLemmas.Options.{same_parts, cond_none, map_some}
+use Rattle.std.proofs.NetLemmas.Options.{cond_none, map_some}
 use Rattle.std.proofs.NetLemmas.Ipv4.{read_ipv4_complete, read_ipv4_sound}
 use Rattle.std.proofs.NetLemmas.Ipv6.{read_ipv6_complete, read_ipv6_sound, EndsGroups-nil, IsDotted-not_colon_hex}
 use Rattle.std.proofs.NetLemmas.Texts.{IsDotted-ipv4_text, IsColonHex-hex_groups_text, AllSegments}
 use Rattle.std.proofs.NetLemmas.Alphabet.{All-ipv4_text, All-hex_groups_text, IsDigitOrDot, IsHexOrColon}
 use Rattle.address_text.specs.declared.address.Address.{Address}
 use Rattle.address_text.specs.declared.address.Address.TheVariants.{V4, V6}
-use Rattle.address_text.specs.Address.{IsAddressText, IsGroupsText, IsAddress, IsOctetsOf, has_dot, six_of_text, address_of_text, address_text}
+use Rattle.address_text.specs.Address.{IsAddressText, IsGroupsText, IsAddress, has_dot, six_of_text, address_of_text, address_text}
 
 -- what was read left nothing behind it
 whole_read : {A : Type 0} (r : Option (A × List ℕ)) (v : A) → whole_value r ≡ Some v → r ≡ Some (v, [])

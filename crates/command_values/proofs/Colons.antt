@@ -1,17 +1,17 @@
 -- Ranges of static entries and of receivers: a text behind a context is no range as a whole, and written ones read back.
-use Rattle.std.proofs.Common.{◌≡◌, ℕ, ◌+◌, ◌<◌, ◌≤◌, Bool, true, false, cond, List, [], ◌∷◌, ◌++◌, length, get_or, take, Option, Some, None, refl, sym, ap, subst, ◌∙◌, arith, All, IsTrue, inl, inr, ◌⊎◌}
+use Rattle.std.proofs.Common.{◌≡◌, ℕ, ◌+◌, ◌<◌, ◌≤◌, Bool, true, false, List, [], ◌∷◌, ◌++◌, length, get_or, Option, Some, None, refl, sym, ap, subst, ◌∙◌, arith, All, IsTrue, inl, inr}
 use Rattle.std.specs.Prelude.{◌==◌, nat_eq, nat_le, count_by, option_map, option_and_then, ◌&&◌}
 use Rattle.std.specs.List.{before_first, after_first, position_or_len, list_all}
 use Rattle.std.specs.Str.{bytes_eq}
 use Rattle.std.proofs.lemmas.Bool.{cases_lt, cases_Bool, cond-true, cond-false, and_parts, leb-true, eqb-true, false≢true}
-use Rattle.std.proofs.lemmas.List.{length-take-le, length-append, drop_all}
+use Rattle.std.proofs.lemmas.List.{drop_all}
 use Rattle.std.proofs.lemmas.List.Elements.{All-head, All-tail}
 use Rattle.std.proofs.lemmas.List.Sums.{sum_by-append, split_at_first, passes_at_first}
-use Rattle.std.proofs.lemmas.Option.{none-some, same_Some, cond_some, option_and_then_some}
+use Rattle.std.proofs.lemmas.Option.{none-some, cond_some, option_and_then_some}
 use Rattle.std.proofs.lemmas.Slice.Eq.{bytes_eq-Decides}
 use Rattle.std.proofs.NetLemmas.Options.{map_some}
 use Rattle.mls_label.specs.declared.label.Label.{Label}
-use Rattle.mls_range.specs.LabelText.{IsLabelText, is_label_octet, label_text}
+use Rattle.mls_range.specs.LabelText.{is_label_octet, label_text}
 use Rattle.mls_range.specs.Range.{LabelRange}
 use Rattle.mls_range.specs.RangeText.{IsRangeText, range_text, same_label}
 use Rattle.mls_range.specs.Computed.{label_of_text, lone_range, range_of_text}

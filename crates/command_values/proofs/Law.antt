@@ -1,5 +1,5 @@
 -- The laws of src/laws.rt under their names, for the crates above.
-use Rattle.std.proofs.Common.{◌≡◌, ℕ, ◌<◌, ◌≤◌, ◌^◌, List, Some, IsTrue, decimal, ap, ◌∙◌}
+use Rattle.std.proofs.Common.{◌≡◌, ℕ, ◌<◌, ◌^◌, List, Some, IsTrue, decimal, ap}
 use Rattle.std.specs.Prelude.{option_map, option_and_then}
 use Rattle.mls_label.specs.declared.label.Tag.{Tag}
 use Rattle.mls_range.specs.Range.{LabelRange}

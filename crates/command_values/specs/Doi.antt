@@ -1,5 +1,5 @@
 -- DOIs of CIPSO and CALIPSO.
-use Rattle.std.specs.Prelude.{ℕ, Bool, ◌&&◌, nat_eq, nat_le, List, Option, Some, None, option_and_then, if◌then◌else◌}
+use Rattle.std.specs.Prelude.{ℕ, Bool, ◌&&◌, nat_le, List, Option, Some, None, option_and_then, if◌then◌else◌}
 use Rattle.address_text.specs.Number.{number_of_text}
 
 -- a number from 1 to 4294967295

@@ -1,5 +1,5 @@
 -- Ranges of labels as static entries and receivers have them.
-use Rattle.std.specs.Prelude.{ℕ, ◌<◌, ◌≤◌, ◌==◌, List, [], ◌∷◌, ◌++◌, length, Option, Some, None, option_map, option_and_then, if◌then◌else◌}
+use Rattle.std.specs.Prelude.{ℕ, ◌<◌, ◌≤◌, ◌==◌, List, [], ◌∷◌, ◌++◌, length, Option, Some, None, option_and_then, if◌then◌else◌}
 use Rattle.std.specs.List.{after_first, before_first}
 use Rattle.mls_label.specs.declared.label.Label.{Label}
 use Rattle.mls_label.specs.declared.cat_set.TheConstants.{MOST_RUNS}
@@ -9,7 +9,7 @@ use Rattle.mls_label.specs.Runs.{runs_of}
 use Rattle.mls_range.specs.LabelText.{label_text}
 use Rattle.mls_range.specs.Range.{LabelRange}
 use Rattle.mls_range.specs.RangeText.{same_label}
-use Rattle.mls_range.specs.Computed.{label_of_text, lone_range, range_of_text}
+use Rattle.mls_range.specs.Computed.{label_of_text, range_of_text}
 use Rattle.address_text.specs.Name.{is_name}
 
 -- what stands behind a name and a colon

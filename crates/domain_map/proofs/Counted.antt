@@ -1,10 +1,9 @@
 -- The static entries that count for an interface, with their places.
-use Rattle.std.proofs.Common.{◌≡◌, ◌↔◌, ℕ, zero, suc, ◌+◌, ◌<◌, Bool, true, false, cond, ◌&&◌, List, [], ◌∷◌, length, filter, map, Contains, slice_get, slice_index_or, Option, Some, None, option_map, IsTrue, nat_eq, find, refl, sym, ap, subst, ◌∙◌, arith, inl, inr}
+use Rattle.std.proofs.Common.{◌≡◌, ◌↔◌, ℕ, zero, suc, ◌+◌, ◌<◌, Bool, true, false, cond, ◌&&◌, List, [], ◌∷◌, length, filter, map, Contains, slice_get, slice_index_or, Option, Some, None, option_map, IsTrue, nat_eq, find, refl, sym, ap, ◌∙◌, arith, inl, inr}
 use Rattle.std.specs.Prelude.{zip}
 use Rattle.std.specs.List.{range_with_len}
 use Rattle.std.proofs.lemmas.Bool.{and_parts}
 use Rattle.std.proofs.lemmas.Option.{none-some, same_Some}
-use Rattle.std.proofs.lemmas.List.Elements.{All-contains}
 use Rattle.mls_label.specs.declared.label.Label.{Label}
 use Rattle.address_text.specs.declared.address.Address.{Address}
 use Rattle.address_text.specs.Prefix.{holds}
@@ -13,7 +12,6 @@ use Rattle.domain_map.specs.Domains.{Domain, same_domain}
 use Rattle.domain_map.specs.Longest.{most_bits, longest}
 use Rattle.domain_map.specs.Statics.{Statics, entries_of, counting, entries_for, candidates, find_static_of}
 use Rattle.domain_map.specs.inside.Ranking.{Has}
-use Rattle.domain_map.proofs.Longests.{has_at}
 use Rattle.domain_map.proofs.Interfaces.{has_filtered, filtered_has, of_interface}
 
 -- ---- what a list has, by its places

@@ -1,10 +1,7 @@
 -- The entries of interfaces.
-use Rattle.std.proofs.Common.{◌≡◌, ℕ, zero, suc, ◌+◌, ◌<◌, ◌≤◌, ◌⊎◌, Bool, true, false, cond, ◌&&◌, ◌||◌, List, [], ◌∷◌, ◌++◌, length, filter, remove, slice_get, Some, None, Option, is_some, option_map, Result, Ok, Err, refl, sym, ap, ◌∙◌, subst, arith, inl, inr, nat_eq, find}
-use Rattle.std.specs.Prelude.{nat_lt, MatchOption, if◌then◌else◌}
-use Rattle.std.specs.List.{list_any, position}
-use Rattle.std.specs.Str.{bytes_eq}
-use Rattle.std.proofs.lemmas.Bool.{both_ways, and_from, and_parts, cond-true, cond-false, lt-ltb, le-ltb, eq-eqb, ne_eqb, false_from_ne_true}
-use Rattle.std.proofs.lemmas.List.{length-append}
+use Rattle.std.proofs.Common.{◌≡◌, ℕ, zero, suc, ◌+◌, ◌<◌, ◌≤◌, Bool, true, false, cond, ◌&&◌, List, [], ◌∷◌, ◌++◌, length, filter, remove, slice_get, Some, None, Option, is_some, option_map, Ok, Err, refl, sym, ap, ◌∙◌, subst, inl, inr, find}
+use Rattle.std.specs.Prelude.{nat_lt, MatchOption}
+use Rattle.std.proofs.lemmas.Bool.{both_ways, and_from, and_parts, cond-true, cond-false, lt-ltb, le-ltb, false_from_ne_true}
 use Rattle.std.proofs.lemmas.Option.{none-some, same_Some, slice_get_within}
 use Rattle.std.proofs.lemmas.Slice.Eq.{bytes_eq-Decides}
 use Rattle.mls_label.specs.declared.label.Label.{Label}
@@ -13,16 +10,14 @@ use Rattle.address_text.specs.declared.address.Address.{Address}
 use Rattle.address_text.specs.Prefix.{AddressBlock, same_block, holds}
 use Rattle.domain_map.specs.declared.order.Ranked.{Ranked}
 use Rattle.domain_map.specs.declared.static_map.StaticEntry.{StaticEntry}
-use Rattle.domain_map.specs.declared.fault.StaticFault.{StaticFault}
 use Rattle.domain_map.specs.declared.fault.StaticFault.TheVariants as Fault
 use Rattle.domain_map.specs.Domains.{Domain, same_domain}
 use Rattle.domain_map.specs.Longest.{longest}
-use Rattle.domain_map.specs.Statics.{Statics, static_place, static_added, static_deleted}
+use Rattle.domain_map.specs.Statics.{Statics, static_place, static_added}
 use Rattle.domain_map.specs.inside.Order.{ranked_in, without}
 use Rattle.domain_map.specs.inside.Ranking.{Has, IsRanked, passes_at}
 use Rattle.domain_map.specs.inside.Ordered.{static_key, static_bits, AreOrdered, AreStatics}
 use Rattle.domain_map.proofs.Longests.{has_at, none_passes, same_block-refl, longest_is, no_longest, best, none_best, mapped_back, none_back, more_ranked, less_ranked}
-use Rattle.domain_map.proofs.Lookups.{within, has_there}
 
 same_domain-refl : (a : Domain) → same_domain a a ≡ true
 same_domain-refl None = refl

@@ -1,8 +1,7 @@
 -- The first in the order that passes is the longest of all that pass.
-use Rattle.std.proofs.Common.{◌≡◌, ℕ, zero, suc, ◌+◌, ◌<◌, ◌≤◌, ◌⊎◌, Bool, true, false, cond, not, ◌&&◌, List, [], ◌∷◌, ◌++◌, length, map, filter, remove, slice_get, Some, None, Option, refl, sym, ap, ap₂, ◌∙◌, subst, arith, inl, inr, nat_eq, option_map, find, fold, max}
+use Rattle.std.proofs.Common.{◌≡◌, ℕ, zero, suc, ◌+◌, ◌<◌, ◌≤◌, ◌⊎◌, Bool, true, false, cond, not, ◌&&◌, List, [], ◌∷◌, ◌++◌, length, map, filter, remove, slice_get, Some, None, Option, refl, sym, ap, ◌∙◌, subst, arith, inl, inr, nat_eq, option_map, find, fold, max}
 use Rattle.std.specs.List.{position, position_or_len}
 use Rattle.std.specs.Option.{option_map_or}
-use Rattle.std.specs.Str.{bytes_eq}
 use Rattle.std.proofs.lemmas.Bool.{both_ways, and_from, and_parts, eqb-true, eq-eqb, cases_eq, ltb-false, ne_eqb}
 use Rattle.std.proofs.lemmas.Option.{slice_get-map, slice_get_within, none-some, same_Some}
 use Rattle.std.proofs.lemmas.List.{length-append, length-map, map-append}
@@ -16,7 +15,7 @@ use Rattle.domain_map.specs.declared.order.Ranked.{Ranked}
 use Rattle.domain_map.specs.Longest.{longest, most_bits}
 use Rattle.domain_map.specs.inside.Order.{Descends, Tells, times, IsOrder, ranked_in, without}
 use Rattle.domain_map.specs.inside.Ranking.{Has, IsRanked, passes_at}
-use Rattle.domain_map.proofs.Ranks.{pol-le, order_more, order_less, map-removed, no_place}
+use Rattle.domain_map.proofs.Ranks.{order_more, order_less, map-removed, no_place}
 
 -- members of lists
 

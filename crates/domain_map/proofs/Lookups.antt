@@ -1,14 +1,13 @@
 -- Entries found by their keys and by their places.
-use Rattle.std.proofs.Common.{◌≡◌, ℕ, zero, suc, ◌+◌, ◌<◌, ◌≤◌, Bool, true, false, cond, not, List, [], ◌∷◌, ◌++◌, length, take, drop, remove, slice_get, Some, None, Option, is_some, option_map, Result, Ok, Err, refl, sym, ap, ◌∙◌, subst, arith, one-add, nat_eq}
+use Rattle.std.proofs.Common.{◌≡◌, ℕ, zero, suc, ◌+◌, ◌<◌, ◌≤◌, Bool, true, false, cond, not, List, [], ◌∷◌, ◌++◌, length, remove, slice_get, Some, None, Option, is_some, option_map, Ok, Err, refl, sym, ap, ◌∙◌, arith, one-add}
 use Rattle.std.specs.Prelude.{nat_lt, map, ◌||◌, if◌then◌else◌}
 use Rattle.std.specs.List.{list_any, position, position_or_len}
 use Rattle.std.specs.Map.{lookup, remove_entry}
 use Rattle.std.proofs.lemmas.Bool.{ltb-true, ltb-false, cond-true, cond-false, lt-ltb, le-ltb, true≢false}
-use Rattle.std.proofs.lemmas.Option.{slice_get_past, slice_get-get_or, none-some, same_Some}
+use Rattle.std.proofs.lemmas.Option.{slice_get_past}
 use Rattle.std.proofs.NetLemmas.Options.{cond_some}
 use Rattle.address_text.specs.Prefix.{AddressBlock, same_block}
 use Rattle.domain_map.specs.declared.protocol.Protocol.{Protocol}
-use Rattle.domain_map.specs.declared.fault.MapFault.{MapFault}
 use Rattle.domain_map.specs.declared.fault.MapFault.TheVariants as Fault
 use Rattle.domain_map.specs.Addresses.{Addresses, with_address}
 use Rattle.domain_map.proofs.Ranks.{no_place}

@@ -1,11 +1,11 @@
 -- What keeps an order an order.
-use Rattle.std.proofs.Common.{◌≡◌, ℕ, zero, suc, ◌+◌, ◌-◌, ◌<◌, ◌≤◌, ◌⊎◌, Bool, true, false, cond, not, List, [], ◌∷◌, ◌++◌, length, take, drop, map, filter, insert, remove, slice_get, Some, None, Option, refl, sym, ap, ap₂, ◌∙◌, subst, arith, inl, inr, nat_eq, one-add, option_map}
+use Rattle.std.proofs.Common.{◌≡◌, ℕ, zero, suc, ◌+◌, ◌-◌, ◌<◌, ◌≤◌, Bool, true, false, cond, not, List, [], ◌∷◌, ◌++◌, length, map, filter, insert, remove, slice_get, Some, None, refl, sym, ap, ◌∙◌, arith, inl, inr, nat_eq, one-add}
 use Rattle.std.specs.Prelude.{nat_lt, if◌then◌else◌}
 use Rattle.std.specs.List.{position, position_or_len}
 use Rattle.std.proofs.lemmas.Bool.{cases_lt, cases_eq, eq-eqb, ne_eqb, lt-ltb, le-ltb, ltb-false}
 use Rattle.std.proofs.lemmas.Bool.Decides.{nat_tests}
 use Rattle.std.proofs.lemmas.List.{length-append}
-use Rattle.std.proofs.lemmas.Option.{slice_get_within, slice_get-map, none-some, same_Some}
+use Rattle.std.proofs.lemmas.Option.{slice_get_within, none-some}
 use Rattle.std.proofs.NetLemmas.Options.{cond_some}
 use Rattle.domain_map.specs.declared.order.Ranked.{Ranked}
 use Rattle.domain_map.specs.inside.Order.{Descends, Tells, times, IsOrder, ranked_in, lowered, without}

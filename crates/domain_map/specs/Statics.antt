@@ -1,6 +1,6 @@
 -- Labels of unlabelled traffic (netlabelctl(8), `unlbl add`): entries in order of insertion, each an interface, or the default
 -- one, and a prefix, with a low and a high label.
-use Rattle.std.specs.Prelude.{◌≡◌, ℕ, Bool, ◌&&◌, List, [], ◌∷◌, ◌++◌, length, Option, Some, None, Result, Ok, Err, option_map, is_some, nat_lt, filter, map, zip, remove, if◌then◌else◌}
+use Rattle.std.specs.Prelude.{◌≡◌, ℕ, ◌&&◌, List, [], ◌∷◌, ◌++◌, length, Option, Some, None, Result, Ok, Err, option_map, is_some, nat_lt, filter, map, zip, remove, if◌then◌else◌}
 use Rattle.std.specs.List.{list_any, position, range_with_len}
 use Rattle.mls_label.specs.declared.label.Label.{Label}
 use Rattle.address_text.specs.declared.address.Address.{Address}

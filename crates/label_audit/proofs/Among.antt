@@ -3,7 +3,7 @@ use Rattle.std.proofs.Common.{◌≡◌, ℕ, suc, List, ◌∷◌, Result, Ok, 
 use Rattle.std.specs.Prelude.{IsTrue, IsErrOf, Contains, OnOk}
 use Rattle.std.proofs.lemmas.Result.{on_ok_weaker}
 use Rattle.net_io.specs.Depot.{DepotState, OnlyReads}
-use Rattle.net_io.specs.Faults.{Rose, SameCounts}
+use Rattle.net_io.specs.Faults.{Rose}
 use Rattle.label_audit.specs.Reads.{OnlyReadsAmong}
 
 pub is_first : {X : Type 0} (x : X) (xs : List X) → Contains (x ∷ xs) x

@@ -1,5 +1,5 @@
 -- What an edition of the grammar keeps of an earlier one.
-use Rattle.std.proofs.Common.{◌≡◌, ℕ, ◌+◌, Bool, true, false, cond, not, List, [], ◌∷◌, length, Option, Some, None, Result, Ok, Err, ap, subst, ◌∙◌}
+use Rattle.std.proofs.Common.{◌≡◌, ℕ, ◌+◌, Bool, true, false, cond, not, List, [], ◌∷◌, length, Option, Some, None, Result, Ok, Err, ap, ◌∙◌}
 use Rattle.std.specs.Prelude.{codes, position}
 use Rattle.std.specs.Str.Lines.{lines}
 use Rattle.script_lines.specs.declared.stop.ScriptKind.TheVariants as Kind

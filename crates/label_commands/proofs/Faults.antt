@@ -1,11 +1,10 @@
 -- Faults stand within the text.
-use Rattle.std.proofs.Common.{◌≡◌, ℕ, suc, ◌+◌, ◌-◌, ◌≤◌, Bool, true, false, cond, not, List, [], ◌∷◌, ◌++◌, length, drop, max, fold, map, find, Option, Some, None, ok_or, Result, Ok, Err, refl, sym, ap, subst, ◌∙◌, arith, All, nat_eq}
+use Rattle.std.proofs.Common.{◌≡◌, ℕ, suc, ◌+◌, ◌-◌, ◌≤◌, Bool, true, false, cond, not, List, [], ◌∷◌, ◌++◌, length, drop, max, fold, map, find, Option, Some, None, ok_or, Result, Ok, Err, refl, ap, subst, ◌∙◌, arith, nat_eq}
 use Rattle.std.specs.Prelude.{codes, position}
 use Rattle.std.specs.List.{after_first, slice_get}
 use Rattle.std.proofs.lemmas.List.{length-append}
 use Rattle.std.proofs.lemmas.List.Elements.{All-head, All-tail, All-drop, All-weaker}
 use Rattle.std.proofs.lemmas.List.Quantifiers.{position-Some}
-use Rattle.script_lines.specs.declared.stop.ScriptKind.{ScriptKind}
 use Rattle.script_lines.specs.declared.stop.ScriptKind.TheVariants as Kind
 use Rattle.script_lines.specs.declared.stop.LimitName.{LimitName}
 use Rattle.script_lines.specs.declared.stop.LineFault.{LineFault}
@@ -20,7 +19,6 @@ use Rattle.node_readings.specs.declared.fault.ReadingFault.{ReadingFault}
 use Rattle.node_readings.specs.declared.fault.ReadingFault.TheVariants as Unread
 use Rattle.node_readings.specs.Reading.{NamedMeanings, reading_fault}
 use Rattle.script_lines.specs.declared.row.Row.{Row}
-use Rattle.script_lines.specs.declared.row.Row.TheVariants.{Reading}
 use Rattle.script_lines.specs.declared.parameter.Parameter.{Parameter}
 use Rattle.script_lines.specs.declared.form.Slot.{Slot}
 use Rattle.script_lines.specs.declared.fields.Fields.{Fields}
@@ -32,7 +30,6 @@ use Rattle.script_lines.specs.Command.{command_of}
 use Rattle.flow_lines.specs.Flow.{read_flow}
 use Rattle.flow_lines.proofs.Law.{faults_stand_in_the_line}
 use Rattle.label_commands.specs.declared.stop.ScriptFault.{ScriptFault}
-use Rattle.label_commands.specs.declared.stop.ScriptStop.{ScriptStop}
 use Rattle.label_commands.specs.declared.stop.ScriptStop.TheVariants as Stop
 use Rattle.label_commands.specs.Above.{Above, at_node, has_reading, with_step, with_reading, with_flow}
 use Rattle.label_commands.specs.Line.{is_word, alone, read_only_name, read_node, named_by, reading_stop, read_meanings, read_reading, is_reading, with_said, behind_tool, read_led, starts_table, read_table, read_flow_line, read_words, limit_passed, read_line}

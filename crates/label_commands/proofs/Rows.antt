@@ -1,13 +1,13 @@
 -- Worked rows: what scripts say, in which edition.
 use Rattle.std.specs.Prelude.{◌≡◌, ℕ, List, [], ◌∷◌, ◌++◌, length, map, flat_map, codes, decimal, Result, Ok, Err, refl}
-use Rattle.std.specs.List.{join_with_byte, range_with_len}
+use Rattle.std.specs.List.{range_with_len}
 use Rattle.std.specs.Fmt.{digits}
 use Rattle.std.specs.Net.Reader.{read_ipv4, read_octet, read_number, read_ipv6, read_segment, read_segments}
 use Rattle.std.specs.Net.Text.{hex_groups_text, hex}
 use Rattle.script_lines.specs.declared.stop.ScriptKind.{ScriptKind}
 use Rattle.script_lines.specs.declared.stop.ScriptKind.TheVariants.{Octet, Word, NoNode, Value, UnknownNode, HopOrder, NameTwice, Extra, Missing, ReadingTwice, NotIncreasing, NotDistinct}
 use Rattle.script_lines.specs.declared.stop.LimitName.{LimitName}
-use Rattle.script_lines.specs.declared.stop.LimitName.TheVariants.{Lines, Nodes, Flows, Hops}
+use Rattle.script_lines.specs.declared.stop.LimitName.TheVariants.{Nodes, Hops}
 use Rattle.address_text.specs.Address.{address_of_text}
 use Rattle.mls_range.specs.Computed.{terms_of_text, label_of_text, range_of_text}
 use Rattle.node_readings.specs.Reading.{NamedMeanings, is_increasing}

@@ -1,7 +1,6 @@
 -- A whole text and its lines.
-use Rattle.std.proofs.Common.{◌≡◌, ℕ, ◌≤◌, Bool, true, false, cond, List, length, Result, Ok, Err, refl, ap, ltb, arith}
+use Rattle.std.proofs.Common.{◌≡◌, ℕ, Bool, true, false, cond, List, length, Result, Ok, Err, refl, ap, ltb}
 use Rattle.std.specs.Str.Lines.{lines}
-use Rattle.std.proofs.lemmas.Bool.Decides.{nat_tests}
 use Rattle.script_lines.specs.declared.stop.LimitName.TheVariants.{Octets}
 use Rattle.script_lines.specs.Form.{Edition}
 use Rattle.label_commands.specs.declared.script.Script.{Script}

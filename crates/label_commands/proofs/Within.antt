@@ -1,5 +1,5 @@
 -- Faults that stand within a line.
-use Rattle.std.proofs.Common.{◌≡◌, ℕ, ◌≤◌, Bool, true, false, cond, List, [], ◌∷◌, Option, Some, None, ok_or, Result, Ok, Err, ap, arith, All}
+use Rattle.std.proofs.Common.{◌≡◌, ℕ, ◌≤◌, Bool, true, false, cond, List, Option, Some, None, ok_or, Result, Ok, Err, ap, arith, All}
 use Rattle.script_lines.specs.declared.stop.ScriptKind.{ScriptKind}
 use Rattle.script_lines.specs.declared.stop.LimitName.{LimitName}
 use Rattle.script_lines.specs.declared.stop.LineFault.{LineFault}

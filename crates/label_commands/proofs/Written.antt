@@ -1,5 +1,5 @@
 -- Written commands are steps, and a listing of them is lines of a script.
-use Rattle.std.proofs.Common.{◌≡◌, ℕ, ◌+◌, ◌≤◌, Bool, true, false, cond, not, ◌&&◌, List, [], ◌∷◌, ◌++◌, length, All, filter_map, Option, Some, None, ok_or, Result, Ok, Err, refl, sym, ap, ◌∙◌, codes, ltb, arith, append_assoc}
+use Rattle.std.proofs.Common.{◌≡◌, ℕ, ◌+◌, ◌≤◌, Bool, true, false, cond, not, List, [], ◌∷◌, ◌++◌, length, All, filter_map, Option, Some, None, Result, Ok, Err, refl, sym, ap, ◌∙◌, codes, ltb, arith, append_assoc}
 use Rattle.std.specs.Prelude.{position, fold, IsTrue}
 use Rattle.std.specs.List.{flat_map, position_or_len}
 use Rattle.std.specs.Str.{bytes_eq}
@@ -26,7 +26,7 @@ use Rattle.script_lines.specs.Value.{word_of}
 use Rattle.script_lines.specs.Said.{read_said}
 use Rattle.script_lines.specs.Command.{command_of, said_of, texts_of_said, command_text, IsCommand}
 use Rattle.label_commands.specs.Above.{Above, with_step}
-use Rattle.label_commands.specs.Line.{is_word, read_node, read_reading, is_reading, with_said, behind_tool, read_led, starts_table, read_table, read_flow_line, read_words, names_new_node, is_flow_line, limit_passed, read_line}
+use Rattle.label_commands.specs.Line.{is_word, is_reading, with_said, read_led, starts_table, read_words, names_new_node, limit_passed, read_line}
 use Rattle.label_commands.specs.Script.{read_lines}
 use Rattle.label_commands.proofs.Walk.{line_goes}
 

@@ -76,8 +76,8 @@ pub fn forwarding_takes_a_hop()
         → forward_of t from to domain p ≡ Ok f → f.packet.hops + 1 ≡ p.hops }
 {}
 
-/// A packet that was read and is forwarded may be written, within its room and its length, so it is read as itself
-/// (`written_packet_reads_back` in `packet_label`).
+/// A packet that was read and is forwarded may be written, within its room and its length. `written_packet_reads_back` in `packet_label`
+/// says which packets are then read as themselves.
 pub fn forwarded_packets_may_be_written()
     ensures { (t : TableState) (from to domain octets : List ℕ) (p : ParsedPacket Wire)
         (f : Forwarded)

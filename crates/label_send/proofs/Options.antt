@@ -1,20 +1,15 @@
 -- Which labels an option can say, and what goes out then.
-use Rattle.std.proofs.Common.{◌≡◌, ℕ, ◌<◌, ◌↔◌, Bool, true, false, List, [], ◌∷◌, Some, None, Ok, Err, IsTrue, cond, refl, sym, ap, subst, ◌∙◌, inl, inr}
+use Rattle.std.proofs.Common.{◌≡◌, ℕ, ◌↔◌, Bool, true, false, List, [], ◌∷◌, Some, Ok, Err, IsTrue, cond, refl, sym, ap, subst, ◌∙◌, inl, inr}
 use Rattle.std.specs.Prelude.{nat_eq, nat_le, if◌then◌else◌}
 use Rattle.std.specs.List.{list_all}
 use Rattle.std.proofs.lemmas.Option.{none-some, same_Some}
 use Rattle.std.proofs.lemmas.Bool.{eq-eqb, eqb-true, leb-true, le-leb, and_parts, and_from, or_cases, or_left, or_right, false≢true}
 use Rattle.mls_label.specs.declared.label.Label.{Label}
-use Rattle.mls_label.specs.declared.label.Proto.{Proto}
 use Rattle.mls_label.specs.declared.label.Proto.TheVariants as Of
 use Rattle.mls_label.specs.declared.label.Tag.{Tag}
 use Rattle.mls_label.specs.Cats.{has}
 use Rattle.cipso_tags.specs.Text.{fits, Fits, first_tag_of}
 use Rattle.calipso_option.specs.Text.{IsExpressible}
-use Rattle.doi_table.specs.declared.plan.DoiPlan.{DoiPlan}
-use Rattle.doi_table.specs.declared.unmapped.Unmapped.{Unmapped}
-use Rattle.doi_table.specs.Table.{Entries, definition_of}
-use Rattle.doi_table.specs.Translation.{wire_label}
 use Rattle.packet_label.specs.declared.packet.Wire.TheVariants as wire
 use Rattle.packet_label.specs.declared.denial.Denial.TheVariants.{Inexpressible}
 use Rattle.label_send.specs.Outgoing.{is_in_words, calipso_said}

@@ -77,8 +77,8 @@ pub fn outgoing_labels_can_be_said()
         → CanGoOut version (outgoing definitions protocol label) }
 {}
 
-/// A packet that is sent may be written, within its room and its length, so it is read as itself (`written_packet_reads_back` in
-/// `packet_label`), where its old values fit their fields and an option can say what goes out.
+/// A packet that is sent may be written, within its room and its length, where its old values fit their fields and an option can say what
+/// goes out. `written_packet_reads_back` in `packet_label` says which packets are then read as themselves.
 pub fn sent_packets_may_be_written()
     ensures packets { (definitions : Entries) (protocol : Protocol) (label : Label)
         (p new : ParsedPacket Wire) (hops : ℕ)

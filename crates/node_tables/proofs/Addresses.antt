@@ -1,5 +1,5 @@
 -- Addresses as keys.
-use Rattle.std.proofs.Common.{◌≡◌, Bool, refl, sym, ◌∙◌}
+use Rattle.std.proofs.Common.{◌≡◌, refl, sym, ◌∙◌}
 use Rattle.address_text.specs.declared.address.Address.{Address}
 use Rattle.address_text.specs.declared.address.Address.TheVariants.{V4, V6}
 use Rattle.std.proofs.lemmas.Cmp.{nat_list_eq_equiv}

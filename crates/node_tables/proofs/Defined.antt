@@ -1,6 +1,6 @@
 -- What a node's tables keep, as definitions and entries come and go.
-use Rattle.std.proofs.Common.{◌≡◌, ◌⊎◌, ℕ, ◌<◌, Bool, true, false, ◌&&◌, not, nat_eq, cond, List, [], ◌∷◌, ◌++◌, length, Option, Some, None, Result, Ok, Err, is_some, is_none, slice_get, refl, sym, ap, subst, ◌∙◌, arith, inl, inr}
-use Rattle.std.specs.Prelude.{IsSome, IsTrue}
+use Rattle.std.proofs.Common.{◌≡◌, ℕ, ◌<◌, Bool, true, false, not, nat_eq, cond, List, [], ◌∷◌, ◌++◌, Option, Some, None, Result, Ok, Err, is_some, is_none, slice_get, refl, sym, ap, subst, ◌∙◌, inl, inr}
+use Rattle.std.specs.Prelude.{IsSome}
 use Rattle.std.specs.List.{AllByRecursion}
 use Rattle.std.specs.Map.{lookup, remove_entry}
 use Rattle.std.proofs.lemmas.Bool.{cases_Bool, and_parts, eqb-true, eq-eqb, false≢true}
@@ -16,7 +16,7 @@ use Rattle.domain_map.specs.Protocol.{has_doi}
 use Rattle.domain_map.specs.Domains.{Domain, Domains, Line, added, deleted, lines_of, names_doi_of}
 use Rattle.node_tables.specs.declared.reply.Refusal.{Refusal}
 use Rattle.node_tables.specs.declared.reply.Refusal.TheVariants.{DoiUnknown, DoiInUse, MapUnknown}
-use Rattle.node_tables.specs.Refusal.{doi_refusal, map_refusal}
+use Rattle.node_tables.specs.Refusal.{doi_refusal}
 use Rattle.node_tables.specs.Change.{definition_added, definition_deleted, is_defined, refused_map, entry_added, or_refused, entry_deleted}
 use Rattle.node_tables.specs.Coherence.{NamesDefined, IsCoherent}
 use Rattle.octet_grammar.specs.declared.memory.OutOfMemory.{OutOfMemory}

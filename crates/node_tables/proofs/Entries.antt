@@ -1,5 +1,5 @@
 -- Entries of a table by their keys.
-use Rattle.std.proofs.Common.{◌≡◌, ℕ, zero, suc, ◌+◌, ◌<◌, ◌≤◌, Bool, true, false, cond, not, List, [], ◌∷◌, ◌++◌, length, Option, Some, None, Result, Ok, Err, is_some, take, slice_get, refl, sym, ap, subst, ◌∙◌, arith, one-add}
+use Rattle.std.proofs.Common.{◌≡◌, ℕ, zero, suc, ◌+◌, ◌<◌, Bool, true, false, cond, not, List, [], ◌∷◌, ◌++◌, length, Some, Ok, is_some, take, slice_get, refl, sym, ap, subst, ◌∙◌, arith, one-add}
 use Rattle.std.specs.Prelude.{if◌then◌else◌, nat_le, nat_lt, remove}
 use Rattle.std.specs.List.{AllByRecursion, AllZip, IsDistinct, position, position_or_len}
 use Rattle.std.specs.Map.{keys_of, lookup, remove_entry}
@@ -8,7 +8,6 @@ use Rattle.std.proofs.lemmas.Option.{cond_some}
 use Rattle.std.proofs.lemmas.List.Elements.{same_from_all_zip}
 use Rattle.indexmap.specs.IndexMap.{insert_entry}
 use Rattle.node_tables.specs.declared.reply.Refusal.{Refusal}
-use Rattle.node_tables.specs.declared.reply.Refusal.TheVariants.{TableFull}
 use Rattle.node_tables.specs.Change.{with_entry, without_entry}
 use Rattle.node_tables.proofs.Listings.{take_next}
 

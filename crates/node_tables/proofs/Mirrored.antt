@@ -1,9 +1,9 @@
 -- Pairs kept from both sides.
-use Rattle.std.proofs.Common.{◌≡◌, ℕ, zero, suc, ◌+◌, ◌<◌, ◌≤◌, Bool, true, false, ◌||◌, List, [], ◌∷◌, ◌++◌, length, Option, Some, None, Ok, is_some, IsSome, option_to_list, refl, sym, ap, ◌∙◌, arith}
-use Rattle.std.specs.Prelude.{if◌then◌else◌, nat_le, remove}
+use Rattle.std.proofs.Common.{◌≡◌, ℕ, zero, suc, ◌+◌, ◌<◌, true, false, ◌||◌, List, [], ◌∷◌, ◌++◌, length, Option, Some, None, Ok, is_some, IsSome, option_to_list, refl, sym, ap, ◌∙◌, arith}
+use Rattle.std.specs.Prelude.{nat_le, remove}
 use Rattle.std.specs.Map.{lookup}
 use Rattle.std.specs.Str.{bytes_eq}
-use Rattle.std.proofs.lemmas.Bool.{cond-true, cond-false, lt-leb, or_from, false≢true}
+use Rattle.std.proofs.lemmas.Bool.{cond-false, lt-leb, or_from, false≢true}
 use Rattle.std.proofs.lemmas.List.{map_push, length_push, same_from_push}
 use Rattle.indexmap.specs.IndexMap.{insert_entry}
 use Rattle.node_tables.specs.Tables.{AddressPairs, six_of, four_of, swapped}

@@ -1,9 +1,9 @@
 -- The DOIs that the entries of a map name, as entries come and go.
-use Rattle.std.proofs.Common.{◌≡◌, ◌⊎◌, ℕ, zero, suc, ◌+◌, Bool, true, false, ◌||◌, cond, List, [], ◌∷◌, ◌++◌, length, map, Option, Some, None, Result, Ok, Err, is_some, option_map, option_and_then, slice_get, refl, sym, ap, ap₂, subst, ◌∙◌, inl, inr}
+use Rattle.std.proofs.Common.{◌≡◌, ◌⊎◌, ℕ, zero, suc, ◌+◌, Bool, true, false, ◌||◌, cond, List, [], ◌∷◌, ◌++◌, length, map, Option, Some, None, Result, Ok, Err, is_some, option_map, option_and_then, slice_get, refl, sym, ap, ap₂, ◌∙◌, inl, inr}
 use Rattle.std.specs.Prelude.{nat_lt, nat_eq, ◌&&◌, find, if◌then◌else◌}
-use Rattle.std.specs.List.{list_any, flat_map}
+use Rattle.std.specs.List.{list_any}
 use Rattle.std.specs.Map.{lookup, remove_entry}
-use Rattle.std.proofs.lemmas.Bool.{or_cases, or_left, or_right, false≢true}
+use Rattle.std.proofs.lemmas.Bool.{or_cases, or_left, or_right}
 use Rattle.std.proofs.lemmas.List.Folds.{list_any-append}
 use Rattle.indexmap.specs.IndexMap.{insert_entry}
 use Rattle.mls_label.specs.declared.label.Proto.{Proto}

@@ -1,5 +1,5 @@
 -- What a command does at a node: it changes the tables, lists lines, or is refused.
-use Rattle.std.specs.Prelude.{ℕ, Bool, true, false, List, [], ◌∷◌, Option, Some, None, Result, Ok, Err, unwrap_or}
+use Rattle.std.specs.Prelude.{ℕ, true, false, List, [], ◌∷◌, Option, Some, None, Result, Ok, Err, unwrap_or}
 use Rattle.mls_label.specs.declared.label.Proto.{Proto}
 use Rattle.mls_label.specs.declared.label.Proto.TheVariants as Of
 use Rattle.mls_label.specs.declared.label.Tag.{Tag}

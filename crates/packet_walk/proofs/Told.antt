@@ -1,5 +1,5 @@
 -- A hop that denies a packet as Inexpressible has no option for its label, and a walk that ends so comes to such a hop.
-use Rattle.std.proofs.Common.{◌≡◌, ◌⊎◌, ℕ, ◌+◌, IsTrue, Bool, true, false, List, [], ◌∷◌, unwrap_or, All, MatchBool, Option, Some, None, Result, Ok, Err, inl, inr, refl, sym, ap, subst, ◌∙◌}
+use Rattle.std.proofs.Common.{◌≡◌, ◌⊎◌, ℕ, ◌+◌, IsTrue, Bool, true, false, List, [], ◌∷◌, unwrap_or, All, MatchBool, Option, None, Result, Ok, Err, inl, inr, refl, sym, ap, subst, ◌∙◌}
 use Rattle.std.proofs.lemmas.List.Elements.{All-head}
 use Rattle.octet_grammar.proofs.Elements.{All-place_or}
 use Rattle.ip_headers.specs.Packet.{ParsedPacket}

@@ -1,7 +1,7 @@
 -- The last word of a line, read from the left.
-use Rattle.std.proofs.Common.{◌≡◌, ◌⊎◌, inl, inr, ℕ, suc, ◌+◌, ◌*◌, ◌-◌, ◌/◌, ◌%◌, ◌^◌, ◌<◌, ◌≤◌, Bool, true, false, List, [], ◌∷◌, ◌++◌, length, take, drop, get_or, arith, refl, sym, ap, ◌∙◌, subst, append_assoc, append-nil, IsTrue, Some, None, Option}
-use Rattle.std.specs.Prelude.{All, map, fold, ◌&&◌, ◌||◌, ◌==◌, nat_lt, nat_le, if◌then◌else◌}
-use Rattle.std.specs.List.{join_with_byte, list_any}
+use Rattle.std.proofs.Common.{◌≡◌, ℕ, suc, ◌+◌, ◌*◌, ◌-◌, ◌/◌, ◌%◌, ◌^◌, ◌<◌, ◌≤◌, Bool, true, false, List, [], ◌∷◌, ◌++◌, length, take, drop, get_or, arith, refl, sym, ap, ◌∙◌, subst, append_assoc, append-nil, IsTrue, Some, None}
+use Rattle.std.specs.Prelude.{All, map, fold, ◌&&◌, ◌==◌, nat_lt, if◌then◌else◌}
+use Rattle.std.specs.List.{join_with_byte}
 use Rattle.std.specs.Fmt.{decimal}
 use Rattle.std.proofs.lemmas.List.Sums.{fold-append}
 use Rattle.std.proofs.lemmas.List.{length-append, length-drop, take-append-drop, drop-drop, drop-append-le}
@@ -16,8 +16,8 @@ use Rattle.call_report.specs.Lines.Flow.{versions_text}
 use Rattle.report_file.specs.Versions.{EndsWithVersions, AreVersions}
 use Rattle.report_file.specs.declared.word.Word.{Word}
 use Rattle.report_file.specs.declared.word.Word.TheVariants.{Other, Dash, Begun, Number}
-use Rattle.report_file.specs.inside.Word.{LastWord, is_digit, with_digit, begin_number, behind_number, behind_word, next_word, word_behind, versions_by, versions_of}
-use Rattle.report_file.proofs.Lines.{has_end, is_end, with_end, none_in_front, none_in_both, one_line}
+use Rattle.report_file.specs.inside.Word.{LastWord, is_digit, with_digit, behind_word, next_word, word_behind, versions_by, versions_of}
+use Rattle.report_file.proofs.Lines.{has_end, with_end, none_in_front, none_in_both, one_line}
 
 abbrev word_at : Word → List ℕ → LastWord
 word_at word versions = record { word = word; versions = versions }

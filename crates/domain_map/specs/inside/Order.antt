@@ -1,5 +1,5 @@
 -- The order by descending mask: which place of a list of prefixes comes first.
-use Rattle.std.specs.Prelude.{◌≡◌, ℕ, ◌+◌, ◌-◌, ◌<◌, ◌≤◌, Option, List, [], ◌∷◌, length, Some, slice_get, insert, map, filter, not, cond, nat_eq, nat_lt, if◌then◌else◌}
+use Rattle.std.specs.Prelude.{◌≡◌, ℕ, ◌+◌, ◌-◌, ◌<◌, ◌≤◌, List, [], ◌∷◌, length, Some, slice_get, insert, map, filter, not, cond, nat_eq, nat_lt, if◌then◌else◌}
 use Rattle.std.specs.List.{position_or_len}
 use Rattle.domain_map.specs.declared.order.Ranked.{Ranked}
 

@@ -1,5 +1,5 @@
 -- What the type of a node's tables keeps.
-use Rattle.std.specs.Prelude.{◌≡◌, ℕ, ◌<◌, true, List, length, IsTrue}
+use Rattle.std.specs.Prelude.{◌≡◌, ℕ, ◌<◌, true, length, IsTrue}
 use Rattle.std.specs.List.{AllByRecursion}
 use Rattle.mls_label.specs.declared.label.Proto.{Proto}
 use Rattle.mls_label.specs.declared.label.Proto.TheVariants as Of

@@ -1,4 +1,4 @@
-use Rattle.std.proofs.Common.{sym, ap, ◌∙◌, subst}
+use Rattle.std.proofs.Common.{sym, ◌∙◌, subst}
 use Rattle.std.specs.Net.Grammar.{IsDotted}
 use Rattle.address_text.specs.declared.address.Address.TheVariants.{V4, V6}
 use Rattle.address_text.proofs.Texts.{computed, none_computed, no_dotted_address, no_address}

@@ -1,4 +1,4 @@
-use Rattle.std.proofs.Common.{sym, ◌∙◌, ap, arith}
+use Rattle.std.proofs.Common.{sym, ◌∙◌, arith}
 use Rattle.address_text.proofs.Parts.{number_of_decimal, number_too_large, no_number}
 use Rattle.address_text.proofs.octets.read_number.Goals as goal
 

@@ -1,6 +1,5 @@
-use Rattle.std.proofs.Common.{ℕ, List, ◌∷◌, ◌++◌, ◌≡◌, take, flat_map, ap, ◌∙◌, append_assoc, Result, Ok, Err}
+use Rattle.std.proofs.Common.{ℕ, List, ◌++◌, ◌≡◌, ap, ◌∙◌, append_assoc, Result, Ok, Err}
 use Rattle.std.specs.Prelude.{OnErr}
-use Rattle.std.specs.Net.Text.{hex}
 use Rattle.address_text.specs.inside.Extends.{Extends}
 use Rattle.address_text.proofs.writing.append_groups.Goals as goal
 

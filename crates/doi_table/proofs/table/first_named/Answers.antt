@@ -1,4 +1,4 @@
-use Rattle.std.proofs.Common.{◌≡◌, ℕ, ◌∷◌, cond, Some, suc, sym, ap, ◌∙◌, drop, add-one}
+use Rattle.std.proofs.Common.{ℕ, ◌∷◌, cond, Some, suc, sym, ap, ◌∙◌, drop, add-one}
 use Rattle.std.proofs.Math.Seq.{drop-cons}
 use Rattle.std.proofs.lemmas.Option.{slice_get_within, get_or_from_slice_get}
 use Rattle.mls_label.specs.declared.label.Proto.{Proto}

@@ -1,4 +1,4 @@
-use Rattle.std.proofs.Common.{◌≡◌, sym, ap, ◌∙◌, arith, Some, option_map}
+use Rattle.std.proofs.Common.{sym, ap, ◌∙◌, arith, Some, option_map}
 use Rattle.std.proofs.lemmas.Option.{slice_get_within, get_or_from_slice_get}
 use Rattle.domain_map.proofs.Longests.{longest_none, longest_some}
 use Rattle.domain_map.proofs.address_list.find_in.Goals as goal

@@ -1,4 +1,4 @@
-use Rattle.std.proofs.Common.{◌+◌, sym, ap, ◌∙◌, length, take, arith, add-one}
+use Rattle.std.proofs.Common.{ap, length, take, arith, add-one}
 use Rattle.domain_map.specs.Domains.{lines_of}
 use Rattle.domain_map.proofs.Rules.{lines_step}
 use Rattle.domain_map.proofs.map.count_of.Goals as goal

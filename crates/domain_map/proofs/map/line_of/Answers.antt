@@ -1,4 +1,4 @@
-use Rattle.std.proofs.Common.{◌+◌, ◌-◌, ◌≤◌, suc, Some, sym, ap, ◌∙◌, length, drop, slice_get, arith, add-one}
+use Rattle.std.proofs.Common.{◌-◌, ◌≤◌, suc, Some, sym, ap, ◌∙◌, length, drop, slice_get, arith, add-one}
 use Rattle.domain_map.specs.Domains.{Domain, lines_of, rule_lines}
 use Rattle.domain_map.specs.declared.rule.Rule.{Rule}
 use Rattle.domain_map.proofs.Rules.{line_here, line_behind, lines_left}

@@ -1,4 +1,4 @@
-use Rattle.std.proofs.Common.{◌≡◌, true, cond, Some, suc, sym, ap, ◌∙◌, drop, add-one}
+use Rattle.std.proofs.Common.{true, cond, Some, suc, sym, ap, ◌∙◌, drop, add-one}
 use Rattle.std.specs.Map.{lookup}
 use Rattle.std.specs.Option.{option_copied}
 use Rattle.domain_map.specs.Domains.{same_domain}

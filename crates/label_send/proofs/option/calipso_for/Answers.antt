@@ -1,7 +1,6 @@
 use Rattle.std.proofs.Common.{sym, subst, ◌∙◌}
 use Rattle.mls_label.specs.Label.{IsLabel}
 use Rattle.packet_label.specs.declared.packet.Wire.TheVariants as wire
-use Rattle.label_send.specs.Outgoing.{calipso_said}
 use Rattle.label_send.proofs.Options.{in_words, not_in_words, calipso_goes, calipso_stays}
 use Rattle.label_send.proofs.option.calipso_for.Goals as goal
 

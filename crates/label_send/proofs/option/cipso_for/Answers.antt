@@ -4,7 +4,6 @@ use Rattle.packet_label.specs.declared.packet.Wire.TheVariants as wire
 use Rattle.label_send.specs.Outgoing.{cipso_with}
 use Rattle.label_send.proofs.Options.{tag_fits}
 use Rattle.label_send.proofs.option.cipso_for.Goals as goal
-use Rattle.label_send.proofs.option.cipso_for.Goals.{After-write_cipso}
 
 pub write_cipso-requires-clause-fits : goal.write_cipso-requires-clause-fits
 write_cipso-requires-clause-fits c = tag_fits c.tags.result.now c.numbers_of-wire.result.now c.in-Some-first_tag.tag (sym c.in-Some-first_tag.ensures)

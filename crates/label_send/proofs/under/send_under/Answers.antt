@@ -1,5 +1,5 @@
 use Rattle.std.proofs.Common.{None, refl, sym, subst}
-use Rattle.domain_map.specs.declared.protocol.Protocol.TheVariants.{Unlbl, Cipso, Calipso}
+use Rattle.domain_map.specs.declared.protocol.Protocol.TheVariants.{Unlbl, Calipso}
 use Rattle.ip_headers.specs.Written.{IsLabelOption}
 use Rattle.packet_label.specs.Packet.{version_of}
 use Rattle.label_send.specs.Outgoing.{outgoing}

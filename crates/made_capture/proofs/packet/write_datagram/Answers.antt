@@ -1,5 +1,4 @@
-use Rattle.std.proofs.Common.{◌<◌, ap, Err, ◌∙◌, arith}
-use Rattle.ip_headers.specs.Written.{rebuilt_room, rebuilt_length}
+use Rattle.std.proofs.Common.{ap, Err, ◌∙◌, arith}
 use Rattle.made_capture.proofs.Sizes.{room_is, length_is}
 use Rattle.made_capture.specs.Packet.{empty_datagram}
 use Rattle.made_capture.proofs.packet.write_datagram.Goals as goal

@@ -1,11 +1,10 @@
-use Rattle.std.proofs.Common.{arith, ◌≡◌, ◌≢◌, ◌∙◌, ◌+◌, ◌-◌, ◌≤◌, ◌<◌, ℕ, List, sym, ap, subst, take, drop, length, refl, Ok}
+use Rattle.std.proofs.Common.{arith, ◌≡◌, ◌≢◌, ◌∙◌, ◌-◌, ℕ, List, sym, ap, subst, take, drop, length, Ok}
 use Rattle.std.specs.Prelude.{slice_get}
-use Rattle.net_io.specs.Depot.{octets_of, OnlyReads}
+use Rattle.net_io.specs.Depot.{octets_of}
 use Rattle.net_io.specs.declared.fault.IoFault.TheVariants.{Failed}
 use Rattle.net_io.proofs.Law.{reads_go_on, reads_may_be_answered_otherwise}
 use Rattle.std.proofs.lemmas.Bool.{eqb-true, eqb-false}
-use Rattle.std.proofs.lemmas.List.{drop-drop, take_all, length-take}
-use Rattle.report_file.specs.Meeting.{lines_in}
+use Rattle.std.proofs.lemmas.List.{drop-drop}
 use Rattle.report_file.proofs.Meetings.{stands, more_alike, differs, rest_more}
 use Rattle.report_file.proofs.meeting.meet.Goals as goal
 

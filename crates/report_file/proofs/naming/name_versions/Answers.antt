@@ -1,10 +1,10 @@
-use Rattle.std.proofs.Common.{arith, ◌≡◌, ◌∙◌, ◌+◌, ◌-◌, ◌≤◌, ◌<◌, ℕ, Bool, List, sym, ap, subst, take, drop, length, refl, Ok, Some, None}
+use Rattle.std.proofs.Common.{arith, ◌∙◌, ◌+◌, ◌-◌, ℕ, Bool, sym, ap, subst, drop, length, Ok, Some, None}
 use Rattle.std.specs.Prelude.{if◌then◌else◌}
 use Rattle.net_io.specs.Depot.{octets_of}
 use Rattle.net_io.specs.declared.fault.IoFault.TheVariants.{Failed}
 use Rattle.net_io.proofs.Law.{reads_go_on, reads_may_be_answered_otherwise}
 use Rattle.file_window.specs.Window.{IsFrom}
-use Rattle.report_file.proofs.Words.{HasRead, IsAtEnd, read_turn, end_turn, line_names, line_named, no_line, told_by, nothing_left}
+use Rattle.report_file.proofs.Words.{read_turn, end_turn, line_names, line_named, told_by}
 use Rattle.report_file.proofs.naming.name_versions.Goals as goal
 
 pub returns-then-count-ahead-clause-named : goal.returns-then-count-ahead-clause-named

@@ -1,11 +1,7 @@
-use Rattle.std.proofs.Common.{◌≡◌, ◌≤◌, ◌<◌, ◌+◌, ◌-◌, ◌^◌, ℕ, [], false, IsTrue, length, take, drop, Ok}
-use Rattle.std.specs.Prelude.{◌==◌}
-use Rattle.std.specs.List.{list_any}
+use Rattle.std.proofs.Common.{◌≤◌, ◌<◌, ◌+◌, ◌-◌, ◌^◌, ℕ, IsTrue, length, drop, Ok}
 use Rattle.net_io.specs.Depot.{octets_of, OnlyReads}
 use Rattle.net_io.specs.declared.fault.IoFault.TheVariants.{Failed}
 use Rattle.file_window.specs.Window.{IsFrom}
-use Rattle.report_file.specs.declared.word.Word.TheVariants.{Other}
-use Rattle.report_file.specs.inside.Word.{word_behind}
 use Rattle.report_file.proofs.Words.{HasRead}
 use Rattle.report_file.proofs.naming.name_versions.Given as goal
 

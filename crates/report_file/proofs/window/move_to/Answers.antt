@@ -1,4 +1,4 @@
-use Rattle.std.proofs.Common.{arith, ◌≡◌, ◌+◌, ◌-◌, subst, sym, drop, ℕ}
+use Rattle.std.proofs.Common.{arith, ◌≡◌, ◌+◌, ◌-◌, subst, drop, ℕ}
 use Rattle.file_window.specs.Window.{IsFrom}
 use Rattle.file_window.proofs.Law.{a_window_goes_on_behind_octets}
 use Rattle.report_file.proofs.window.move_to.Goals as goal

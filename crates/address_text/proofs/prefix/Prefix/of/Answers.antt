@@ -1,4 +1,4 @@
-use Rattle.std.proofs.Common.{sym, subst}
+use Rattle.std.proofs.Common.{subst}
 use Rattle.address_text.specs.Address.{IsAddress}
 use Rattle.address_text.proofs.Masks.{is_block}
 use Rattle.address_text.proofs.prefix.Prefix.of.Goals as goal

@@ -1,6 +1,5 @@
-use Rattle.std.proofs.Common.{rules, arith}
+use Rattle.std.proofs.Common.{rules}
 use Rattle.std.specs.Fmt.{digits}
-use Rattle.std.proofs.lemmas.Grind.{common_steps}
 use Rattle.command_values.proofs.tags.TagListEntry.read.Goals as goal
 
 pub returns-then-is_word-clause-value : goal.returns-then-is_word-clause-value

@@ -1,4 +1,3 @@
-use Rattle.std.proofs.Common.{arith, ap}
 use Rattle.domain_map.proofs.Longests.{less_ranked}
 use Rattle.domain_map.proofs.address_list.AddressList.remove.Goals as goal
 

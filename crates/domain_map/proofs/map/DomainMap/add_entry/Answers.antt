@@ -1,4 +1,4 @@
-use Rattle.std.proofs.Common.{◌≡◌, ◌<◌, ◌≤◌, Ok, sym, ap, ◌∙◌, length, arith}
+use Rattle.std.proofs.Common.{◌<◌, ◌≤◌, Ok, sym, ap, ◌∙◌, length, arith}
 use Rattle.indexmap.specs.IndexMap.{insert_entry}
 use Rattle.domain_map.specs.Domains.{same_domain}
 use Rattle.domain_map.proofs.Rules.{new_full, new_added}

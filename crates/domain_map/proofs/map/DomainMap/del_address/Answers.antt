@@ -1,6 +1,5 @@
-use Rattle.std.proofs.Common.{◌≡◌, List, Some, sym, ap, ◌∙◌, subst, slice_get, remove, arith}
+use Rattle.std.proofs.Common.{◌≡◌, Some, sym, ap, ◌∙◌, subst, slice_get, remove, arith}
 use Rattle.std.specs.Map.{values_of}
-use Rattle.std.proofs.lemmas.List.Edits.{length-remove}
 use Rattle.indexmap.specs.IndexMap.{set_value_at}
 use Rattle.domain_map.specs.inside.Fewer.{LeavesOf}
 use Rattle.domain_map.proofs.Rules.{deleted_none, deleted_last, deleted_one, set-same, length-set}

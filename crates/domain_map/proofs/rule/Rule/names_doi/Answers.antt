@@ -1,7 +1,5 @@
-use Rattle.std.proofs.Common.{sym, ap, ◌∙◌, Some}
-use Rattle.std.specs.List.{list_any}
+use Rattle.std.proofs.Common.{sym, ◌∙◌, Some}
 use Rattle.domain_map.specs.Protocol.{has_doi}
-use Rattle.domain_map.specs.Domains.{rule_lines}
 use Rattle.domain_map.proofs.Lookups.{any-map}
 use Rattle.domain_map.proofs.rule.Rule.names_doi.Goals as goal
 

@@ -1,4 +1,4 @@
-use Rattle.std.proofs.Common.{◌≡◌, ◌<◌, Some, length, sym, ap, ◌∙◌}
+use Rattle.std.proofs.Common.{◌≡◌, Some, sym, ap, ◌∙◌}
 use Rattle.domain_map.specs.Statics.{static_place}
 use Rattle.domain_map.proofs.Lookups.{within}
 use Rattle.domain_map.proofs.Interfaces.{less_statics}

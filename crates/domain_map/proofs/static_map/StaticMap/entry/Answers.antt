@@ -1,6 +1,5 @@
-use Rattle.std.proofs.Common.{◌≡◌, Some, sym, ap, ◌∙◌, slice_get, subst, arith, length}
+use Rattle.std.proofs.Common.{◌≡◌, Some, ap, slice_get, arith, length}
 use Rattle.std.proofs.lemmas.Option.{slice_get_read}
-use Rattle.mls_label.specs.Label.{Dominates}
 use Rattle.domain_map.proofs.Interfaces.{ordered_at}
 use Rattle.domain_map.proofs.static_map.StaticMap.entry.Goals as goal
 

@@ -1,4 +1,4 @@
-use Rattle.std.proofs.Common.{◌≡◌, sym, ap, ◌∙◌, subst, arith, true, false, length, Result, Ok, Err}
+use Rattle.std.proofs.Common.{◌≡◌, sym, arith, true, false, length, Result, Ok, Err}
 use Rattle.std.specs.Prelude.{is_err, OnOk}
 use Rattle.std.proofs.lemmas.Bool.{true≢false}
 use Rattle.domain_map.proofs.Interfaces.{more_statics}

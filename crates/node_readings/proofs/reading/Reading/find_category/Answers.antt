@@ -1,4 +1,4 @@
-use Rattle.std.proofs.Common.{◌≡◌, ℕ, ◌<◌, Option, Some, None, sym, ap, subst, ◌∙◌, arith}
+use Rattle.std.proofs.Common.{◌≡◌, ◌<◌, Some, None, sym, ap, subst, ◌∙◌, arith}
 use Rattle.doi_table.specs.Pairs.{number_by, flipped}
 use Rattle.node_readings.specs.Reading.{NamedMeanings, meaning_in, IsReading}
 use Rattle.node_readings.proofs.Meanings.{by_meaning, by_itself}

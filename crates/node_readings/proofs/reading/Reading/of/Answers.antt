@@ -1,4 +1,4 @@
-use Rattle.std.proofs.Common.{◌∙◌, true, false, refl, sym, ap}
+use Rattle.std.proofs.Common.{◌∙◌, true, false, refl, sym}
 use Rattle.std.proofs.lemmas.Bool.{not-true, not-false}
 use Rattle.node_readings.specs.Reading.{is_distinct}
 use Rattle.node_readings.proofs.Starts.{is_kept, levels_read, not_increasing, increasing_or}

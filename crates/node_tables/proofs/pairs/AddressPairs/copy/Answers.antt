@@ -1,6 +1,6 @@
 use Rattle.std.proofs.Common.{◌≡◌, sym, ap, ◌∙◌}
 use Rattle.std.specs.List.{each_same}
-use Rattle.node_tables.specs.Tables.{AddressPairs, swapped}
+use Rattle.node_tables.specs.Tables.{swapped}
 use Rattle.node_tables.proofs.Entries.{same_from_clones}
 use Rattle.node_tables.proofs.pairs.AddressPairs.copy.Goals as goal
 

@@ -1,4 +1,4 @@
-use Rattle.std.proofs.Common.{◌≡◌, List, ℕ, Ok, subst}
+use Rattle.std.proofs.Common.{◌≡◌, Ok, subst}
 use Rattle.std.specs.Str.{bytes_eq}
 use Rattle.node_tables.specs.declared.reply.Refusal.TheVariants.{PairUnknown}
 use Rattle.node_tables.specs.Tables.{AddressPairs}

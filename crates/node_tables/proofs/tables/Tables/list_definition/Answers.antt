@@ -1,5 +1,4 @@
-use Rattle.std.proofs.Common.{◌≡◌, Some, sym, ap, ◌∙◌}
-use Rattle.doi_table.specs.Table.{definition_of}
+use Rattle.std.proofs.Common.{sym}
 use Rattle.node_tables.proofs.Defined.{given_of}
 use Rattle.node_tables.proofs.tables.Tables.list_definition.Goals as goal
 
