@@ -37,10 +37,20 @@ const ONE_HOP: &str = "in out receive:r,eth0";
 /// Three packets of the second batch are taken.
 const STOPPING: Supply = Supply {
     packets: 1030,
+    at_once: 1024,
     stops_at: 1027,
 };
 
+/// Two batches of two packets.
+const TWO_AND_TWO: Supply = Supply {
+    packets: 4,
+    at_once: 2,
+    stops_at: u64::MAX,
+};
+
 const LIMIT: u64 = 1_000_000_000;
+
+const TURNS_OF_A_LOOK: u64 = 20_000;
 
 /// So many packets, each with its number behind it. What became of them is counted.
 #[derive(Drop)]
@@ -48,6 +58,8 @@ struct Copies {
     alloc: Global,
     made: u64,
     last: u64,
+    /// How many come in a batch.
+    at_once: u64,
     due: u64,
     hops: usize,
     stop: Option<u8>,
@@ -110,7 +122,7 @@ impl Feed for Copies {
 
     fn fetch(&mut self, batch: &mut Vec<PacketIn>) -> Result<bool, u8> {
         let left = self.last.saturating_sub(self.made);
-        let count = left.min(1024) as usize;
+        let count = left.min(self.at_once).min(1024) as usize;
         if fill(self.alloc, batch, self.made, count).is_none() {
             self.stop = Some(1);
             self.due = 0;
@@ -228,6 +240,43 @@ impl Gate for Pair {
     fn after_step(&self, _version: u32) {}
 }
 
+// The step waits until the first worker's first look is surely over, and the second worker's first look for the step. Looks are counted.
+#[derive(Drop)]
+struct Apart {
+    looks: AtomicU64,
+    first: AtomicU64,
+    stepped: AtomicU64,
+    failed: AtomicU64,
+}
+
+impl Gate for Apart {
+    fn before_look(&self, _worker: u32, packet: u64, _hop: u32) {
+        self.looks.fetch_add(1, Ordering::SeqCst);
+        if packet == 1 {
+            self.first.store(1, Ordering::SeqCst);
+        }
+        if packet == 2 {
+            wait_for(&self.stepped, &self.failed);
+        }
+    }
+
+    fn before_step(&self, version: u32) {
+        if version == 4 {
+            wait_for(&self.first, &self.failed);
+            // Nothing tells that a look is over: it follows its call at once.
+            for _ in 0..TURNS_OF_A_LOOK {
+                yield_now();
+            }
+        }
+    }
+
+    fn after_step(&self, version: u32) {
+        if version == 4 {
+            self.stepped.store(1, Ordering::SeqCst);
+        }
+    }
+}
+
 fn flow_of(rt: &impl Abort, alloc: Global, line: &str) -> FlowLine
     ensures { All (λ hop. node_of hop < 1) result.hops }
 {
@@ -305,10 +354,11 @@ fn stepped<R: Wait + Abort>(rt: &R, publisher: Publisher, version: u32) -> Publi
     publisher
 }
 
-// So many packets, and where the feed stops, if it does.
+// So many packets, how many come in a batch, and where the feed stops, if it does.
 #[derive(Clone, Copy)]
 struct Supply {
     packets: u64,
+    at_once: u64,
     stops_at: u64,
 }
 
@@ -318,6 +368,7 @@ fn all(packets: u64) -> Supply
 {
     Supply {
         packets,
+        at_once: 1024,
         stops_at: u64::MAX,
     }
 }
@@ -344,6 +395,7 @@ fn run<G: Gate + Sync, R: Threads + Wait + Sync + Abort>(
         alloc,
         made: 0,
         last: supply.packets,
+        at_once: supply.at_once,
         due: 0,
         hops: flow.hops.hops().len(),
         stop: None,
@@ -406,6 +458,23 @@ fn the_second_handshake_passes(rt: HostRuntime) {
     let (feed, went) = run(&rt, rt.alloc(), 4, 2, TWO_HOPS, all(2), &gate);
     assert!(rt; went && gate.failed.load(Ordering::SeqCst) == 0);
     assert!(rt; feed.delivered == 2 && feed.versions.as_slice() == [4, 4, 4, 4].as_slice());
+}
+
+// The second batch is ordered from what each worker has seen itself, one of them version 3 and the other 4: so no packet is judged twice.
+#[test]
+fn each_worker_goes_on_from_what_it_saw(rt: HostRuntime) {
+    let gate = Apart {
+        looks: AtomicU64::new(0),
+        first: AtomicU64::new(0),
+        stepped: AtomicU64::new(0),
+        failed: AtomicU64::new(0),
+    };
+    let (feed, went) = run(&rt, rt.alloc(), 3, 2, ONE_HOP, TWO_AND_TWO, &gate);
+    assert!(rt; went && gate.failed.load(Ordering::SeqCst) == 0 && feed.delivered == 4);
+    assert!(rt; gate.looks.load(Ordering::SeqCst) == 4);
+    let versions = feed.versions.as_slice();
+    assert!(rt; versions.len() == 4 && versions[0] >= 3);
+    assert!(rt; versions[1] == 4 && versions[2] == 4 && versions[3] == 4);
 }
 
 // Three batches and three workers: each packet comes back once, in its place.

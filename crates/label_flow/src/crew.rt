@@ -1,14 +1,14 @@
 //! What the workers of a round do, and the one who leads them.
 
-ghost use Rattle.std.specs.Prelude.{◌≡◌, ◌<◌, ◌≤◌, length, OnOk};
+ghost use Rattle.std.specs.Prelude.{◌≡◌, ◌+◌, ◌*◌, ◌<◌, ◌≤◌, length, OnOk};
 ghost use Rattle.std.specs.Arc.{arc_value};
 ghost use Rattle.label_flow.specs.Round.{IsLater, AreLater};
-ghost use Rattle.label_flow.specs.inside.Work.{HasCrew};
-ghost use Rattle.label_flow.specs.inside.Crew.{IsServant, IsHere, IsShare, AreShared};
+ghost use Rattle.label_flow.specs.inside.Work.{HasCrew, part_at};
+ghost use Rattle.label_flow.specs.inside.Crew.{IsServant, IsHere, MayOrder, IsShare, AreShared, IsPart};
 
 use crate::agreed::{Agreed, Seen, Shift};
 use crate::bench::Bench;
-use crate::order::{Order, order_at};
+use crate::order::{Order, Share, judge, order_at};
 use crate::trays::Answer;
 use crate::work::{Batch, Part};
 use mls_label::OutOfMemory;
@@ -121,15 +121,16 @@ fn await_answer<A: Agreed, G: Gate, R: Wait>(
     unreachable!()
 }
 
-/// What became of a part, in the workers' order.
+/// What became of a part of a batch, in the workers' order.
 pub fn gather<A: Agreed, G: Gate, R: Wait>(
     shift: &Shift<'_, '_, '_, '_, A, R, G>,
+    batch: &Batch,
     part: Part,
     viewer: &mut Viewer,
     crew: &mut Crew<A>,
 ) -> Result<(), OutOfMemory>
     requires viewer { IsServant A.board A.plan A.hops shift.now.flow.now.hops viewer.old }
-    requires place { part.place < 8 }
+    requires part { IsPart A.left batch.now part }
     requires crew { HasCrew shift.now.flow.now.hops part.workers
         (length crew.old.benches.items) shift.now.trays.now crew.old.seens.items }
     ensures later { IsLater viewer.old viewer.new }
@@ -142,38 +143,46 @@ pub fn gather<A: Agreed, G: Gate, R: Wait>(
     while at < crew.seens.len() {
         let bench = &mut crew.benches[at];
         let seen = &mut crew.seens[at];
-        take_share(shift, part, at, viewer, &mut crew.room, bench, seen)?;
+        let share = Share {
+            number: at as u32,
+            batch,
+            place: part.place,
+        };
+        take_share(shift, share, viewer, &mut crew.room, bench, seen)?;
         at += 1;
     }
     Ok(())
 }
 
-// What became of one worker's packets. An answer to something else counts as memory that ran out.
+// What became of a worker's packets. An answer to something else is put aside: the one who leads then judges them itself.
 fn take_share<A: Agreed, G: Gate, R: Wait>(
     shift: &Shift<'_, '_, '_, '_, A, R, G>,
-    part: Part,
-    at: usize,
+    share: Share<'_>,
     viewer: &mut Viewer,
     room: &mut Option<WalkRoom>,
     bench: &mut Bench,
     seen: &mut Seen<A>,
 ) -> Result<(), OutOfMemory>
     requires viewer { IsServant A.board A.plan A.hops shift.now.flow.now.hops viewer.old }
-    requires few { at ≤ 16 }
-    requires tray { at < shift.now.trays.now }
-    requires place { part.place < 8 }
+    requires share { MayOrder A.left share.number share.batch.now share.place }
+    requires tray { share.number < shift.now.trays.now }
     ensures later { IsLater viewer.old viewer.new }
     ensures seen { IsLater seen.old seen.new }
-    ensures ok { OnOk result
-        (IsShare A.hops A.left at part.workers part.base part.count seen.old bench.new seen.new) }
+    ensures ok { OnOk result (IsShare A.hops A.left share.entry.number
+        share.entry.batch.now.workers (share.entry.batch.now.base + share.entry.place * 128)
+        (length (part_at share.entry.place share.entry.batch.now.packets.items))
+        seen.old bench.new seen.new) }
 {
-    let done = await_answer(shift, viewer, room, at, part.place)?;
-    if !done.answers(at as u32, part, seen) {
-        return Err(OutOfMemory);
+    let worker = share.number as usize;
+    let part = share.batch.part(share.place);
+    let done = await_answer(shift, viewer, room, worker, share.place)?;
+    if !done.answers(share.number, part, seen) {
+        *seen = judge(shift, share, seen, viewer, bench, room)?;
+        return Ok(());
     }
     let (made, to) = done.into_parts();
     let used = mem::replace(bench, made);
-    shift.trays.keep(shift.rt, at, part.place, used);
+    shift.trays.keep(shift.rt, worker, share.place, used);
     *seen = to;
     Ok(())
 }

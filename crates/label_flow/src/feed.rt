@@ -49,8 +49,8 @@ pub trait Feed {
         ensures took { (was : Self) (h : List PairState)
             → took was self.old h → took was self.new h };
 
-    /// May read packets that come later, while those that were fetched are judged: so that `fetch` finds them read. Nothing that is told
-    /// of the feed changes, and a fault that it meets is for `fetch` to answer.
+    /// May read packets that come later, while those that were fetched are judged, so that `fetch` finds them read. It may come to the
+    /// input's end; what is left, due or taken stays as it was, and a fault that it meets is for `fetch` to answer.
     fn read_ahead(&mut self)
         requires ready { ready self.old }
         ensures left { left self.new ≡ left self.old }

@@ -15,7 +15,15 @@ use shared_tables::Viewer;
 use std::marker::Model;
 use std::sync::Arc;
 
-/// A worker's packets of a part of a batch, of which none is to be judged below what was seen.
+/// A worker's packets of a part of a batch.
+#[derive(Clone, Copy)]
+pub struct Share<'b> {
+    pub number: u32,
+    pub batch: &'b Batch,
+    pub place: usize,
+}
+
+/// An order for a worker's packets of a part of a batch, of which none is to be judged below what was seen.
 #[derive(Drop)]
 pub struct Order<A: Agreed> {
     number: u32,
@@ -78,6 +86,35 @@ pub fn order_at<A: Agreed>(
     })
 }
 
+/// Judges a share, of which nothing is judged below what was seen; and what the viewer has seen after it.
+pub fn judge<A: Agreed, R, G: Gate>(
+    shift: &Shift<'_, '_, '_, '_, A, R, G>,
+    share: Share<'_>,
+    from: &Seen<A>,
+    viewer: &mut Viewer,
+    bench: &mut Bench,
+    room: &mut Option<WalkRoom>,
+) -> Result<Seen<A>, OutOfMemory>
+    requires share { MayOrder A.left share.number share.batch.now share.place }
+    requires viewer { IsServant A.board A.plan A.hops shift.now.flow.now.hops viewer.old }
+    ensures later { IsLater viewer.old viewer.new }
+    ensures share { IfOk result (λ to. IsShare A.hops A.left share.entry.number
+        share.entry.batch.now.workers (share.entry.batch.now.base + share.entry.place * 128)
+        (length (part_at share.entry.place share.entry.batch.now.packets.items))
+        from.now bench.new to) }
+{
+    from.teach(viewer);
+    let worker = Worker {
+        flow: shift.flow,
+        number: share.number,
+        gate: shift.gate,
+    };
+    let part = share.batch.part(share.place);
+    let packets = share.batch.packets_at(share.place);
+    work(&worker, part, packets, viewer, bench, room)?;
+    Ok(Seen::of(viewer))
+}
+
 impl<A: Agreed> Order<A> {
     /// Which part of its batch it is for.
     pub fn place(&self) -> usize
@@ -86,7 +123,7 @@ impl<A: Agreed> Order<A> {
         self.place
     }
 
-    // Judges the packets, of which none is judged below what was seen; and what the viewer has seen after them.
+    // Judges the packets.
     fn work<R, G: Gate>(
         &self,
         shift: &Shift<'_, '_, '_, '_, A, R, G>,
@@ -101,16 +138,12 @@ impl<A: Agreed> Order<A> {
             (length (part_at self.now.place self.now.batch.packets.items))
             self.now.from bench.new to) }
     {
-        self.from.teach(viewer);
-        let worker = Worker {
-            flow: shift.flow,
+        let share = Share {
             number: self.number,
-            gate: shift.gate,
+            batch: &self.batch,
+            place: self.place,
         };
-        let part = self.batch.part(self.place);
-        let packets = self.batch.packets_at(self.place);
-        work(&worker, part, packets, viewer, bench, room)?;
-        Ok(Seen::of(viewer))
+        judge(shift, share, &self.from, viewer, bench, room)
     }
 
     /// Judges the packets at this bench. Behind the answer stands the order for the worker's next packets of the batch, from what was seen then.

@@ -126,7 +126,7 @@ fn part_round<A: Agreed, Q: Feed, G: Gate, R: Wait>(
     requires inside { place * 128 < length batch.now.packets.items }
     requires crew { HasCrew shift.now.flow.now.hops batch.now.workers
         (length crew.old.benches.items) shift.now.trays.now crew.old.seens.items }
-    requires numbers { batch.now.base + length batch.now.packets.items < 2 ^ 63 }
+    requires here { IsHere A.left batch.now }
     requires hops { Q.hops feed.old ≡ length shift.now.flow.now.hops }
     requires due { length (part_at place batch.now.packets.items) ≤ Q.due feed.old }
     requires ready { Q.ready feed.old }
@@ -144,7 +144,7 @@ fn part_round<A: Agreed, Q: Feed, G: Gate, R: Wait>(
         crew.old.seens.items crew.new.seens.items }
 {
     let part = batch.part(place);
-    let Ok(()) = gather(shift, part, viewer, crew) else {
+    let Ok(()) = gather(shift, batch, part, viewer, crew) else {
         return Err(RoundStop::OutOfMemory);
     };
     let packets = batch.packets_at(place);
@@ -199,10 +199,39 @@ fn judge_batch<A: Agreed, Q: Feed, G: Gate, R: Wait>(
     Ok(())
 }
 
+// Packets are numbered in 64 bits. A round that has had so many fetches no more, as if memory ran out; a feed that counts its packets, as those
+// of `run` and `make` do, never comes to that.
 const MOST: u64 = 1 << 62;
 
-// The next packets in place of those that the batch has.
-fn fetch_next<Q: Feed>(batch: &mut Arc<Batch>, feed: &mut Q) -> Result<bool, RoundStop<Q::Stop>>
+// The next packets of a feed.
+fn fetch_into<Q: Feed>(
+    packets: &mut Vec<PacketIn>,
+    feed: &mut Q,
+) -> Result<bool, RoundStop<Q::Stop>>
+    requires due { Q.due feed.old ≡ 0 }
+    requires ready { Q.ready feed.old }
+    ensures ok { IfOk result (λ more. HasFetched (Q.left feed.old) more packets.new.items
+        (Q.left feed.new) (Q.due feed.new)) }
+    ensures ended { IfOk result (λ more. more ≡ false → Q.ended feed.new ≡ true) }
+    ensures stop { OnOk result (Q.stop feed.new ≡ Q.stop feed.old) }
+    ensures err { IfErr result (λ e. IsStop e (Q.stop feed.old) (Q.stop feed.new)) }
+    ensures ready { Q.ready feed.new }
+    ensures hops { Q.hops feed.new ≡ Q.hops feed.old }
+    ensures took { (was : Q) (h : List PairState)
+        → Q.took was feed.old h → Q.took was feed.new h }
+{
+    match feed.fetch(packets) {
+        Ok(more) => Ok(more),
+        Err(stop) => Err(RoundStop::Feed(stop)),
+    }
+}
+
+// The next packets in place of those that the batch has. Where somebody still shares that, they come in a batch of their own.
+fn fetch_next<Q: Feed>(
+    alloc: Global,
+    batch: &mut Arc<Batch>,
+    feed: &mut Q,
+) -> Result<bool, RoundStop<Q::Stop>>
     requires few { length (arc_value batch.old).packets.items ≤ 1024 }
     requires due { Q.due feed.old ≡ 0 }
     requires ready { Q.ready feed.old }
@@ -221,17 +250,30 @@ fn fetch_next<Q: Feed>(batch: &mut Arc<Batch>, feed: &mut Q) -> Result<bool, Rou
     ensures took { (was : Q) (h : List PairState)
         → Q.took was feed.old h → Q.took was feed.new h }
 {
-    let Some(batch) = Arc::get_mut(batch) else {
-        return Err(RoundStop::OutOfMemory);
-    };
     if batch.base >= MOST {
         return Err(RoundStop::OutOfMemory);
     }
-    batch.base += batch.packets.len() as u64;
-    match feed.fetch(&mut batch.packets) {
-        Ok(more) => Ok(more),
-        Err(stop) => Err(RoundStop::Feed(stop)),
+    let workers = batch.workers;
+    let base = batch.base + batch.packets.len() as u64;
+    if let Some(batch) = Arc::get_mut(batch) {
+        batch.base = base;
+        return fetch_into(&mut batch.packets, feed);
     }
+    let mut packets = Vec::new(alloc);
+    let more = match fetch_into(&mut packets, feed) {
+        Ok(more) => more,
+        Err(stop) => return Err(stop),
+    };
+    let next = Batch {
+        workers,
+        base,
+        packets,
+    };
+    let Ok(next) = Arc::new(alloc, next) else {
+        return Err(RoundStop::OutOfMemory);
+    };
+    *batch = next;
+    Ok(more)
 }
 
 // One batch: true if there was one.
@@ -270,7 +312,7 @@ fn batch_round<A: Agreed, Q: Feed, G: Gate, R: Wait>(
         × (length packets ≡ length (arc_value batch.new).packets.items)))
         crew.old.seens.items crew.new.seens.items }
 {
-    match fetch_next(batch, feed) {
+    match fetch_next(shift.alloc, batch, feed) {
         Ok(true) => match judge_batch(shift, batch, viewer, feed, crew) {
             Ok(()) => Ok(true),
             Err(stop) => Err(stop),

@@ -271,7 +271,7 @@ fn called(
     let place = FlowPlace {
         flow: &flow,
         number: 3,
-        most,
+        most: most.min(1_048_576),
         upto: 4,
         workers: 2,
         names: nodes.as_slice(),

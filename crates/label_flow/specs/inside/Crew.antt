@@ -10,7 +10,7 @@ use Rattle.label_flow.specs.declared.work.Part.{Part}
 use Rattle.label_flow.specs.Pair.{PairState}
 use Rattle.label_flow.specs.Feed.{AreFetched, IsOver, AreWhole}
 use Rattle.label_flow.specs.Round.{pick, IsWork, IsLater, AreLater}
-use Rattle.label_flow.specs.inside.Work.{HasNodes, HasViewers, AreWorks, AllFit, LeavesFeed, TakesRound}
+use Rattle.label_flow.specs.inside.Work.{part_at, HasNodes, HasViewers, AreWorks, AllFit, LeavesFeed, TakesRound}
 
 -- these packets stand at this number of what was left, as far as that is told
 abbrev pub IsTold : Option (List PacketIn) → ℕ → List PacketIn → Type 0
@@ -39,6 +39,15 @@ pub record MayOrder (left : Option (List PacketIn)) (number : ℕ) (batch : Batc
   pub few : place < 8
   pub inside : place * 128 < length batch.packets.items
   pub here : IsHere left batch
+
+-- the part at a place of a batch that may be ordered there
+pub record IsPart (left : Option (List PacketIn)) (batch : Batch) (part : Part) : Type 0 where
+  pub few : part.place < 8
+  pub inside : part.place * 128 < length batch.packets.items
+  pub here : IsHere left batch
+  pub workers : part.workers ≡ batch.workers
+  pub base : part.base ≡ batch.base + part.place * 128
+  pub count : part.count ≡ length (part_at part.place batch.packets.items)
 
 -- the same, judged, and what was seen then
 pub record DoneState : Type 0 where

@@ -44,7 +44,9 @@ loop-at-preserved g c =
     let b = c.args.part in
     let x = c.take_share.new.seen in
     let inside : at < length vs = omega (arith, c.loop-at-test.true, h.seens) in
-    let share : IsShare g.A.Agreed.hops g.A.Agreed.left at b.workers b.base b.count v c.take_share.new.bench x = search (c.in_ok-take_share.ensures.ok, rules) in
+    let here = c.requires.part in
+    let share : IsShare g.A.Agreed.hops g.A.Agreed.left at b.workers b.base b.count v c.take_share.new.bench x =
+    rw (here.workers, here.base, here.count) (search (c.in_ok-take_share.ensures.ok, rules)) in
     let later = c.take_share.ensures.later in
     record {
       viewer = record { board = later.board ∙ h.viewer.board; plan = later.plan ∙ h.viewer.plan; seen = le_trans h.viewer.seen later.seen };

@@ -16,7 +16,7 @@ returns-in_default-clause-took g c was hist took =
 pub hand_over-requires-clause-numbers : goal.hand_over-requires-clause-numbers
 hand_over-requires-clause-numbers g c κs within =
     let part = part_within c.args.place c.args.batch.now.packets.items (omega (arith, c.requires.inside)) in
-    omega (arith, c.part-part.ensures.base, ap length c.packets_at-packets.ensures, part, c.requires.numbers)
+    omega (arith, c.part-part.ensures.base, ap length c.packets_at-packets.ensures, part, c.requires.here.numbers)
 
 pub hand_over-requires-clause-room : goal.hand_over-requires-clause-room
 hand_over-requires-clause-room g c κs within =
