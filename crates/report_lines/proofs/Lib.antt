@@ -7,3 +7,4 @@ pub mod Law
 pub mod Written
 pub mod Packets
 pub mod Stops
+mod Fronts

@@ -1,6 +1,7 @@
--- The words of a line tell its form: how many there are, and the first, the fourth or the sixth of them.
+-- The words of a line tell its form: how many there are, and the first, the fourth, the sixth or the eleventh of them.
 use Rattle.std.proofs.Common.{◌≡◌, ◌∙◌, ℕ, zero, suc, ◌+◌, ◌<◌, Bool, true, false, not, List, [], ◌∷◌, length, get_or, codes, Option, Some, None, refl, sym, ap, arith}
 use Rattle.std.specs.Prelude.{◌==◌, ◌||◌, if◌then◌else◌}
+use Rattle.std.specs.Fmt.{digits}
 use Rattle.std.specs.List.{list_all}
 use Rattle.std.specs.Str.{bytes_eq}
 use Rattle.std.proofs.lemmas.Bool.{and_parts, cond-true, cond-false}
@@ -9,7 +10,7 @@ use Rattle.report_lines.specs.declared.form.Form.{Form}
 use Rattle.report_lines.specs.declared.form.Form.TheVariants as form
 use Rattle.report_lines.specs.declared.slot.Slot.{Slot}
 use Rattle.report_lines.specs.declared.slot.Slot.TheVariants as slot
-use Rattle.report_lines.specs.Slot.{may_stand, is_one_of, refusals}
+use Rattle.report_lines.specs.Slot.{may_stand, is_one_of, refusals, whole_number, is_versions}
 use Rattle.report_lines.specs.Form.{slots_of}
 use Rattle.report_lines.specs.Line.{misfit_of}
 
@@ -50,20 +51,20 @@ there (suc i) none before (slot ∷ slots) (word ∷ words) all within = there i
 
 -- ---- the form that words tell
 
-abbrev told_form : ℕ → List ℕ → List ℕ → List ℕ → Form
-told_form n first fourth sixth =
+abbrev told_form : ℕ → List ℕ → List ℕ → List ℕ → List ℕ → Form
+told_form n first fourth sixth eleventh =
     if n == 1 then form.Finished
     else (if n == 3 then (if bytes_eq first (codes "flow") then form.Flow else form.Limit)
     else (if n == 4 then (if bytes_eq fourth (codes "done") then form.Done else form.Refused)
     else (if n == 5 then (if bytes_eq first (codes "capture") then form.Capture else form.Listed)
     else (if n == 6 then (if bytes_eq first (codes "script") then form.Script else form.Sent)
     else (if n == 8 then (if bytes_eq first (codes "end") then form.End else form.Delivered)
-    else (if n == 11 then form.DeniedPlain
+    else (if n == 11 then (if bytes_eq eleventh (codes "-") then form.DeniedFrame else form.DeniedPlain)
     else (if n == 12 then form.DeniedCause
     else (if bytes_eq sixth (codes "octet") then form.DeniedOctet else form.DeniedCategory))))))))
 
 abbrev form_told : List (List ℕ) → Form
-form_told words = told_form (length words) (word_at 0 words) (word_at 3 words) (word_at 5 words)
+form_told words = told_form (length words) (word_at 0 words) (word_at 3 words) (word_at 5 words) (word_at 10 words)
 
 -- a text that is one text isn't another one
 other : (text own it : List ℕ) → bytes_eq text own ≡ true → bytes_eq own it ≡ false → bytes_eq text it ≡ false
@@ -82,14 +83,24 @@ none_of (name ∷ names) text it one all =
     not_true true h = absurd (cc)
     not_true false h = refl
 
+-- versions aren't `-`
+no_dash : (text : List ℕ) → is_versions text ≡ true → bytes_eq text (codes "-") ≡ false
+unfolding whole_number digits
+no_dash text is =
+    elim (bytes_eq text (codes "-")) as (λ b. bytes_eq text (codes "-") ≡ b → b ≡ false) [
+      | true ↦ λ same. absurd (let none : is_versions text ≡ false = ap is_versions ((bytes_eq-Decides text (codes "-")).0 same) in cc)
+      | false ↦ λ differs. refl
+    ] refl
+
 -- by the number of slots
-by_count : (form : Form) (words : List (List ℕ)) → Stand [] (slots_of form) words → form_told words ≡ told_form (length (slots_of form)) (word_at 0 words) (word_at 3 words) (word_at 5 words)
-by_count form words all = ap (λ n. told_form n (word_at 0 words) (word_at 3 words) (word_at 5 words)) (count [] (slots_of form) words all)
+by_count : (form : Form) (words : List (List ℕ)) → Stand [] (slots_of form) words → form_told words ≡ told_form (length (slots_of form)) (word_at 0 words) (word_at 3 words) (word_at 5 words) (word_at 10 words)
+by_count form words all = ap (λ n. told_form n (word_at 0 words) (word_at 3 words) (word_at 5 words) (word_at 10 words)) (count [] (slots_of form) words all)
 
 told : (f : Form) (words : List (List ℕ)) → Stand [] (slots_of f) words → form_told words ≡ f
 unfolding may_stand refusals
 told form.Finished words all = by_count form.Finished words all
-told form.DeniedPlain words all = by_count form.DeniedPlain words all
+told form.DeniedPlain words all = by_count form.DeniedPlain words all ∙ cond-false _ _ _ (no_dash (word_at 10 words) (there 10 slot.Place [] (slots_of form.DeniedPlain) words all (omega arith)).1)
+told form.DeniedFrame words all = by_count form.DeniedFrame words all ∙ cond-true _ _ _ (there 10 slot.Place [] (slots_of form.DeniedFrame) words all (omega arith)).1
 told form.DeniedCause words all = by_count form.DeniedCause words all
 told form.Flow words all = by_count form.Flow words all ∙ cond-true _ _ _ (there 0 slot.Place [] (slots_of form.Flow) words all (omega arith)).1
 told form.Limit words all = by_count form.Limit words all ∙ cond-false _ _ _ (other (word_at 0 words) (codes "limit") (codes "flow") (there 0 slot.Place [] (slots_of form.Limit) words all (omega arith)).1 refl)

@@ -1,16 +1,21 @@
 -- Lines of packets that are written, by their words.
-use Rattle.std.proofs.Common.{◌≡◌, ◌∙◌, ℕ, ◌<◌, ◌^◌, Bool, true, false, not, List, [], ◌∷◌, ◌++◌, map, codes, decimal, append_assoc, Some, None, refl, sym, ap, arith}
-use Rattle.std.specs.Prelude.{◌==◌, ◌||◌}
+use Rattle.std.proofs.Common.{◌≡◌, ◌≢◌, ◌∙◌, inl, inr, ℕ, ◌<◌, ◌^◌, true, not, List, [], ◌∷◌, ◌++◌, length, map, codes, decimal, append_assoc, Some, None, refl, sym, ap, subst, arith}
+use Rattle.std.specs.Prelude.{◌==◌, nat_le, IsTrue}
 use Rattle.std.specs.Fmt.{digits}
 use Rattle.std.specs.List.{list_all, join_with_byte, slice_split, before_first, after_first}
-use Rattle.std.proofs.lemmas.List.Elements.{All-head, All-tail}
+use Rattle.std.specs.Str.{bytes_eq}
+use Rattle.std.proofs.lemmas.Bool.{and_parts, leb-true}
+use Rattle.std.proofs.lemmas.List.Elements.{All-nil, All-head, All-tail}
 use Rattle.std.proofs.lemmas.List.Splits.{slice_split_none, slice_split_at}
+use Rattle.std.proofs.lemmas.Slice.Eq.{bytes_eq-Decides}
 use Rattle.ip_headers.specs.declared.cause.Cause.TheVariants as cause
 use Rattle.mls_label.specs.declared.label.Label.{Label}
 use Rattle.mls_range.specs.LabelText.{comma, dot, label_text}
 use Rattle.mls_range.specs.Computed.{label_of_text}
 use Rattle.mls_range.proofs.Law.{written_label_computes}
+use Rattle.command_values.specs.Doi.{is_doi}
 use Rattle.command_values.specs.Ranges.{IsMlsLabel}
+use Rattle.command_values.proofs.Law.{written_doi_reads_back}
 use Rattle.address_text.specs.declared.address.Address.{Address}
 use Rattle.address_text.specs.Address.{IsAddress, address_text, address_of_text}
 use Rattle.address_text.specs.Name.{is_name}
@@ -30,21 +35,17 @@ use Rattle.report_lines.specs.declared.form.Form.{Form}
 use Rattle.report_lines.specs.declared.form.Form.TheVariants as form
 use Rattle.report_lines.specs.declared.slot.Field.{Field}
 use Rattle.report_lines.specs.declared.slot.Field.TheVariants as field
-use Rattle.report_lines.specs.Slot.{may_stand, is_number, is_place, is_versions, is_carrier, is_one_of, is_pair_of, plain_denials, octet_denials, category_denials, cause_denials, causes}
+use Rattle.report_lines.specs.Slot.{may_stand, is_number, is_place, is_versions, is_carrier, is_one_of, is_pair_of, plain_denials, octet_denials, category_denials, cause_denials, frame_denials, causes}
 use Rattle.report_lines.specs.Form.{slots_of}
 use Rattle.report_lines.specs.Line.{misfit_of, AreWords}
 use Rattle.report_lines.specs.Told.{IsToldAs}
-use Rattle.report_lines.specs.Written.{denial_told, end_told, IsBoundedDenial, IsBoundedCarrier, IsBoundedEnd}
+use Rattle.report_lines.specs.Written.{denial_told, end_told, IsBoundedDenial, IsBoundedCarrier, IsFrameDenied, IsBoundedEnd}
 use Rattle.report_lines.proofs.Numbers.{a_number, digits_but}
 use Rattle.report_lines.proofs.Parts.{before_it, behind_it}
 use Rattle.report_lines.proofs.Blanks.{BlankFree, Small, fixed, number_word, name_word, label_word, with_number, place_word, numbers_word, address_word}
 use Rattle.report_lines.proofs.Written.{left_join, right_join, left_right, ended, Tell, by_words}
 
 -- ---- versions, and the place of a packet
-
-or_right : (x y : Bool) → y ≡ true → (x || y) ≡ true
-or_right true y is = refl
-or_right false y is = is
 
 numbers_are : (vs : List ℕ) → Small vs → list_all is_number (map decimal vs) ≡ true
 numbers_are [] small = refl
@@ -56,9 +57,9 @@ split_numbers v (w ∷ vs) small =
     slice_split_at (λ c. c == comma) (decimal v) comma (join_with_byte comma (map decimal (w ∷ vs))) (digits_but comma v (omega arith) (All-head (λ n. n < 2 ^ 64) v (w ∷ vs) small)) refl
     ∙ ap (λ ws. decimal v ∷ ws) (split_numbers w vs (All-tail (λ n. n < 2 ^ 64) v (w ∷ vs) small))
 
-versions_fit : (vs : List ℕ) → Small vs → is_versions (versions_text vs) ≡ true
-versions_fit [] small = refl
-versions_fit (v ∷ vs) small = or_right _ _ (ap (list_all is_number) (split_numbers v vs small) ∙ numbers_are (v ∷ vs) small)
+versions_fit : (vs : List ℕ) → 0 < length vs → Small vs → is_versions (versions_text vs) ≡ true
+versions_fit [] some small = absurd (omega (arith, some))
+versions_fit (v ∷ vs) some small = ap (list_all is_number) (split_numbers v vs small) ∙ numbers_are (v ∷ vs) small
 
 versions_word : (vs : List ℕ) → Small vs → BlankFree (versions_text vs)
 versions_word [] small = fixed (codes "-") refl
@@ -76,13 +77,16 @@ place_fits f n hf hn =
 
 carrier_fits : (c : Carrier) → IsBoundedCarrier c → is_carrier (carrier_text c) ≡ true
 carrier_fits Unlabelled told = refl
-carrier_fits (Cipso doi) told = rw (a_number doi (decimal doi) told refl) refl
-carrier_fits (Calipso doi) told = rw (a_number doi (decimal doi) told refl) refl
+carrier_fits (Cipso doi) told = rw (written_doi_reads_back doi told) refl
+carrier_fits (Calipso doi) told = rw (written_doi_reads_back doi told) refl
+
+small_doi : (doi : ℕ) → IsTrue (is_doi doi) → doi < 2 ^ 64
+small_doi doi told = omega (arith, leb-true doi 4294967295 (and_parts (nat_le 1 doi) (nat_le doi 4294967295) told).1)
 
 carrier_word : (c : Carrier) → IsBoundedCarrier c → BlankFree (carrier_text c)
 carrier_word Unlabelled told = fixed (codes "unlbl") refl
-carrier_word (Cipso doi) told = with_number (codes "cipsov4,") doi refl told
-carrier_word (Calipso doi) told = with_number (codes "calipso,") doi refl told
+carrier_word (Cipso doi) told = with_number (codes "cipsov4,") doi refl (small_doi doi told)
+carrier_word (Calipso doi) told = with_number (codes "calipso,") doi refl (small_doi doi told)
 
 -- ---- packets
 
@@ -108,18 +112,18 @@ module _ (f n : ℕ) (vs : List ℕ) (hf : f < 2 ^ 64) (hn : n < 2 ^ 64) (small 
       ap (λ t. codes "packet " ++ (decimal f ++ (46 ∷ (decimal n ++ (32 ∷ t))))) (spread rest)
       ∙ ap (λ t. codes "packet " ++ t) (sym (append_assoc (decimal f) (46 ∷ decimal n) (32 ∷ told rest)))
 
-  sent_fits : (c : Carrier) → IsBoundedCarrier c → misfit_of 0 [] (slots_of form.Sent) (codes "packet" ∷ place_text f n ∷ codes "sent" ∷ carrier_text c ∷ codes "versions" ∷ versions_text vs ∷ []) ≡ None
+  sent_fits : 0 < length vs → (c : Carrier) → IsBoundedCarrier c → misfit_of 0 [] (slots_of form.Sent) (codes "packet" ∷ place_text f n ∷ codes "sent" ∷ carrier_text c ∷ codes "versions" ∷ versions_text vs ∷ []) ≡ None
   unfolding may_stand
-  sent_fits c told = rw (place_fits f n hf hn, carrier_fits c told, versions_fit vs small) refl
+  sent_fits some c told = rw (place_fits f n hf hn, carrier_fits c told, versions_fit vs some small) refl
 
-  sent_written : (c : Carrier) → IsBoundedCarrier c
+  sent_written : 0 < length vs → (c : Carrier) → IsBoundedCarrier c
       → IsToldAs form.Sent (packet_told ((field.Became, codes "sent") ∷ (field.Carrier, carrier_text c) ∷ [])) (packet (codes "sent " ++ carrier_text c))
-  sent_written c told =
+  sent_written some c told =
       by_words form.Sent (codes "packet" ∷ place_text f n ∷ codes "sent" ∷ carrier_text c ∷ codes "versions" ∷ versions_text vs ∷ []) (codes "packet ") (decimal f)
       (codes "." ∷ decimal n ∷ codes " " ∷ (codes "sent " ++ carrier_text c) ∷ codes " versions " ∷ versions_text vs ∷ (10 ∷ []) ∷ []) (omega arith)
       (fixed (codes "packet") refl, (place_word f n hf hn, (fixed (codes "sent") refl, (carrier_word c told, (fixed (codes "versions") refl, (versions_word vs small, tt))))))
       (spread_packet (codes "sent " ++ carrier_text c) (λ r. codes "sent " ++ (carrier_text c ++ r)) (append_assoc (codes "sent ") (carrier_text c)))
-      (sent_fits c told) (flow_told, (number_told, (refl, (refl, (refl, tt)))))
+      (sent_fits some c told) (flow_told, (number_told, (refl, (refl, (refl, tt)))))
 
   -- ---- denied packets
 
@@ -154,65 +158,65 @@ module _ (f n : ℕ) (vs : List ℕ) (hf : f < 2 ^ 64) (hn : n < 2 ^ 64) (small 
         (spread_packet (denied detail) (λ r. codes "denied " ++ (decimal num ++ (32 ∷ (name ++ (detail ++ (codes " hop " ++ (decimal hop ++ (codes " node " ++ (node ++ r))))))))) (spread_denied detail) ∙ same)
         fit told
 
-    plain_written : is_pair_of plain_denials (decimal num) name ≡ true → IsToldAs form.DeniedPlain (denied_told []) (packet (denied []))
+    plain_written : 0 < length vs → is_pair_of plain_denials (decimal num) name ≡ true → IsToldAs form.DeniedPlain (denied_told []) (packet (denied []))
     unfolding may_stand
-    plain_written pair =
+    plain_written some pair =
         denied_by form.DeniedPlain [] last_words last_are refl
-        (rw (place_fits f n hf hn, a_number num (decimal num) hnum refl, pair, a_number hop (decimal hop) hhop refl, hnode, versions_fit vs small) refl)
+        (rw (place_fits f n hf hn, a_number num (decimal num) hnum refl, pair, a_number hop (decimal hop) hhop refl, hnode, versions_fit vs some small) refl)
         (flow_told, (number_told, (refl, (refl, (refl, (refl, (refl, (refl, tt))))))))
 
-    octet_written : (octet : ℕ) → octet < 2 ^ 64 → is_pair_of octet_denials (decimal num) name ≡ true → IsToldAs form.DeniedOctet (denied_told ((field.Octet, decimal octet) ∷ [])) (packet (denied (codes " octet " ++ decimal octet)))
+    octet_written : 0 < length vs → (octet : ℕ) → octet < 2 ^ 64 → is_pair_of octet_denials (decimal num) name ≡ true → IsToldAs form.DeniedOctet (denied_told ((field.Octet, decimal octet) ∷ [])) (packet (denied (codes " octet " ++ decimal octet)))
     unfolding may_stand
-    octet_written octet told pair =
+    octet_written some octet told pair =
         denied_by form.DeniedOctet (codes " octet " ++ decimal octet) (codes "octet" ∷ decimal octet ∷ last_words) (fixed (codes "octet") refl, (number_word octet told, last_are)) refl
-        (rw (place_fits f n hf hn, a_number num (decimal num) hnum refl, pair, a_number octet (decimal octet) told refl, a_number hop (decimal hop) hhop refl, hnode, versions_fit vs small) refl)
+        (rw (place_fits f n hf hn, a_number num (decimal num) hnum refl, pair, a_number octet (decimal octet) told refl, a_number hop (decimal hop) hhop refl, hnode, versions_fit vs some small) refl)
         (flow_told, (number_told, (refl, (refl, (refl, (refl, (refl, (refl, (refl, tt)))))))))
 
-    category_written : (category : ℕ) → category < 2 ^ 64 → is_pair_of category_denials (decimal num) name ≡ true → IsToldAs form.DeniedCategory (denied_told ((field.Category, decimal category) ∷ [])) (packet (denied (codes " category " ++ decimal category)))
+    category_written : 0 < length vs → (category : ℕ) → category < 2 ^ 64 → is_pair_of category_denials (decimal num) name ≡ true → IsToldAs form.DeniedCategory (denied_told ((field.Category, decimal category) ∷ [])) (packet (denied (codes " category " ++ decimal category)))
     unfolding may_stand
-    category_written category told pair =
+    category_written some category told pair =
         denied_by form.DeniedCategory (codes " category " ++ decimal category) (codes "category" ∷ decimal category ∷ last_words) (fixed (codes "category") refl, (number_word category told, last_are)) refl
-        (rw (place_fits f n hf hn, a_number num (decimal num) hnum refl, pair, a_number category (decimal category) told refl, a_number hop (decimal hop) hhop refl, hnode, versions_fit vs small) refl)
+        (rw (place_fits f n hf hn, a_number num (decimal num) hnum refl, pair, a_number category (decimal category) told refl, a_number hop (decimal hop) hhop refl, hnode, versions_fit vs some small) refl)
         (flow_told, (number_told, (refl, (refl, (refl, (refl, (refl, (refl, (refl, tt)))))))))
 
-    cause_written : (cause : List ℕ) → list_all (λ c. not (c == 32)) cause ≡ true → is_one_of causes cause ≡ true → is_pair_of cause_denials (decimal num) name ≡ true → IsToldAs form.DeniedCause (denied_told ((field.Cause, cause) ∷ [])) (packet (denied (codes " " ++ cause)))
+    cause_written : 0 < length vs → (cause : List ℕ) → list_all (λ c. not (c == 32)) cause ≡ true → is_one_of causes cause ≡ true → is_pair_of cause_denials (decimal num) name ≡ true → IsToldAs form.DeniedCause (denied_told ((field.Cause, cause) ∷ [])) (packet (denied (codes " " ++ cause)))
     unfolding may_stand
-    cause_written cause plain one pair =
+    cause_written some cause plain one pair =
         denied_by form.DeniedCause (codes " " ++ cause) (cause ∷ last_words) (fixed cause plain, last_are) refl
-        (rw (place_fits f n hf hn, a_number num (decimal num) hnum refl, pair, one, a_number hop (decimal hop) hhop refl, hnode, versions_fit vs small) refl)
+        (rw (place_fits f n hf hn, a_number num (decimal num) hnum refl, pair, one, a_number hop (decimal hop) hhop refl, hnode, versions_fit vs some small) refl)
         (flow_told, (number_told, (refl, (refl, (refl, (refl, (refl, (refl, (refl, tt)))))))))
 
-  denied_written : (why : Denial) (hop : ℕ) (node : List ℕ) → hop < 2 ^ 64 → IsBoundedDenial why → is_name node ≡ true
-      → IsToldAs (denial_told why).0 (packet_told ((field.Became, codes "denied") ∷ (field.Denial, decimal (number_of why)) ∷ (field.Name, name_of why)
-      ∷ (field.Hop, decimal hop) ∷ (field.Node, node) ∷ (denial_told why).1)) (packet (denial_text why ++ codes " hop " ++ decimal hop ++ codes " node " ++ node))
+  denied_written : 0 < length vs → (denial : Denial) → denial ≢ why.NotIp → (hop : ℕ) (node : List ℕ) → hop < 2 ^ 64 → IsBoundedDenial denial → is_name node ≡ true
+      → IsToldAs (denial_told denial).0 (packet_told ((field.Became, codes "denied") ∷ (field.Denial, decimal (number_of denial)) ∷ (field.Name, name_of denial)
+      ∷ (field.Hop, decimal hop) ∷ (field.Node, node) ∷ (denial_told denial).1)) (packet (denial_text denial ++ codes " hop " ++ decimal hop ++ codes " node " ++ node))
   unfolding denial_text plain_denials octet_denials category_denials cause_denials causes digits
-  denied_written (why.BadHeader octet) hop node hhop told hnode = octet_written 1 (codes "BadHeader") hop node (omega arith) refl hhop hnode octet told refl
-  denied_written (why.BadOption octet) hop node hhop told hnode = octet_written 2 (codes "BadOption") hop node (omega arith) refl hhop hnode octet told refl
-  denied_written (why.UnknownDoi octet) hop node hhop told hnode = octet_written 5 (codes "UnknownDoi") hop node (omega arith) refl hhop hnode octet told refl
-  denied_written (why.TagNotAllowed octet) hop node hhop told hnode = octet_written 6 (codes "TagNotAllowed") hop node (omega arith) refl hhop hnode octet told refl
-  denied_written (why.AlreadyLabelled octet) hop node hhop told hnode = octet_written 14 (codes "AlreadyLabelled") hop node (omega arith) refl hhop hnode octet told refl
-  denied_written (why.CategoryUnmapped category) hop node hhop told hnode = category_written 8 (codes "CategoryUnmapped") hop node (omega arith) refl hhop hnode category told refl
-  denied_written why.Unlabelled hop node hhop told hnode = plain_written 3 (codes "Unlabelled") hop node (omega arith) refl hhop hnode refl
-  denied_written why.NoStatic hop node hhop told hnode = plain_written 4 (codes "NoStatic") hop node (omega arith) refl hhop hnode refl
-  denied_written why.LevelUnmapped hop node hhop told hnode = plain_written 7 (codes "LevelUnmapped") hop node (omega arith) refl hhop hnode refl
-  denied_written why.OutsideRange hop node hhop told hnode = plain_written 9 (codes "OutsideRange") hop node (omega arith) refl hhop hnode refl
-  denied_written why.NoReceiver hop node hhop told hnode = plain_written 10 (codes "NoReceiver") hop node (omega arith) refl hhop hnode refl
-  denied_written why.MapRefuses hop node hhop told hnode = plain_written 11 (codes "MapRefuses") hop node (omega arith) refl hhop hnode refl
-  denied_written why.NotDominated hop node hhop told hnode = plain_written 12 (codes "NotDominated") hop node (omega arith) refl hhop hnode refl
-  denied_written why.NoMap hop node hhop told hnode = plain_written 13 (codes "NoMap") hop node (omega arith) refl hhop hnode refl
-  denied_written why.Inexpressible hop node hhop told hnode = plain_written 15 (codes "Inexpressible") hop node (omega arith) refl hhop hnode refl
-  denied_written why.NoRoom hop node hhop told hnode = plain_written 16 (codes "NoRoom") hop node (omega arith) refl hhop hnode refl
-  denied_written why.TooLong hop node hhop told hnode = plain_written 17 (codes "TooLong") hop node (omega arith) refl hhop hnode refl
-  denied_written why.Expired hop node hhop told hnode = plain_written 18 (codes "Expired") hop node (omega arith) refl hhop hnode refl
-  denied_written why.WrongVersion hop node hhop told hnode = plain_written 19 (codes "WrongVersion") hop node (omega arith) refl hhop hnode refl
-  denied_written why.NoPair hop node hhop told hnode = plain_written 20 (codes "NoPair") hop node (omega arith) refl hhop hnode refl
-  denied_written why.NotIp hop node hhop told hnode = plain_written 22 (codes "NotIp") hop node (omega arith) refl hhop hnode refl
-  denied_written why.BelowRange hop node hhop told hnode = plain_written 23 (codes "BelowRange") hop node (omega arith) refl hhop hnode refl
-  denied_written (why.NotCrossable cause.Protocol) hop node hhop told hnode = cause_written 21 (codes "NotCrossable") hop node (omega arith) refl hhop hnode (codes "Protocol") refl refl refl
-  denied_written (why.NotCrossable cause.Fragment) hop node hhop told hnode = cause_written 21 (codes "NotCrossable") hop node (omega arith) refl hhop hnode (codes "Fragment") refl refl refl
-  denied_written (why.NotCrossable cause.Options) hop node hhop told hnode = cause_written 21 (codes "NotCrossable") hop node (omega arith) refl hhop hnode (codes "Options") refl refl refl
-  denied_written (why.NotCrossable cause.Segment) hop node hhop told hnode = cause_written 21 (codes "NotCrossable") hop node (omega arith) refl hhop hnode (codes "Segment") refl refl refl
-  denied_written (why.NotCrossable cause.NoChecksum) hop node hhop told hnode = cause_written 21 (codes "NotCrossable") hop node (omega arith) refl hhop hnode (codes "NoChecksum") refl refl refl
+  denied_written some (why.BadHeader octet) other hop node hhop told hnode = octet_written 1 (codes "BadHeader") hop node (omega arith) refl hhop hnode some octet told refl
+  denied_written some (why.BadOption octet) other hop node hhop told hnode = octet_written 2 (codes "BadOption") hop node (omega arith) refl hhop hnode some octet told refl
+  denied_written some (why.UnknownDoi octet) other hop node hhop told hnode = octet_written 5 (codes "UnknownDoi") hop node (omega arith) refl hhop hnode some octet told refl
+  denied_written some (why.TagNotAllowed octet) other hop node hhop told hnode = octet_written 6 (codes "TagNotAllowed") hop node (omega arith) refl hhop hnode some octet told refl
+  denied_written some (why.AlreadyLabelled octet) other hop node hhop told hnode = octet_written 14 (codes "AlreadyLabelled") hop node (omega arith) refl hhop hnode some octet told refl
+  denied_written some (why.CategoryUnmapped category) other hop node hhop told hnode = category_written 8 (codes "CategoryUnmapped") hop node (omega arith) refl hhop hnode some category told refl
+  denied_written some why.Unlabelled other hop node hhop told hnode = plain_written 3 (codes "Unlabelled") hop node (omega arith) refl hhop hnode some refl
+  denied_written some why.NoStatic other hop node hhop told hnode = plain_written 4 (codes "NoStatic") hop node (omega arith) refl hhop hnode some refl
+  denied_written some why.LevelUnmapped other hop node hhop told hnode = plain_written 7 (codes "LevelUnmapped") hop node (omega arith) refl hhop hnode some refl
+  denied_written some why.OutsideRange other hop node hhop told hnode = plain_written 9 (codes "OutsideRange") hop node (omega arith) refl hhop hnode some refl
+  denied_written some why.NoReceiver other hop node hhop told hnode = plain_written 10 (codes "NoReceiver") hop node (omega arith) refl hhop hnode some refl
+  denied_written some why.MapRefuses other hop node hhop told hnode = plain_written 11 (codes "MapRefuses") hop node (omega arith) refl hhop hnode some refl
+  denied_written some why.NotDominated other hop node hhop told hnode = plain_written 12 (codes "NotDominated") hop node (omega arith) refl hhop hnode some refl
+  denied_written some why.NoMap other hop node hhop told hnode = plain_written 13 (codes "NoMap") hop node (omega arith) refl hhop hnode some refl
+  denied_written some why.Inexpressible other hop node hhop told hnode = plain_written 15 (codes "Inexpressible") hop node (omega arith) refl hhop hnode some refl
+  denied_written some why.NoRoom other hop node hhop told hnode = plain_written 16 (codes "NoRoom") hop node (omega arith) refl hhop hnode some refl
+  denied_written some why.TooLong other hop node hhop told hnode = plain_written 17 (codes "TooLong") hop node (omega arith) refl hhop hnode some refl
+  denied_written some why.Expired other hop node hhop told hnode = plain_written 18 (codes "Expired") hop node (omega arith) refl hhop hnode some refl
+  denied_written some why.WrongVersion other hop node hhop told hnode = plain_written 19 (codes "WrongVersion") hop node (omega arith) refl hhop hnode some refl
+  denied_written some why.NoPair other hop node hhop told hnode = plain_written 20 (codes "NoPair") hop node (omega arith) refl hhop hnode some refl
+  denied_written some why.NotIp other hop node hhop told hnode = absurd (other refl)
+  denied_written some why.BelowRange other hop node hhop told hnode = plain_written 23 (codes "BelowRange") hop node (omega arith) refl hhop hnode some refl
+  denied_written some (why.NotCrossable cause.Protocol) other hop node hhop told hnode = cause_written 21 (codes "NotCrossable") hop node (omega arith) refl hhop hnode some (codes "Protocol") refl refl refl
+  denied_written some (why.NotCrossable cause.Fragment) other hop node hhop told hnode = cause_written 21 (codes "NotCrossable") hop node (omega arith) refl hhop hnode some (codes "Fragment") refl refl refl
+  denied_written some (why.NotCrossable cause.Options) other hop node hhop told hnode = cause_written 21 (codes "NotCrossable") hop node (omega arith) refl hhop hnode some (codes "Options") refl refl refl
+  denied_written some (why.NotCrossable cause.Segment) other hop node hhop told hnode = cause_written 21 (codes "NotCrossable") hop node (omega arith) refl hhop hnode some (codes "Segment") refl refl refl
+  denied_written some (why.NotCrossable cause.NoChecksum) other hop node hhop told hnode = cause_written 21 (codes "NotCrossable") hop node (omega arith) refl hhop hnode some (codes "NoChecksum") refl refl refl
 
   -- ---- delivered packets
 
@@ -220,32 +224,60 @@ module _ (f n : ℕ) (vs : List ℕ) (hf : f < 2 ^ 64) (hn : n < 2 ^ 64) (small 
     label_reads : label_of_text (label_text label) ≡ Some label
     label_reads = written_label_computes label has.level has.cats has.few
 
+    label_same : bytes_eq (label_text label) (label_text label) ≡ true
+    label_same = (bytes_eq-Decides (label_text label) (label_text label)).1 refl
+
     address_reads : address_of_text (address_text receiver) ≡ Some receiver
     address_reads = address_texts_compute (address_text receiver) receiver (written_address_reads_back receiver is)
 
-    delivered_fits : misfit_of 0 [] (slots_of form.Delivered) (codes "packet" ∷ place_text f n ∷ codes "delivered" ∷ label_text label ∷ codes "to" ∷ address_text receiver ∷ codes "versions" ∷ versions_text vs ∷ []) ≡ None
+    delivered_fits : 0 < length vs → misfit_of 0 [] (slots_of form.Delivered) (codes "packet" ∷ place_text f n ∷ codes "delivered" ∷ label_text label ∷ codes "to" ∷ address_text receiver ∷ codes "versions" ∷ versions_text vs ∷ []) ≡ None
     unfolding may_stand
-    delivered_fits = rw (place_fits f n hf hn, label_reads, address_reads, versions_fit vs small) refl
+    delivered_fits some = rw (place_fits f n hf hn, label_reads, label_same, address_reads, versions_fit vs some small) refl
 
-    delivered_written : IsToldAs form.Delivered (packet_told ((field.Became, codes "delivered") ∷ (field.Label, label_text label) ∷ (field.Receiver, address_text receiver) ∷ []))
+    delivered_written : 0 < length vs → IsToldAs form.Delivered (packet_told ((field.Became, codes "delivered") ∷ (field.Label, label_text label) ∷ (field.Receiver, address_text receiver) ∷ []))
         (packet (codes "delivered " ++ label_text label ++ codes " to " ++ address_text receiver))
-    delivered_written =
+    delivered_written some =
         by_words form.Delivered (codes "packet" ∷ place_text f n ∷ codes "delivered" ∷ label_text label ∷ codes "to" ∷ address_text receiver ∷ codes "versions" ∷ versions_text vs ∷ []) (codes "packet ") (decimal f)
         (codes "." ∷ decimal n ∷ codes " " ∷ (codes "delivered " ++ label_text label ++ codes " to " ++ address_text receiver) ∷ codes " versions " ∷ versions_text vs ∷ (10 ∷ []) ∷ []) (omega arith)
         (fixed (codes "packet") refl, (place_word f n hf hn, (fixed (codes "delivered") refl, (label_word label has, (fixed (codes "to") refl, (address_word receiver is, (fixed (codes "versions") refl, (versions_word vs small, tt))))))))
         (spread_packet (codes "delivered " ++ label_text label ++ codes " to " ++ address_text receiver) (λ r. codes "delivered " ++ (label_text label ++ (codes " to " ++ (address_text receiver ++ r))))
         (λ r. left_right (codes "delivered ") (label_text label) (codes " to " ∷ address_text receiver ∷ r ∷ [])))
-        delivered_fits (flow_told, (number_told, (refl, (refl, (refl, (refl, tt))))))
+        (delivered_fits some) (flow_told, (number_told, (refl, (refl, (refl, (refl, tt))))))
 
-  end_written : (names : List (List ℕ)) (hops : List Hop) (end : End) → IsBoundedEnd names hops end
-      → IsToldAs (end_told names hops end).0 (packet_told (end_told names hops end).1) (packet (end_text names hops end))
+-- ---- how a walk ended
+
+module _ (f n : ℕ) (hf : f < 2 ^ 64) (hn : n < 2 ^ 64) (names : List (List ℕ)) (hops : List Hop) where
+  abbrev IsWritten : List ℕ → End → Type 0
+  IsWritten vs end =
+      IsToldAs (end_told names hops end).0 ((field.Flow, decimal f) ∷ (field.Number, decimal n) ∷ (field.Versions, versions_text vs) ∷ (end_told names hops end).1)
+      (left_join (codes "packet ") (decimal f ∷ codes "." ∷ decimal n ∷ codes " " ∷ end_text names hops end ∷ codes " versions " ∷ versions_text vs ∷ (10 ∷ []) ∷ []))
+
+  -- a frame that holds no packet
+  frame_written : IsWritten [] (Denied 0 why.NotIp)
+  unfolding denial_text may_stand frame_denials digits
+  frame_written =
+      denied_by f n [] hf hn (All-nil (λ v. v < 2 ^ 64)) 22 (codes "NotIp") 0 (codes "-") (omega arith) refl (omega arith) refl form.DeniedFrame []
+      (codes "hop" ∷ decimal 0 ∷ codes "node" ∷ codes "-" ∷ codes "versions" ∷ codes "-" ∷ [])
+      (fixed (codes "hop") refl, (number_word 0 (omega arith), (fixed (codes "node") refl, (fixed (codes "-") refl, (fixed (codes "versions") refl, (fixed (codes "-") refl, tt)))))) refl
+      (rw (place_fits f n hf hn, a_number 22 (decimal 22) (omega arith) refl) refl)
+      (flow_told f n [] hf hn (All-nil (λ v. v < 2 ^ 64)), (number_told f n [] hf hn (All-nil (λ v. v < 2 ^ 64)), (refl, (refl, (refl, (refl, (refl, (refl, tt))))))))
+
+  frame_ended : (vs : List ℕ) (hop : ℕ) (denial : Denial) → IsFrameDenied hop denial vs → IsWritten vs (Denied hop denial)
+  frame_ended vs hop denial told =
+      subst (λ (w : Denial). IsWritten vs (Denied hop w)) (sym told.0)
+      (subst (λ (h : ℕ). IsWritten vs (Denied h why.NotIp)) (sym told.1) (subst (λ (v : List ℕ). IsWritten v (Denied 0 why.NotIp)) (sym told.2) frame_written))
+
+  end_written : (vs : List ℕ) → Small vs → (end : End) → IsBoundedEnd names hops vs end → IsWritten vs end
   unfolding delivered_text
-  end_written names hops (Delivered label receiver) told = delivered_written label receiver told.0 told.1
-  end_written names hops (Sent carrier) told = sent_written carrier told
-  end_written names hops (Denied hop why) told = denied_written why hop (hop_node names hops hop) told.0 told.1 told.2
+  end_written vs small (Delivered label receiver) told = delivered_written f n vs hf hn small label receiver told.1 told.2 told.0
+  end_written vs small (Sent carrier) told = sent_written f n vs hf hn small told.0 carrier told.1
+  end_written vs small (Denied hop denial) told = elim told [
+    | inl frame ↦ frame_ended vs hop denial frame
+    | inr judged ↦ denied_written f n vs hf hn small judged.0 denial judged.1.0 hop (hop_node names hops hop) judged.1.1 judged.1.2 judged.1.3
+  ]
 
-pub packet_written : (flow number : ℕ) (names : List (List ℕ)) (hops : List Hop) (walked : Walked) → flow < 2 ^ 64 → number < 2 ^ 64 → Small walked.versions → IsBoundedEnd names hops walked.end
+pub packet_written : (flow number : ℕ) (names : List (List ℕ)) (hops : List Hop) (walked : Walked) → flow < 2 ^ 64 → number < 2 ^ 64 → Small walked.versions → IsBoundedEnd names hops walked.versions walked.end
     → IsToldAs (end_told names hops walked.end).0 ((field.Flow, decimal flow) ∷ (field.Number, decimal number) ∷ (field.Versions, versions_text walked.versions) ∷ (end_told names hops walked.end).1)
     (walked_line flow number names hops walked)
 unfolding walked_line
-packet_written flow number names hops walked hf hn small told = end_written flow number walked.versions hf hn small names hops walked.end told
+packet_written flow number names hops walked hf hn small told = end_written flow number hf hn names hops walked.versions small walked.end told

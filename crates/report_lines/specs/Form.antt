@@ -6,17 +6,22 @@ use Rattle.report_lines.specs.declared.slot.Field.TheVariants as name
 use Rattle.report_lines.specs.declared.slot.Fixed.TheVariants as word
 use Rattle.report_lines.specs.declared.slot.Kind.TheVariants as of
 use Rattle.report_lines.specs.declared.slot.Slot.{Slot}
-use Rattle.report_lines.specs.declared.slot.Slot.TheVariants.{Fixed, Tag, Number, Text, Place, Versions}
+use Rattle.report_lines.specs.declared.slot.Slot.TheVariants.{Fixed, Tag, Number, Zero, Text, Place, Versions, NoVersions}
 
 -- the forms, in the order in which they are tried
 abbrev pub forms : List Form
-forms = form.Delivered ∷ form.Sent ∷ form.DeniedPlain ∷ form.DeniedOctet ∷ form.DeniedCategory ∷ form.DeniedCause ∷ form.Done ∷ form.Refused ∷ form.Listed ∷ form.Flow ∷ form.End
+forms = form.Delivered ∷ form.Sent ∷ form.DeniedPlain ∷ form.DeniedOctet ∷ form.DeniedCategory ∷ form.DeniedCause ∷ form.DeniedFrame ∷ form.Done ∷ form.Refused ∷ form.Listed ∷ form.Flow ∷ form.End
     ∷ form.Capture ∷ form.Limit ∷ form.Script ∷ form.Finished ∷ []
 
 -- a denial by its kind, what is told of it, and where it was judged
 abbrev pub denied_slots : List Slot → List Slot
 denied_slots told = Fixed word.Packet ∷ Place ∷ Tag name.Became word.Denied ∷ Number name.Denial ∷ told
     ++ Fixed word.Hop ∷ Number name.Hop ∷ Fixed word.Node ∷ Text name.Node of.Node ∷ Fixed word.Versions ∷ Versions ∷ []
+
+-- a frame that holds no packet: no hop judges it, and no tables do
+abbrev pub frame_slots : List Slot
+frame_slots = Fixed word.Packet ∷ Place ∷ Tag name.Became word.Denied ∷ Number name.Denial ∷ Text name.Name of.FrameDenial
+    ∷ Fixed word.Hop ∷ Zero name.Hop ∷ Fixed word.Node ∷ Tag name.Node word.Nobody ∷ Fixed word.Versions ∷ NoVersions ∷ []
 
 -- how a reply to a command begins
 abbrev pub reply_slots : List Slot → List Slot
@@ -29,6 +34,7 @@ slots_of form.DeniedPlain = denied_slots (Text name.Name of.PlainDenial ∷ [])
 slots_of form.DeniedOctet = denied_slots (Text name.Name of.OctetDenial ∷ Fixed word.Octet ∷ Number name.Octet ∷ [])
 slots_of form.DeniedCategory = denied_slots (Text name.Name of.CategoryDenial ∷ Fixed word.Category ∷ Number name.Category ∷ [])
 slots_of form.DeniedCause = denied_slots (Text name.Name of.CauseDenial ∷ Text name.Cause of.Cause ∷ [])
+slots_of form.DeniedFrame = frame_slots
 slots_of form.Done = reply_slots (Tag name.Answer word.Done ∷ [])
 slots_of form.Refused = reply_slots (Text name.Answer of.Refusal ∷ [])
 slots_of form.Listed = reply_slots (Tag name.Answer word.Listed ∷ Number name.Lines ∷ [])
@@ -47,6 +53,7 @@ form_name form.DeniedPlain = codes "packet"
 form_name form.DeniedOctet = codes "packet"
 form_name form.DeniedCategory = codes "packet"
 form_name form.DeniedCause = codes "packet"
+form_name form.DeniedFrame = codes "packet"
 form_name form.Done = codes "command"
 form_name form.Refused = codes "command"
 form_name form.Listed = codes "command"

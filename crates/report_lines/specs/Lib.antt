@@ -3,3 +3,4 @@ pub mod Form
 pub mod Line
 pub mod Told
 pub mod Written
+pub mod inside

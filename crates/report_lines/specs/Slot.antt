@@ -1,13 +1,15 @@
 -- What stands at a place of a line.
-use Rattle.std.specs.Prelude.{ℕ, Bool, ◌&&◌, ◌||◌, ◌==◌, List, [], ◌∷◌, codes, Option, is_some}
+use Rattle.std.specs.Prelude.{ℕ, Bool, false, ◌&&◌, ◌||◌, ◌==◌, List, [], ◌∷◌, codes, Option, Some, None, is_some}
 use Rattle.std.specs.Str.{bytes_eq}
 use Rattle.std.specs.List.{list_all, list_any, slice_split, before_first, after_first}
 use Rattle.address_text.specs.Address.{address_of_text}
 use Rattle.address_text.specs.Name.{is_name}
 use Rattle.address_text.specs.Number.{number_of_text}
 use Rattle.flow_lines.specs.FileName.{is_file_name}
-use Rattle.mls_range.specs.LabelText.{comma, dot}
+use Rattle.mls_label.specs.declared.label.Label.{Label}
+use Rattle.mls_range.specs.LabelText.{comma, dot, label_text}
 use Rattle.mls_range.specs.Computed.{label_of_text}
+use Rattle.command_values.specs.Doi.{doi_of_text}
 use Rattle.report_lines.specs.declared.slot.Field.{Field}
 use Rattle.report_lines.specs.declared.slot.Field.TheVariants as name
 use Rattle.report_lines.specs.declared.slot.Fixed.{Fixed}
@@ -98,6 +100,7 @@ fixed_text word.Capture = codes "capture"
 fixed_text word.Script = codes "script"
 fixed_text word.Line = codes "line"
 fixed_text word.Limit = codes "limit"
+fixed_text word.Nobody = codes "-"
 
 -- the number below 2^64 of a decimal text, without a leading zero
 unfoldable pub whole_number : List ℕ → Option ℕ
@@ -110,15 +113,24 @@ is_number text = is_some (whole_number text)
 abbrev pub is_place : List ℕ → Bool
 is_place text = is_number (before_first (λ c. c == dot) text) && is_number (after_first (λ c. c == dot) text)
 
--- numbers with commas between, or `-`
+-- numbers with commas between
 abbrev pub is_versions : List ℕ → Bool
-is_versions text = bytes_eq text (codes "-") || list_all is_number (slice_split (λ c. c == comma) text)
+is_versions text = list_all is_number (slice_split (λ c. c == comma) text)
+
+-- the one written form of this label, where there is one
+abbrev pub is_written_as : List ℕ → Option Label → Bool
+is_written_as text None = false
+is_written_as text (Some label) = bytes_eq text (label_text label)
+
+-- a label in its one written form
+abbrev pub is_written_label : List ℕ → Bool
+is_written_label text = is_written_as text (label_of_text text)
 
 -- nothing, or a protocol with its DOI
 abbrev pub is_carrier : List ℕ → Bool
 is_carrier text = bytes_eq text (codes "unlbl")
     || ((bytes_eq (before_first (λ c. c == comma) text) (codes "cipsov4") || bytes_eq (before_first (λ c. c == comma) text) (codes "calipso"))
-    && is_number (after_first (λ c. c == comma) text))
+    && is_some (doi_of_text (after_first (λ c. c == comma) text)))
 
 -- one of these
 abbrev pub is_one_of : List (List ℕ) → List ℕ → Bool
@@ -138,9 +150,9 @@ refusals = codes "DoiExists" ∷ codes "DoiUnknown" ∷ codes "DoiInUse" ∷ cod
     ∷ codes "MapHasAddresses" ∷ codes "StaticExists" ∷ codes "StaticUnknown" ∷ codes "ReceiverExists" ∷ codes "ReceiverUnknown" ∷ codes "RangeExists" ∷ codes "RangeUnknown"
     ∷ codes "PairExists" ∷ codes "PairUnknown" ∷ codes "TableFull" ∷ []
 
--- why a packet is denied, by number and name: where no more is told, an octet, a category, a cause
+-- why a packet is denied, by number and name: where no more is told, an octet, a category, a cause; and why a frame is
 unfoldable pub plain_denials : List (List ℕ)
-plain_denials = codes "3 Unlabelled" ∷ codes "4 NoStatic" ∷ codes "7 LevelUnmapped" ∷ codes "9 OutsideRange" ∷ codes "10 NoReceiver" ∷ codes "11 MapRefuses" ∷ codes "12 NotDominated" ∷ codes "13 NoMap" ∷ codes "15 Inexpressible" ∷ codes "16 NoRoom" ∷ codes "17 TooLong" ∷ codes "18 Expired" ∷ codes "19 WrongVersion" ∷ codes "20 NoPair" ∷ codes "22 NotIp" ∷ codes "23 BelowRange" ∷ []
+plain_denials = codes "3 Unlabelled" ∷ codes "4 NoStatic" ∷ codes "7 LevelUnmapped" ∷ codes "9 OutsideRange" ∷ codes "10 NoReceiver" ∷ codes "11 MapRefuses" ∷ codes "12 NotDominated" ∷ codes "13 NoMap" ∷ codes "15 Inexpressible" ∷ codes "16 NoRoom" ∷ codes "17 TooLong" ∷ codes "18 Expired" ∷ codes "19 WrongVersion" ∷ codes "20 NoPair" ∷ codes "23 BelowRange" ∷ []
 
 unfoldable pub octet_denials : List (List ℕ)
 octet_denials = codes "1 BadHeader" ∷ codes "2 BadOption" ∷ codes "5 UnknownDoi" ∷ codes "6 TagNotAllowed" ∷ codes "14 AlreadyLabelled" ∷ []
@@ -150,6 +162,9 @@ category_denials = codes "8 CategoryUnmapped" ∷ []
 
 unfoldable pub cause_denials : List (List ℕ)
 cause_denials = codes "21 NotCrossable" ∷ []
+
+unfoldable pub frame_denials : List (List ℕ)
+frame_denials = codes "22 NotIp" ∷ []
 
 -- why a packet can't cross to the other version
 unfoldable pub causes : List (List ℕ)
@@ -173,7 +188,7 @@ limits = codes "octets" ∷ codes "lines" ∷ codes "nodes" ∷ codes "flows" �
 abbrev pub is_of : Kind → List ℕ → List ℕ → Bool
 is_of of.Node before text = is_name text
 is_of of.Input before text = is_file_name text
-is_of of.Label before text = is_some (label_of_text text)
+is_of of.Label before text = is_written_label text
 is_of of.Address before text = is_some (address_of_text text)
 is_of of.Carrier before text = is_carrier text
 is_of of.Refusal before text = is_one_of refusals text
@@ -181,6 +196,7 @@ is_of of.PlainDenial before text = is_pair_of plain_denials before text
 is_of of.OctetDenial before text = is_pair_of octet_denials before text
 is_of of.CategoryDenial before text = is_pair_of category_denials before text
 is_of of.CauseDenial before text = is_pair_of cause_denials before text
+is_of of.FrameDenial before text = is_pair_of frame_denials before text
 is_of of.Cause before text = is_one_of causes text
 is_of of.CaptureFault before text = is_one_of capture_faults text
 is_of of.ScriptFault before text = is_one_of script_faults text
@@ -191,6 +207,8 @@ unfoldable pub may_stand : Slot → List ℕ → List ℕ → Bool
 may_stand (slot.Fixed text) before found = bytes_eq found (fixed_text text)
 may_stand (slot.Tag field text) before found = bytes_eq found (fixed_text text)
 may_stand (slot.Number field) before found = is_number found
+may_stand (slot.Zero field) before found = bytes_eq found (codes "0")
 may_stand (slot.Text field kind) before found = is_of kind before found
 may_stand slot.Place before found = is_place found
 may_stand slot.Versions before found = is_versions found
+may_stand slot.NoVersions before found = bytes_eq found (codes "-")

@@ -20,9 +20,11 @@ abbrev pub tells : Slot → Field → Bool
 tells (slot.Fixed text) field = false
 tells (slot.Tag own text) field = is_field own field
 tells (slot.Number own) field = is_field own field
+tells (slot.Zero own) field = is_field own field
 tells (slot.Text own kind) field = is_field own field
 tells slot.Place field = is_field name.Flow field || is_field name.Number field
 tells slot.Versions field = is_field name.Versions field
+tells slot.NoVersions field = is_field name.Versions field
 
 -- the part of the word that does
 abbrev pub part_of : Slot → Field → List ℕ → List ℕ

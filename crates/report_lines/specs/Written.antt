@@ -1,14 +1,15 @@
 -- What is written of a packet: the form of its line and what it tells, by how its walk ended, and the bounds of that.
-use Rattle.std.specs.Prelude.{ℕ, ◌<◌, ◌^◌, List, [], ◌∷◌, codes}
+use Rattle.std.specs.Prelude.{ℕ, ◌≡◌, ◌≢◌, ◌⊎◌, ◌<◌, ◌^◌, IsTrue, List, [], ◌∷◌, length, codes}
 use Rattle.std.specs.Fmt.{decimal}
 use Rattle.mls_range.specs.LabelText.{label_text}
 use Rattle.address_text.specs.Address.{IsAddress, address_text}
 use Rattle.address_text.specs.Name.{IsNameText}
+use Rattle.command_values.specs.Doi.{is_doi}
 use Rattle.command_values.specs.Ranges.{IsMlsLabel}
 use Rattle.packet_label.specs.declared.denial.Carrier.{Carrier}
 use Rattle.packet_label.specs.declared.denial.Carrier.TheVariants.{Unlabelled, Cipso, Calipso}
 use Rattle.packet_label.specs.declared.denial.Denial.{Denial}
-use Rattle.packet_label.specs.declared.denial.Denial.TheVariants.{BadHeader, BadOption, UnknownDoi, TagNotAllowed, CategoryUnmapped, AlreadyLabelled, NotCrossable}
+use Rattle.packet_label.specs.declared.denial.Denial.TheVariants.{BadHeader, BadOption, UnknownDoi, TagNotAllowed, CategoryUnmapped, AlreadyLabelled, NotCrossable, NotIp}
 use Rattle.packet_label.specs.Denial.{number_of, name_of, cause_name}
 use Rattle.packet_walk.specs.declared.walked.End.{End}
 use Rattle.packet_walk.specs.declared.walked.End.TheVariants.{Delivered, Sent, Denied}
@@ -28,6 +29,7 @@ denial_told (TagNotAllowed octet) = (form.DeniedOctet, (name.Octet, decimal octe
 denial_told (AlreadyLabelled octet) = (form.DeniedOctet, (name.Octet, decimal octet) ∷ [])
 denial_told (CategoryUnmapped category) = (form.DeniedCategory, (name.Category, decimal category) ∷ [])
 denial_told (NotCrossable cause) = (form.DeniedCause, (name.Cause, cause_name cause) ∷ [])
+denial_told NotIp = (form.DeniedFrame, [])
 denial_told why = (form.DeniedPlain, [])
 
 -- by how a packet's walk ended: the form, and all but the packet's numbers and versions
@@ -46,14 +48,22 @@ IsBoundedDenial (AlreadyLabelled octet) = octet < 2 ^ 64
 IsBoundedDenial (CategoryUnmapped category) = category < 2 ^ 64
 IsBoundedDenial why = Unit {0}
 
--- the DOI of what carries a label is below 2^64
+-- what carries a label has a DOI
 abbrev pub IsBoundedCarrier : Carrier → Type 0
 IsBoundedCarrier Unlabelled = Unit {0}
-IsBoundedCarrier (Cipso doi) = doi < 2 ^ 64
-IsBoundedCarrier (Calipso doi) = doi < 2 ^ 64
+IsBoundedCarrier (Cipso doi) = IsTrue (is_doi doi)
+IsBoundedCarrier (Calipso doi) = IsTrue (is_doi doi)
 
--- A walk ended with a label as code has them at an address, with a carrier, or at a hop whose node has a name. At hop 0, which no node judges, `-` stands for it.
-abbrev pub IsBoundedEnd : List (List ℕ) → List Hop → End → Type 0
-IsBoundedEnd names hops (Delivered label receiver) = IsMlsLabel label × IsAddress receiver
-IsBoundedEnd names hops (Sent carrier) = IsBoundedCarrier carrier
-IsBoundedEnd names hops (Denied hop why) = (hop < 2 ^ 64) × IsBoundedDenial why × IsNameText (hop_node names hops hop)
+-- a frame was denied that holds no packet, by no hop and under no version
+abbrev pub IsFrameDenied : ℕ → Denial → List ℕ → Type 0
+IsFrameDenied hop why versions = (why ≡ NotIp) × (hop ≡ 0) × (versions ≡ [])
+
+-- a packet was denied for another reason, with what is told of it below 2^64, at a hop whose node has a name
+abbrev pub IsPacketDenied : List (List ℕ) → List Hop → ℕ → Denial → Type 0
+IsPacketDenied names hops hop why = (why ≢ NotIp) × (hop < 2 ^ 64) × IsBoundedDenial why × IsNameText (hop_node names hops hop)
+
+-- A walk ended with a label as code has them at an address, with a carrier, or was denied. All but frames are judged under some version.
+abbrev pub IsBoundedEnd : List (List ℕ) → List Hop → List ℕ → End → Type 0
+IsBoundedEnd names hops versions (Delivered label receiver) = (0 < length versions) × IsMlsLabel label × IsAddress receiver
+IsBoundedEnd names hops versions (Sent carrier) = (0 < length versions) × IsBoundedCarrier carrier
+IsBoundedEnd names hops versions (Denied hop why) = IsFrameDenied hop why versions ⊎ ((0 < length versions) × IsPacketDenied names hops hop why)

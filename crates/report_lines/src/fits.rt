@@ -1,20 +1,19 @@
 //! Whether a word may stand in a slot.
 
-ghost use Rattle.std.specs.Prelude.{◌≡◌, ◌==◌, codes, map, is_some};
-ghost use Rattle.std.specs.List.{list_all, slice_split};
-ghost use Rattle.mls_range.specs.Computed.{label_of_text};
+ghost use Rattle.std.specs.Prelude.{◌≡◌, codes, map};
 ghost use Rattle.address_text.specs.Name.{is_name};
-ghost use Rattle.mls_range.specs.LabelText.{comma};
-ghost use Rattle.report_lines.specs.Slot.{is_number, is_place, is_versions, is_carrier, is_one_of, is_pair, is_pair_of, is_of, may_stand};
+ghost use Rattle.report_lines.specs.Slot.{is_number, is_place, is_versions, is_carrier, is_written_label, is_one_of, is_pair, is_pair_of, is_of, may_stand};
 
+use crate::label_text::is_written;
 use crate::slot::{Kind, Slot};
 use crate::texts::{first_part, parts_at, whole_number};
 use address_text::{read_address, read_name};
+use command_values::read_doi;
 use flow_lines::is_file_name;
 use mls_label::Label;
 use mls_range::read_label_into;
 
-/// Whether a word may stand in a slot, behind another one. A label is read into the one that is lent.
+/// Whether a word may stand in a slot, after another one. A label is read into `label`.
 #[tactic(auto, unfolding(crate::specs::Slot::may_stand))]
 pub(crate) fn may_stand(slot: Slot, before: &[u8], word: &[u8], label: &mut Label) -> bool
     ensures { result ≡ may_stand slot before.now word.now }
@@ -23,9 +22,11 @@ pub(crate) fn may_stand(slot: Slot, before: &[u8], word: &[u8], label: &mut Labe
         Slot::Fixed { text } => word == text.text(),
         Slot::Tag { text, .. } => word == text.text(),
         Slot::Number { .. } => is_number(word),
+        Slot::Zero { .. } => word == b"0".as_slice(),
         Slot::Text { kind, .. } => is_of(kind, before, word, label),
         Slot::Place => is_place(word),
         Slot::Versions => is_versions(word),
+        Slot::NoVersions => word == b"-".as_slice(),
     }
 }
 
@@ -58,7 +59,7 @@ const REFUSALS: [&str; 18] = [
 ];
 
 /// Why a packet is denied, by number and name, where no more is told.
-const PLAIN_DENIALS: [&str; 16] = [
+const PLAIN_DENIALS: [&str; 15] = [
     "3 Unlabelled",
     "4 NoStatic",
     "7 LevelUnmapped",
@@ -73,7 +74,6 @@ const PLAIN_DENIALS: [&str; 16] = [
     "18 Expired",
     "19 WrongVersion",
     "20 NoPair",
-    "22 NotIp",
     "23 BelowRange",
 ];
 
@@ -91,6 +91,9 @@ const CATEGORY_DENIALS: [&str; 1] = ["8 CategoryUnmapped"];
 
 /// The same where a cause is told.
 const CAUSE_DENIALS: [&str; 1] = ["21 NotCrossable"];
+
+/// The same of a frame.
+const FRAME_DENIALS: [&str; 1] = ["22 NotIp"];
 
 /// Why a packet can't go over to the other version.
 const CAUSES: [&str; 5] = ["Protocol", "Fragment", "Options", "Segment", "NoChecksum"];
@@ -133,14 +136,14 @@ const SCRIPT_FAULTS: [&str; 12] = [
 const LIMITS: [&str; 6] = ["octets", "lines", "nodes", "flows", "hops", "packets"];
 
 /// Whether a word is of a kind.
-#[tactic(auto, unfolding(crate::specs::Slot::refusals, crate::specs::Slot::plain_denials, crate::specs::Slot::octet_denials, crate::specs::Slot::category_denials, crate::specs::Slot::cause_denials, crate::specs::Slot::causes, crate::specs::Slot::capture_faults, crate::specs::Slot::script_faults, crate::specs::Slot::limits))]
+#[tactic(auto, unfolding(crate::specs::Slot::refusals, crate::specs::Slot::plain_denials, crate::specs::Slot::octet_denials, crate::specs::Slot::category_denials, crate::specs::Slot::cause_denials, crate::specs::Slot::frame_denials, crate::specs::Slot::causes, crate::specs::Slot::capture_faults, crate::specs::Slot::script_faults, crate::specs::Slot::limits))]
 fn is_of(kind: Kind, before: &[u8], word: &[u8], label: &mut Label) -> bool
     ensures { result ≡ is_of kind before.now word.now }
 {
     match kind {
         Kind::Node => read_name(word).is_some(),
         Kind::Input => is_file_name(word),
-        Kind::Label => is_label(word, label),
+        Kind::Label => is_written_label(word, label),
         Kind::Address => read_address(word).is_some(),
         Kind::Carrier => is_carrier(word),
         Kind::Refusal => is_one_of(word, &REFUSALS),
@@ -148,6 +151,7 @@ fn is_of(kind: Kind, before: &[u8], word: &[u8], label: &mut Label) -> bool
         Kind::OctetDenial => is_pair_of(before, word, &OCTET_DENIALS),
         Kind::CategoryDenial => is_pair_of(before, word, &CATEGORY_DENIALS),
         Kind::CauseDenial => is_pair_of(before, word, &CAUSE_DENIALS),
+        Kind::FrameDenial => is_pair_of(before, word, &FRAME_DENIALS),
         Kind::Cause => is_one_of(word, &CAUSES),
         Kind::CaptureFault => is_one_of(word, &CAPTURE_FAULTS),
         Kind::ScriptFault => is_one_of(word, &SCRIPT_FAULTS),
@@ -155,10 +159,14 @@ fn is_of(kind: Kind, before: &[u8], word: &[u8], label: &mut Label) -> bool
     }
 }
 
-fn is_label(word: &[u8], label: &mut Label) -> bool
-    ensures { result ≡ is_some (label_of_text word.now) }
+/// Whether a word is a label in its one written form.
+fn is_written_label(word: &[u8], label: &mut Label) -> bool
+    ensures { result ≡ is_written_label word.now }
 {
-    read_label_into(word, label).is_ok()
+    match read_label_into(word, label) {
+        Ok(()) => is_written(label, word),
+        Err(_) => false,
+    }
 }
 
 fn is_one_of(word: &[u8], names: &[&str]) -> bool
@@ -209,18 +217,13 @@ fn is_carrier(word: &[u8]) -> bool
         return true;
     }
     let (protocol, doi) = parts_at(word, b',');
-    (protocol == b"cipsov4".as_slice() || protocol == b"calipso".as_slice()) && is_number(doi)
-}
-
-fn is_versions(word: &[u8]) -> bool
-    ensures { result ≡ is_versions word.now }
-{
-    word == b"-".as_slice() || are_numbers(word)
+    (protocol == b"cipsov4".as_slice() || protocol == b"calipso".as_slice())
+        && read_doi(doi).is_some()
 }
 
 /// Whether a word is numbers with commas between.
-fn are_numbers(word: &[u8]) -> bool
-    ensures { result ≡ list_all is_number (slice_split (λ c. c == comma) word.now) }
+fn is_versions(word: &[u8]) -> bool
+    ensures { result ≡ is_versions word.now }
 {
     let mut text = word;
     loop {

@@ -15,6 +15,8 @@ pub enum Form {
     DeniedOctet,
     DeniedCategory,
     DeniedCause,
+    /// A frame was denied, since it holds no packet.
+    DeniedFrame,
     /// A command was carried out, refused, or has listed lines, which follow.
     Done,
     Refused,
@@ -31,13 +33,14 @@ pub enum Form {
 }
 
 /// The forms, in the order in which they are tried.
-const FORMS: [Form; 15] = [
+const FORMS: [Form; 16] = [
     Form::Delivered,
     Form::Sent,
     Form::DeniedPlain,
     Form::DeniedOctet,
     Form::DeniedCategory,
     Form::DeniedCause,
+    Form::DeniedFrame,
     Form::Done,
     Form::Refused,
     Form::Listed,
@@ -152,6 +155,20 @@ const TEXT_CAUSE: Slot = Slot::Text {
     field: Field::Cause,
     kind: Kind::Cause,
 };
+
+const TEXT_NAME_FRAME_DENIAL: Slot = Slot::Text {
+    field: Field::Name,
+    kind: Kind::FrameDenial,
+};
+
+const ZERO_HOP: Slot = Slot::Zero { field: Field::Hop };
+
+const NODE_NOBODY: Slot = Slot::Tag {
+    field: Field::Node,
+    text: Fixed::Nobody,
+};
+
+const NO_VERSIONS: Slot = Slot::NoVersions;
 
 const WORD_COMMAND: Slot = Slot::Fixed {
     text: Fixed::Command,
@@ -337,6 +354,21 @@ const DENIED_CAUSE: [Slot; 12] = [
     VERSIONS,
 ];
 
+/// A frame that was denied.
+const DENIED_FRAME: [Slot; 11] = [
+    WORD_PACKET,
+    PLACE,
+    BECAME_DENIED,
+    NUMBER_DENIAL,
+    TEXT_NAME_FRAME_DENIAL,
+    WORD_HOP,
+    ZERO_HOP,
+    WORD_NODE,
+    NODE_NOBODY,
+    WORD_VERSIONS,
+    NO_VERSIONS,
+];
+
 /// A command that was carried out.
 const DONE: [Slot; 4] = [WORD_COMMAND, NUMBER_STEP, TEXT_NODE, ANSWER_DONE];
 
@@ -404,6 +436,7 @@ impl Form {
             Form::DeniedOctet => &DENIED_OCTET,
             Form::DeniedCategory => &DENIED_CATEGORY,
             Form::DeniedCause => &DENIED_CAUSE,
+            Form::DeniedFrame => &DENIED_FRAME,
             Form::Done => &DONE,
             Form::Refused => &REFUSED,
             Form::Listed => &LISTED,
@@ -426,7 +459,8 @@ impl Form {
             | Form::DeniedPlain
             | Form::DeniedOctet
             | Form::DeniedCategory
-            | Form::DeniedCause => b"packet",
+            | Form::DeniedCause
+            | Form::DeniedFrame => b"packet",
             Form::Done | Form::Refused | Form::Listed => b"command",
             Form::Flow => b"flow",
             Form::End => b"end",

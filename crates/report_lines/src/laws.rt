@@ -83,7 +83,7 @@ pub fn written_lines_are_told_back()
 pub fn written_packets_are_told_back()
     ensures { (flow number : ℕ) (names : List (List ℕ)) (hops : List Hop) (walked : Walked)
         → flow < 2 ^ 64 → number < 2 ^ 64 → All (λ version. version < 2 ^ 64) walked.versions
-        → IsBoundedEnd names hops walked.end
+        → IsBoundedEnd names hops walked.versions walked.end
         → IsToldAs (end_told names hops walked.end).0
         ((name.Flow, decimal flow) ∷ (name.Number, decimal number)
         ∷ (name.Versions, versions_text walked.versions) ∷ (end_told names hops walked.end).1)

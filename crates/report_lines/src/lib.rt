@@ -6,6 +6,7 @@
 
 mod fits;
 mod form;
+mod label_text;
 pub mod laws;
 mod line;
 mod slot;

@@ -128,6 +128,8 @@ pub enum Fixed {
     Script,
     Line,
     Limit,
+    /// In place of a node, where none judges.
+    Nobody,
 }
 
 impl Fixed {
@@ -157,6 +159,7 @@ impl Fixed {
             Fixed::Script => b"script",
             Fixed::Line => b"line",
             Fixed::Limit => b"limit",
+            Fixed::Nobody => b"-",
         }
     }
 }
@@ -164,20 +167,22 @@ impl Fixed {
 /// Of which texts a word is.
 #[derive(Clone, Copy)]
 pub enum Kind {
-    /// A name of a node; `-` is one, and stands where no node judges.
+    /// A name of a node.
     Node,
     /// A name of a file.
     Input,
+    /// A label in its one written form.
     Label,
     Address,
     Carrier,
     /// Why a command is refused.
     Refusal,
-    /// Why a packet is denied: the name of the number in front, where nothing more is told, an octet, a category or a cause.
+    /// Why a packet is denied: the name of the number before it, where nothing more is told, an octet, a category or a cause; and why a frame is.
     PlainDenial,
     OctetDenial,
     CategoryDenial,
     CauseDenial,
+    FrameDenial,
     Cause,
     /// The fault of a capture, of a script.
     CaptureFault,
@@ -195,9 +200,13 @@ pub enum Slot {
     Tag { field: Field, text: Fixed },
     /// A decimal number below 2^64, without a leading zero.
     Number { field: Field },
+    /// The number 0.
+    Zero { field: Field },
     Text { field: Field, kind: Kind },
     /// A flow's number and a packet's, with a dot between.
     Place,
-    /// Versions with commas between, or `-`.
+    /// Versions with commas between.
     Versions,
+    /// `-`, where there are none.
+    NoVersions,
 }

@@ -3,7 +3,7 @@ use mls_label::Label;
 use std::process::Abort;
 
 /// Lines, and their forms or the octets at fault.
-const LINES: [(&str, Result<Form, usize>); 30] = [
+const LINES: [(&str, Result<Form, usize>); 47] = [
     (
         "packet 1.1 delivered s0 to 10.9.0.2 versions 7,7",
         Ok(Form::Delivered),
@@ -12,7 +12,15 @@ const LINES: [(&str, Result<Form, usize>); 30] = [
         "packet 1.2 delivered s2:c1,c3 to 2001:db8::1 versions 7",
         Ok(Form::Delivered),
     ),
+    (
+        "packet 1.2 delivered s255:c1,c2,c4.c6,c65534 to 10.9.0.2 versions 7",
+        Ok(Form::Delivered),
+    ),
     ("packet 3.12 sent unlbl versions 5", Ok(Form::Sent)),
+    (
+        "packet 3.12 sent calipso,4294967295 versions 5",
+        Ok(Form::Sent),
+    ),
     ("packet 3.12 sent cipsov4,16 versions 5", Ok(Form::Sent)),
     (
         "packet 1.2 denied 3 Unlabelled hop 1 node gate versions 7",
@@ -32,7 +40,7 @@ const LINES: [(&str, Result<Form, usize>); 30] = [
     ),
     (
         "packet 1.2 denied 22 NotIp hop 0 node - versions -",
-        Ok(Form::DeniedPlain),
+        Ok(Form::DeniedFrame),
     ),
     ("command 1 gate done", Ok(Form::Done)),
     ("command 2 gate DoiExists", Ok(Form::Refused)),
@@ -49,6 +57,51 @@ const LINES: [(&str, Result<Form, usize>); 30] = [
     (
         "packet 1.1 delivered s0:c3.c2 to 10.9.0.2 versions 7",
         Err(21),
+    ),
+    (
+        "packet 1.1 delivered s0:c2,c1 to 10.9.0.2 versions 7",
+        Err(21),
+    ),
+    (
+        "packet 1.1 delivered s0:c1,c1 to 10.9.0.2 versions 7",
+        Err(21),
+    ),
+    (
+        "packet 1.1 delivered s0:c1.c1 to 10.9.0.2 versions 7",
+        Err(21),
+    ),
+    (
+        "packet 1.1 delivered s0:c1.c2 to 10.9.0.2 versions 7",
+        Err(21),
+    ),
+    (
+        "packet 1.1 delivered s0:c1,c2,c3 to 10.9.0.2 versions 7",
+        Err(21),
+    ),
+    (
+        "packet 1.1 delivered s0:c01 to 10.9.0.2 versions 7",
+        Err(21),
+    ),
+    ("packet 1.1 delivered s00 to 10.9.0.2 versions 7", Err(21)),
+    ("packet 1.1 delivered s0 to 10.9.0.2 versions -", Err(45)),
+    ("packet 3.12 sent cipsov4,0 versions 5", Err(17)),
+    ("packet 3.12 sent calipso,4294967296 versions 5", Err(17)),
+    ("packet 3.12 sent unlbl versions -", Err(32)),
+    (
+        "packet 1.2 denied 3 Unlabelled hop 1 node gate versions -",
+        Err(56),
+    ),
+    (
+        "packet 1.2 denied 22 NotIp hop 1 node gate versions 7",
+        Err(31),
+    ),
+    (
+        "packet 1.2 denied 22 NotIp hop 0 node gate versions -",
+        Err(38),
+    ),
+    (
+        "packet 1.2 denied 22 NotIp hop 0 node - versions 7",
+        Err(49),
     ),
     ("packet 1.1 delivered s0 to 10.9.0.256 versions 7", Err(27)),
     ("packet 1 delivered", Err(7)),

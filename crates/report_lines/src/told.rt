@@ -55,9 +55,11 @@ fn tells(slot: Slot, field: Field) -> bool
         Slot::Fixed { .. } => false,
         Slot::Tag { field: own, .. } => is_field(own, field),
         Slot::Number { field: own } => is_field(own, field),
+        Slot::Zero { field: own } => is_field(own, field),
         Slot::Text { field: own, .. } => is_field(own, field),
         Slot::Place => is_field(Field::Flow, field) || is_field(Field::Number, field),
         Slot::Versions => is_field(Field::Versions, field),
+        Slot::NoVersions => is_field(Field::Versions, field),
     }
 }
 

@@ -1,7 +1,6 @@
 -- Lines as records of JSON (RFC 8259): numbers as they stand, texts as strings, versions as a list.
-use Rattle.std.specs.Prelude.{ℕ, ◌==◌, List, [], ◌∷◌, ◌++◌, codes, Option, Some, None, if◌then◌else◌}
+use Rattle.std.specs.Prelude.{ℕ, ◌==◌, List, [], ◌∷◌, ◌++◌, codes, Option, Some, None}
 use Rattle.std.specs.Fmt.{decimal}
-use Rattle.std.specs.Str.{bytes_eq}
 use Rattle.std.specs.List.{before_first, after_first}
 use Rattle.mls_range.specs.LabelText.{dot}
 use Rattle.report_lines.specs.declared.form.Form.{Form}
@@ -22,18 +21,20 @@ string_text text = quoted 92 text
 abbrev pub member_name : Field → List ℕ
 member_name field = codes ",\"" ++ field_name field ++ codes "\":"
 
--- versions as a list, which is empty where there are none
+-- versions as a list
 abbrev pub versions_list : List ℕ → List ℕ
-versions_list word = 91 ∷ (if bytes_eq word (codes "-") then [] else word) ++ 93 ∷ []
+versions_list word = 91 ∷ word ++ 93 ∷ []
 
 -- what a word in a slot says
 abbrev pub member_text : Slot → List ℕ → List ℕ
 member_text (slot.Fixed text) word = []
 member_text (slot.Tag field text) word = member_name field ++ string_text word
 member_text (slot.Number field) word = member_name field ++ word
+member_text (slot.Zero field) word = member_name field ++ word
 member_text (slot.Text field kind) word = member_name field ++ string_text word
 member_text slot.Place word = (member_name name.Flow ++ before_first (λ c. c == dot) word) ++ (member_name name.Number ++ after_first (λ c. c == dot) word)
 member_text slot.Versions word = member_name name.Versions ++ versions_list word
+member_text slot.NoVersions word = member_name name.Versions ++ versions_list []
 
 -- what the words of a line say
 abbrev pub members_text : List Slot → List (List ℕ) → List ℕ

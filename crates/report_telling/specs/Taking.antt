@@ -1,7 +1,6 @@
 -- What becomes of each line of a report, and of its end.
-use Rattle.std.specs.Prelude.{ℕ, ◌-◌, Bool, true, false, not, ◌==◌, ◌&&◌, nat_lt, List, [], ◌∷◌, ◌++◌, drop, codes, Option, Some, None, position, Result, Ok, Err, if◌then◌else◌}
+use Rattle.std.specs.Prelude.{ℕ, ◌-◌, Bool, true, false, not, ◌==◌, ◌&&◌, nat_le, List, [], ◌∷◌, ◌++◌, drop, codes, Option, Some, None, position, Result, Ok, Err, if◌then◌else◌}
 use Rattle.std.specs.Fmt.{decimal}
-use Rattle.script_lines.specs.Octet.{is_plain}
 use Rattle.address_text.specs.Name.{is_name}
 use Rattle.report_lines.specs.declared.form.Form.{Form}
 use Rattle.report_lines.specs.declared.form.Form.TheVariants as form
@@ -22,11 +21,15 @@ use Rattle.report_telling.specs.Json.{json_text, listed_json, unfinished_json}
 use Rattle.report_telling.specs.Csv.{csv_text, listed_csv, unfinished_csv}
 use Rattle.report_telling.specs.Summary.{refused_text}
 
--- the first octet that a line of a listing can't have: two spaces stand in front of printable ASCII
+-- printable ASCII, from the space to `~`
+abbrev pub is_printable : ℕ → Bool
+is_printable octet = nat_le 32 octet && nat_le octet 126
+
+-- the first octet that a line of a listing can't have: two spaces precede printable ASCII
 abbrev pub listed_stop : List ℕ → Option ℕ
 listed_stop [] = Some 0
 listed_stop (a ∷ []) = if a == 32 then Some 1 else Some 0
-listed_stop (a ∷ b ∷ line) = if a == 32 then (if b == 32 then position (λ octet. not (is_plain octet)) (a ∷ b ∷ line) else Some 1) else Some 0
+listed_stop (a ∷ b ∷ line) = if a == 32 then (if b == 32 then position (λ octet. not (is_printable octet)) (a ∷ b ∷ line) else Some 1) else Some 0
 
 abbrev pub listed_kind : Option ℕ → Result LineKind ℕ
 listed_kind None = Ok Listed
@@ -54,6 +57,7 @@ is_denial_form form.DeniedPlain = true
 is_denial_form form.DeniedOctet = true
 is_denial_form form.DeniedCategory = true
 is_denial_form form.DeniedCause = true
+is_denial_form form.DeniedFrame = true
 is_denial_form form = false
 
 -- how a line of a form is told, with the line in the script at which its command stands
@@ -91,6 +95,7 @@ counted form.DeniedPlain line p = record p { denied = risen p.denied }
 counted form.DeniedOctet line p = record p { denied = risen p.denied }
 counted form.DeniedCategory line p = record p { denied = risen p.denied }
 counted form.DeniedCause line p = record p { denied = risen p.denied }
+counted form.DeniedFrame line p = record p { denied = risen p.denied }
 counted form.Done line p = record p { commands = risen p.commands }
 counted form.Refused line p = record p { commands = risen p.commands; refused = risen p.refused }
 counted form.Listed line p = record p { commands = risen p.commands; due = number_told name.Lines form.Listed line }

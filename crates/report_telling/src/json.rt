@@ -100,10 +100,11 @@ fn append_member(slot: Slot, word: &[u8], out: &mut Vec<u8>) -> Result<(), OutOf
     match slot {
         Slot::Fixed { .. } => Ok(()),
         Slot::Tag { field, .. } => append_text(field, word, out),
-        Slot::Number { field } => append_number(field, word, out),
+        Slot::Number { field } | Slot::Zero { field } => append_number(field, word, out),
         Slot::Text { field, .. } => append_text(field, word, out),
         Slot::Place => append_place(word, out),
         Slot::Versions => append_versions(word, out),
+        Slot::NoVersions => append_versions(b"", out),
     }
 }
 
@@ -141,15 +142,13 @@ fn append_place(word: &[u8], out: &mut Vec<u8>) -> Result<(), OutOfMemory>
     append_number(Field::Number, number, out)
 }
 
-/// Appends versions as a list, which is empty where there are none.
+/// Appends versions as a list.
 fn append_versions(word: &[u8], out: &mut Vec<u8>) -> Result<(), OutOfMemory>
     ensures { OnOk result (out.new.items ≡ out.old.items ++ member_text Slot.Versions word.now) }
 {
     append_name(Field::Versions, out)?;
     out.push(b'[')?;
-    if word != b"-".as_slice() {
-        out.extend_from_slice(word)?;
-    }
+    out.extend_from_slice(word)?;
     out.push(b']')?;
     Ok(())
 }

@@ -1,8 +1,9 @@
 //! What becomes of a line: what it is, how it is told, and what it counts for.
 
-ghost use Rattle.std.specs.Prelude.{◌≡◌, ◌++◌, drop, None, OnOk, IfOk, if◌then◌else◌};
+ghost use Rattle.std.specs.Prelude.{◌≡◌, ◌++◌, not, drop, None, OnOk, IfOk, if◌then◌else◌};
+ghost use Rattle.std.specs.List.{position};
 ghost use Rattle.report_lines.specs.Line.{line_form};
-ghost use Rattle.report_telling.specs.Taking.{Standing, listed_stop, form_kind, line_kind, is_denial_form, form_text, listed_text, line_text, unfinished_text, counted, has_place, with_tally, with_denied, one_line, after_form, after_line, after_end, no_report_text};
+ghost use Rattle.report_telling.specs.Taking.{Standing, is_printable, listed_stop, form_kind, line_kind, is_denial_form, form_text, listed_text, line_text, unfinished_text, counted, has_place, with_tally, with_denied, one_line, after_form, after_line, after_end, no_report_text};
 ghost use Rattle.report_telling.specs.Counts.{risen};
 
 use crate::commands::{Commands, number_told};
@@ -15,7 +16,6 @@ use address_text::read_name;
 use mls_label::{Label, OutOfMemory};
 use octet_grammar::write_decimal;
 use report_lines::{Field, Form, read_line, told_word};
-use script_lines::first_unfit;
 
 /// What a line is.
 #[derive(Clone, Copy)]
@@ -73,9 +73,21 @@ fn listed_stop(line: &[u8]) -> Option<usize>
             if *second != b' ' {
                 return Some(1);
             }
-            first_unfit(line)
+            first_unprintable(line)
         }
     }
+}
+
+fn first_unprintable(line: &[u8]) -> Option<usize>
+    ensures { result ≡ position (λ octet. not (is_printable octet)) line.now }
+{
+    line.iter().position(|octet| !is_printable(*octet))
+}
+
+fn is_printable(octet: u8) -> bool
+    ensures { result ≡ is_printable octet }
+{
+    matches!(octet, b' '..=b'~')
 }
 
 /// Appends how a line is told.
@@ -156,7 +168,11 @@ fn is_denial_form(form: Form) -> bool
     ensures { result ≡ is_denial_form form }
 {
     match form {
-        Form::DeniedPlain | Form::DeniedOctet | Form::DeniedCategory | Form::DeniedCause => true,
+        Form::DeniedPlain
+        | Form::DeniedOctet
+        | Form::DeniedCategory
+        | Form::DeniedCause
+        | Form::DeniedFrame => true,
         _ => false,
     }
 }
@@ -194,9 +210,11 @@ fn count_form(form: Form, line: &[u8], progress: &mut Progress)
     match form {
         Form::Delivered => progress.delivered = risen(progress.delivered),
         Form::Sent => progress.sent = risen(progress.sent),
-        Form::DeniedPlain | Form::DeniedOctet | Form::DeniedCategory | Form::DeniedCause => {
-            progress.denied = risen(progress.denied);
-        }
+        Form::DeniedPlain
+        | Form::DeniedOctet
+        | Form::DeniedCategory
+        | Form::DeniedCause
+        | Form::DeniedFrame => progress.denied = risen(progress.denied),
         Form::Done => progress.commands = risen(progress.commands),
         Form::Refused => {
             progress.commands = risen(progress.commands);

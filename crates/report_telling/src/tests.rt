@@ -91,3 +91,30 @@ fn tells_lines(rt: HostRuntime) {
     write_summary(&progress, &tallies, &mut sum).expect(&rt, "there is memory");
     assert_eq!(rt; sum.as_slice(), SUM.as_bytes());
 }
+
+/// Lines in the place of a listed one, and the octet at fault.
+const NOT_LISTED: [(&str, usize); 6] = [
+    ("", 0),
+    ("unlbl", 0),
+    (" unlbl", 1),
+    ("  unlbl\taccept", 7),
+    ("  \u{7f}", 2),
+    ("  unlbl accept\r", 14),
+];
+
+#[test]
+fn lists_printable_lines(rt: HostRuntime) {
+    let mut label = Label::lowest();
+    let commands = Commands::unknown();
+    let mut progress = start();
+    let mut tallies = Vec::new(rt.alloc());
+    let told = b"command 1 gate listed 1";
+    let kind = line_kind(&commands, &progress, told, &mut label).expect(&rt, "it is a line");
+    count_line(kind, told, &mut progress, &mut tallies).expect(&rt, "there is memory");
+    for (line, octet) in NOT_LISTED {
+        assert_eq!(rt;
+            line_kind(&commands, &progress, line.as_bytes(), &mut label).err(),
+            Some(octet)
+        );
+    }
+}

@@ -1,6 +1,5 @@
-use Rattle.std.proofs.Common.{◌≡◌, ◌<◌, ℕ, sym, ◌∙◌, ap, refl, length, arith}
-use Rattle.std.specs.Prelude.{slice_set, slice_index_or}
-use Rattle.std.proofs.lemmas.Option.{slice_get_read, same_Some}
+use Rattle.std.proofs.Common.{◌≡◌, ◌<◌, sym, ◌∙◌, ap, length, arith}
+use Rattle.std.specs.Prelude.{slice_index_or}
 use Rattle.report_telling.specs.declared.counts.Tally.{Tally}
 use Rattle.report_telling.specs.Counts.{risen, is_tally}
 use Rattle.report_telling.proofs.Tallies.{hit, with_count, one_place}

@@ -3,7 +3,7 @@ use Rattle.std.specs.Prelude.{◌==◌}
 use Rattle.std.specs.List.{list_all, slice_split}
 use Rattle.mls_range.specs.LabelText.{comma}
 use Rattle.report_lines.specs.Slot.{is_number}
-use Rattle.report_lines.proofs.fits.are_numbers.Given as goal
+use Rattle.report_lines.proofs.fits.is_versions.Given as goal
 
 abbrev pub decreases-loop-part : goal.decreases-loop-part
 decreases-loop-part l = length l.text
