@@ -1,5 +1,5 @@
 -- How a call ends that prints no versions, whatever its program says: from what it knows of the folder at its end, and what was printed.
-use Rattle.std.proofs.Common.{◌≡◌, ◌≢◌, ◌<◌, ℕ, ◌+◌, List, [], ◌∷◌, ◌++◌, length, take, refl, sym, ap, subst, ◌∙◌, arith, append_assoc, inl, inr, ◌⊎◌, Option, None, Result}
+use Rattle.std.proofs.Common.{◌≡◌, ◌≢◌, ◌<◌, ℕ, ◌+◌, List, [], ◌∷◌, ◌++◌, length, take, refl, sym, ap, subst, ◌∙◌, arith, append_assoc, inl, inr, ◌⊎◌, Option, Some, None, Result}
 use Rattle.std.specs.Prelude.{IsTrue, Contains, All}
 use Rattle.std.proofs.Math.Seq.{take-append-add}
 use Rattle.std.proofs.lemmas.List.{append-nil, take-append-le, take_all, length-append}
@@ -8,12 +8,12 @@ use Rattle.net_io.specs.Faults.{Rose, SameCounts}
 use Rattle.net_io.specs.Sink.{SinkState, WritesPrefix, WritesLess}
 use Rattle.call_report.specs.declared.status.Status.{Status}
 use Rattle.call_report.specs.declared.status.Status.TheVariants.{Done, NoForm, WrongScript, ReadFault, WriteFault, WrongCapture, OutOfMemory, Limit}
-use Rattle.call_report.specs.CallEnds.{CallEnds, HasBegun, EndsWith, Prints, Leaves, StopsInBody, IsClean, IsWritten, IsRefusal}
-use Rattle.call_report.specs.Says.{Says, reading_says, usage_says}
+use Rattle.call_report.specs.CallEnds.{CallEnds, HasBegun, EndsWith, Prints, Leaves, StopsInBody, StopsAtAppend, PrintsReport, FailedAfterText, FailsToWrite, IsWritten, IsRefusal, IsUnrefused, KnowsReport}
+use Rattle.call_report.specs.Says.{Says, reading, reading_says, usage_says}
 use Rattle.call_report.specs.Report.{Folder, Report, report_text, late_report}
 use Rattle.call_report.specs.Stages.{Stage, reading_stage}
 use Rattle.call_report.specs.Output.{Output, IsBegun, IsMade}
-use Rattle.call_report.specs.Outside.{Outside, IsOnlyRead, ReadRose, CreateRose, AppendRose, WriteRose, NoneFailed, NoWriteFailed}
+use Rattle.call_report.specs.Outside.{Outside, IsOnlyRead, ReadRose, CreateRose, NoneFailed, NoFileFailed, NoInputFailed, NoWriteFailed}
 use Rattle.call_report.specs.Status.{status_number}
 use Rattle.call_report.specs.Printing.{Printed, EndsInLine, Breaks}
 use Rattle.call_report.proofs.Beginnings.{a_whole_text_is_a_front, a_part_of_a_text_is_a_front, less_of_a_text_is_less_of_more}
@@ -21,15 +21,16 @@ use Rattle.call_report.proofs.Beginnings.{a_whole_text_is_a_front, a_part_of_a_t
 -- ---- what such a call knows
 
 -- An output holds what was made of it, if only some first octets, and each other name what it held.
-pub record HasLeft (says : Says) (before after : Outside) : Type 0 where
+pub record HasLeft (says : Says) (before after : Outside) (stages : List Stage) : Type 0 where
   pub outputs : List Output
   pub are : says.outputs before.folder.held [] outputs
   pub begun : All (λ output. IsBegun output before.folder.held after.folder.held) outputs
   pub others : (name : List ℕ) → All (λ output. output.name ≢ name) outputs → after.folder.held name ≡ before.folder.held name
+  pub unmade : (name : List ℕ) → All (λ stage. stage.output ≢ Some name) stages → after.folder.held name ≡ before.folder.held name
 
 -- All that is to be made was made, and each other name holds what it held.
-pub record HasMade (says : Says) (before after : Outside) : Type 0 where
-  pub left : HasLeft says before after
+pub record HasMade (says : Says) (before after : Outside) (stages : List Stage) : Type 0 where
+  pub left : HasLeft says before after stages
   pub made : All (λ output. IsMade output before.folder.held after.folder.held) left.outputs
 
 -- What holds however such a call ends: what it has begun, and what is so of all that it may have printed.
@@ -45,7 +46,7 @@ pub record Keeps (says : Says) (before after : Outside) (stages : List Stage) : 
 -- And where no making and no append has failed, and all that is to be made was made.
 pub record Knows (says : Says) (before after : Outside) (stages : List Stage) : Type 0 where
   pub keeps : Keeps says before after stages
-  pub made : IsTrue before.folder.tells → HasMade says before after
+  pub made : IsTrue before.folder.tells → HasMade says before after stages
   pub creates : SameCounts before.folder.creates after.folder.creates
   pub appends : SameCounts before.folder.appends after.folder.appends
 
@@ -68,7 +69,7 @@ pub record IsDue (says : Says) (before : Outside) (number : ℕ) (text line : Li
   pub event : (number ≢ 3) × (number ≢ 4) × (number ≢ 6)
   pub has : IsTrue before.folder.tells → says.status before.folder.held number
   pub may : says.possible number
-  pub parts : IsTrue before.folder.tells → HasParts says before.folder.held text line
+  pub parts : KnowsReport says before.folder → HasParts says before.folder.held text line
   pub last : (number ≡ 0) ⊎ (number ≡ 8) → line ≡ []
   pub whole : IsTrue before.folder.tells → says.whole before.folder.held []
 
@@ -108,9 +109,8 @@ own_number due status = record { event = ap status_number; write = ap status_num
 pub record HasCause (says : Says) (before after : Outside) (stages : List Stage) (status : ℕ) : Type 0 where
   pub refused : IsRefusal status
   pub read_fault : status ≡ 3 → NoWriteFailed before after × (ReadRose stages before after ⊎ CreateRose stages before after)
-  pub write_fault : status ≡ 4 → WriteRose before after ⊎ AppendRose stages before after
-  pub memory : status ≡ 6 → NoWriteFailed before after × (NoneFailed before after ⊎ ReadRose stages before after ⊎ CreateRose stages before after)
-  pub memory_alone : status ≡ 6 → says.late [] → NoneFailed before after
+  pub write_fault : status ≡ 4 → FailsToWrite stages before after × (NoInputFailed before after ⊎ FailedAfterText says [] stages before after)
+  pub memory : status ≡ 6 → NoWriteFailed before after × (NoInputFailed before after ⊎ FailedAfterText says [] stages before after)
 
 -- nothing, or some first octets of the report
 abbrev pub IsPart : Says → Outside → Outside → Type 0
@@ -121,7 +121,7 @@ pub record PrintsSome (says : Says) (before after : Outside) (stages : List Stag
   pub part : IsTrue before.stream.tells → IsPart says before after
   pub pause : IsTrue before.stream.tells → status ≡ 3
       → (text : List ℕ) × IsWritten text before after × ((report : Report) → says.report before.folder.held [] report → Contains report.pauses text)
-  pub stop : status ≡ 4 → StopsInBody says before after [] ⊎ AppendRose stages before after
+  pub stop : status ≡ 4 → StopsInBody says before after [] ⊎ StopsAtAppend says before after [] stages
 
 -- ---- a body, and a line behind it
 
@@ -174,27 +174,22 @@ no_other status refused number other is = elim refused [
   | inr rest ↦ elim rest [ inl four ↦ other.1 (sym is ∙ four) | inr six ↦ other.2 (sym is ∙ six) ]
 ]
 
--- a refusal has a cause, so the call isn't clean
-unclean : (says : Says) (before after : Outside) (stages : List Stage) (status : ℕ) → HasCause says before after stages status → IsClean stages before after status → ⊥
-unclean says before after stages status cause clean = elim clean [
-  | inl zero ↦ no_other status cause.refused 0 (λ e. omega (arith, e), λ e. omega (arith, e), λ e. omega (arith, e)) zero
-  | inr c ↦ elim cause.refused [
-    | inl three ↦ elim (cause.read_fault three).1 [ inl read ↦ c.1 (inr (inl read)) | inr create ↦ c.1 (inr (inr (inl create))) ]
-    | inr rest ↦ elim rest [
-      | inl four ↦ elim (cause.write_fault four) [ inl write ↦ c.1 (inl write) | inr append ↦ c.1 (inr (inr (inr append))) ]
-      | inr six ↦ c.0 six
-    ]
-  ]
-]
-
 module _ {C : Type 0} (says_of : Option C → Says) (request : Option C) (before after : Outside) (stages : List Stage) where
   abbrev says : Says
   says = says_of request
 
-  ends : (status : ℕ) → Keeps says before after stages → EndsWith says request before after status [] stages → (IsTrue before.folder.tells → Prints says before after status [] stages)
+  -- what is known of the report
+  abbrev KnowsIt : Type 0
+  KnowsIt = KnowsReport says before.folder
+
+  -- nothing stands in front of the call that failed, or something may
+  abbrev IsSilent : ℕ → Type 0
+  IsSilent status = IsTrue before.stream.tells → status ≡ 3 → FailedAfterText says [] stages before after ⊎ (after.stream.written ≡ before.stream.written)
+
+  ends : (status : ℕ) → Keeps says before after stages → EndsWith says request before after status [] stages → (KnowsIt → Prints says before after status [] stages)
       → (IsTrue before.folder.tells → Leaves says before after status [] stages)
-      → (IsTrue before.stream.tells → status ≡ 3 → says.late [] → after.stream.written ≡ before.stream.written)
-      → (IsTrue before.folder.tells → IsClean stages before after status → says.whole before.folder.held []) → CallEnds says_of request before after status []
+      → IsSilent status
+      → (IsTrue before.folder.tells → IsUnrefused status → says.whole before.folder.held []) → CallEnds says_of request before after status []
   ends status keeps with_status prints leaves silent whole = record {
     stages = stages;
     begun = keeps.begun;
@@ -212,9 +207,9 @@ module _ {C : Type 0} (says_of : Option C → Says) (request : Option C) (before
   }
 
   -- Something was refused. Memory alone may be, where the words are no form.
-  pub ends_refused : (status : ℕ) → Keeps says before after stages → (IsTrue before.folder.tells → HasLeft says before after) → (request ≡ None → status ≡ 6)
-      → HasCause says before after stages status → (IsTrue before.folder.tells → PrintsSome says before after stages status)
-      → (IsTrue before.stream.tells → status ≡ 3 → says.late [] → after.stream.written ≡ before.stream.written) → CallEnds says_of request before after status []
+  pub ends_refused : (status : ℕ) → Keeps says before after stages → (IsTrue before.folder.tells → HasLeft says before after stages) → (request ≡ None → status ≡ 6)
+      → HasCause says before after stages status → (KnowsIt → PrintsSome says before after stages status)
+      → IsSilent status → CallEnds says_of request before after status []
   ends_refused status keeps left form cause prints silent = ends status keeps (record {
     due = λ told. inr cause.refused;
     possible = inr cause.refused;
@@ -223,7 +218,7 @@ module _ {C : Type 0} (says_of : Option C → Says) (request : Option C) (before
     read_fault = cause.read_fault;
     write_fault = cause.write_fault;
     memory = cause.memory;
-    memory_alone = cause.memory_alone;
+    decided = λ unrefused. absurd (unrefused cause.refused);
     unmoved = λ done. elim done [
       | inl zero ↦ absurd (no_other status cause.refused 0 (λ e. omega (arith, e), λ e. omega (arith, e), λ e. omega (arith, e)) zero)
       | inr eight ↦ absurd (no_other status cause.refused 8 (λ e. omega (arith, e), λ e. omega (arith, e), λ e. omega (arith, e)) eight)
@@ -231,8 +226,7 @@ module _ {C : Type 0} (says_of : Option C → Says) (request : Option C) (before
   }) (λ told.
       let p = prints told in
       record {
-        whole = λ out clean. absurd (unclean says before after stages status cause clean);
-        body = λ out other. absurd (other cause.refused);
+        whole = λ out unrefused. absurd (unrefused cause.refused);
         part = p.part;
         pause = p.pause;
         stop = p.stop;
@@ -243,9 +237,10 @@ module _ {C : Type 0} (says_of : Option C → Says) (request : Option C) (before
         are = l.are;
         begun = l.begun;
         earlier = λ some. absurd (omega (arith, some));
-        whole = λ clean. absurd (unclean says before after stages status cause clean);
+        whole = λ unrefused. absurd (unrefused cause.refused);
         others = l.others;
-      }) silent (λ told clean. absurd (unclean says before after stages status cause clean))
+        unmade = l.unmade;
+      }) silent (λ told unrefused. absurd (unrefused cause.refused))
 
   -- some first octets of a text with which the report begins
   pub begun_part : (text : List ℕ) (b : Begins says before.folder.held text) → WritesPrefix (text ++ (b.rest ++ b.report.last)) before.stream.written after.stream.written → IsPart says before after
@@ -261,27 +256,32 @@ module _ {C : Type 0} (says_of : Option C → Says) (request : Option C) (before
   no_octets prefix = prefix.written ∙ ap (λ t. before.stream.written ++ t) (take_all prefix.count [] (omega arith))
 
   module _ (knows : Knows says before after stages) where
-    has_left : IsTrue before.folder.tells → HasLeft says before after
+    has_left : IsTrue before.folder.tells → HasLeft says before after stages
     has_left told = (knows.made told).left
 
-    -- no read has failed, or one that is counted and may have something in front of it
+    -- no read has failed, or one of the input in hand that may have something in front of it
     abbrev Reads : Type 0
-    Reads = SameCounts before.folder.reads after.folder.reads ⊎ (ReadRose stages before after × (says.late [] → ⊥))
+    Reads = SameCounts before.folder.reads after.folder.reads ⊎ ((read : ReadRose stages before after) × says.preceded [] stages (reading read.name))
 
     none_failed : SameCounts before.folder.reads after.folder.reads → after.stream.faults ≡ before.stream.faults → NoneFailed before after
     none_failed reads writes = record { reads = reads; creates = knows.creates; appends = knows.appends; writes = writes }
+
+    no_file_failed : SameCounts before.folder.reads after.folder.reads → NoFileFailed before after
+    no_file_failed reads = record { reads = reads; creates = knows.creates; appends = knows.appends }
+
+    no_input : Reads → NoInputFailed before after ⊎ FailedAfterText says [] stages before after
+    no_input reads = elim reads [ inl same ↦ inl (record { reads = same; creates = knows.creates }) | inr rose ↦ inr (inl rose) ]
 
     unwritten : after.stream.faults ≡ before.stream.faults → NoWriteFailed before after
     unwritten writes = record { writes = writes; appends = knows.appends }
 
     -- memory ran out, and nothing or a beginning of the report was printed
-    ends_without_memory : Reads → after.stream.faults ≡ before.stream.faults → (IsTrue before.folder.tells → IsTrue before.stream.tells → IsPart says before after) → CallEnds says_of request before after 6 []
+    ends_without_memory : Reads → after.stream.faults ≡ before.stream.faults → (KnowsIt → IsTrue before.stream.tells → IsPart says before after) → CallEnds says_of request before after 6 []
     ends_without_memory reads writes part = ends_refused 6 knows.keeps has_left (λ none. refl) (record {
       refused = inr (inr refl);
       read_fault = λ e. absurd (omega (arith, e));
       write_fault = λ e. absurd (omega (arith, e));
-      memory = λ e. (unwritten writes, elim reads [ inl same ↦ inl (none_failed same writes) | inr rose ↦ inr (inl rose.0) ]);
-      memory_alone = λ e late. elim reads [ inl same ↦ none_failed same writes | inr rose ↦ absurd (rose.1 late) ];
+      memory = λ e. (unwritten writes, no_input reads);
     }) (λ told. record {
       part = part told;
       pause = λ out e. absurd (omega (arith, e));
@@ -309,7 +309,7 @@ module _ {C : Type 0} (says_of : Option C → Says) (request : Option C) (before
         ]
 
     -- memory ran out behind the beginning of a report
-    pub ends_short : (text : List ℕ) → Reads → after.stream.faults ≡ before.stream.faults → (IsTrue before.folder.tells → Begins says before.folder.held text)
+    pub ends_short : (text : List ℕ) → Reads → after.stream.faults ≡ before.stream.faults → (KnowsIt → Begins says before.folder.held text)
         → (IsTrue before.stream.tells → WritesPrefix text before.stream.written after.stream.written) → CallEnds says_of request before after 6 []
     ends_short text reads writes begins prefix = ends_without_memory reads writes (λ told out.
         let b = begins told in
@@ -317,20 +317,20 @@ module _ {C : Type 0} (says_of : Option C → Says) (request : Option C) (before
         begun_part text b (record { count = p.count; within = omega (arith, p.within, length-append text (b.rest ++ b.report.last)); written = p.written ∙ ap (λ t. before.stream.written ++ t) (sym (take-append-le p.count text (b.rest ++ b.report.last) p.within)) }))
 
     -- a write has failed in the body of the report
-    pub ends_unwritten : (text : List ℕ) → request ≢ None → Rose before.stream.faults after.stream.faults → Breaks text before.stream after.stream
-        → (IsTrue before.folder.tells → Begins says before.folder.held text) → CallEnds says_of request before after 4 []
-    ends_unwritten text form rose breaks begins = ends_refused 4 knows.keeps has_left (λ none. absurd (form none)) (record {
+    pub ends_unwritten : (text : List ℕ) → request ≢ None → Reads → Rose before.stream.faults after.stream.faults → Breaks text before.stream after.stream
+        → (KnowsIt → Begins says before.folder.held text) → CallEnds says_of request before after 4 []
+    ends_unwritten text form reads rose breaks begins = ends_refused 4 knows.keeps has_left (λ none. absurd (form none)) (record {
       refused = inr (inl refl);
       read_fault = λ e. absurd (omega (arith, e));
-      write_fault = λ e. inl rose;
+      write_fault = λ e. (inl (knows.appends, rose), no_input reads);
       memory = λ e. absurd (omega (arith, e));
-      memory_alone = λ e. absurd (omega (arith, e));
     }) (λ told.
         let b = begins told in
         record {
           part = λ out. begun_part text b (a_part_of_a_text_is_a_front text (b.rest ++ b.report.last) before.stream.written after.stream.written (breaks.written out));
           pause = λ out e. absurd (omega (arith, e));
           stop = λ e. inl (record {
+            appends = knows.appends;
             report = b.report;
             has = b.has;
             some = omega (arith, breaks.some, ap length b.body, length-append text b.rest);
@@ -341,16 +341,15 @@ module _ {C : Type 0} (says_of : Option C → Says) (request : Option C) (before
         (λ out e. absurd (omega (arith, e)))
 
     -- a read has failed behind the beginning of a report
-    pub ends_unread : (text : List ℕ) → request ≢ None → ReadRose stages before after → after.stream.faults ≡ before.stream.faults → (IsTrue before.stream.tells → IsWritten text before after)
-        → (IsTrue before.folder.tells → (text ≡ []) ⊎ Begins says before.folder.held text)
-        → (IsTrue before.folder.tells → (report : Report) → says.report before.folder.held [] report → Contains report.pauses text)
-        → (says.late [] → text ≡ []) → CallEnds says_of request before after 3 []
-    ends_unread text form rose writes written begins pauses quiet = ends_refused 3 knows.keeps has_left (λ none. absurd (form none)) (record {
+    pub ends_unread : (text : List ℕ) → request ≢ None → (rose : ReadRose stages before after) → after.stream.faults ≡ before.stream.faults → (IsTrue before.stream.tells → IsWritten text before after)
+        → (KnowsIt → (text ≡ []) ⊎ Begins says before.folder.held text)
+        → (KnowsIt → (report : Report) → says.report before.folder.held [] report → Contains report.pauses text)
+        → says.preceded [] stages (reading rose.name) ⊎ (text ≡ []) → CallEnds says_of request before after 3 []
+    ends_unread text form rose writes written begins pauses silent = ends_refused 3 knows.keeps has_left (λ none. absurd (form none)) (record {
       refused = inl refl;
       read_fault = λ e. (unwritten writes, inl rose);
       write_fault = λ e. absurd (omega (arith, e));
       memory = λ e. absurd (omega (arith, e));
-      memory_alone = λ e. absurd (omega (arith, e));
     }) (λ told. record {
       part = λ out. elim (begins told) [
         | inl none ↦ inl (written out ∙ ap (λ t. before.stream.written ++ t) none)
@@ -358,18 +357,21 @@ module _ {C : Type 0} (says_of : Option C → Says) (request : Option C) (before
       ];
       pause = λ out e. (text, written out, pauses told);
       stop = λ e. absurd (omega (arith, e));
-    }) (λ out e all. written out ∙ ap (λ t. before.stream.written ++ t) (quiet all) ∙ append-nil before.stream.written)
+    }) (λ out e. elim silent [
+      | inl early ↦ inl (inl (rose, early))
+      | inr none ↦ inr (written out ∙ ap (λ t. before.stream.written ++ t) none ∙ append-nil before.stream.written)
+    ])
 
     -- its reader has stopped behind the beginning of a report, which was printed, or could not be
-    module _ (text : List ℕ) (form : request ≢ None) (begins : IsTrue before.folder.tells → Begins says before.folder.held text) where
+    module _ (text : List ℕ) (form : request ≢ None) (begins : KnowsIt → Begins says before.folder.held text) where
       short_of : (status : Status) → status ≡ OutOfMemory → Reads → after.stream.faults ≡ before.stream.faults → (IsTrue before.stream.tells → WritesPrefix (text ++ []) before.stream.written after.stream.written)
           → CallEnds says_of request before after (status_number status) []
       short_of status is reads writes prefix =
           subst (λ (n : ℕ). CallEnds says_of request before after n []) (sym (ap status_number is))
           (ends_short text reads writes begins (λ out. subst (λ (t : List ℕ). WritesPrefix t before.stream.written after.stream.written) (append-nil text) (prefix out)))
 
-      unwritten_of : (status : Status) → status ≡ WriteFault → Rose before.stream.faults after.stream.faults → Breaks text before.stream after.stream → CallEnds says_of request before after (status_number status) []
-      unwritten_of status is rose breaks = subst (λ (n : ℕ). CallEnds says_of request before after n []) (sym (ap status_number is)) (ends_unwritten text form rose breaks begins)
+      unwritten_of : (status : Status) → status ≡ WriteFault → Reads → Rose before.stream.faults after.stream.faults → Breaks text before.stream after.stream → CallEnds says_of request before after (status_number status) []
+      unwritten_of status is reads rose breaks = subst (λ (n : ℕ). CallEnds says_of request before after n []) (sym (ap status_number is)) (ends_unwritten text form reads rose breaks begins)
 
       pub ends_stopped_short : (status : Status) → SameCounts before.folder.reads after.folder.reads → Printed text [] OutOfMemory status before.stream after.stream → CallEnds says_of request before after (status_number status) []
       ends_stopped_short status reads printed = elim printed.how [
@@ -377,33 +379,50 @@ module _ {C : Type 0} (says_of : Option C → Says) (request : Option C) (before
         | inr rest ↦ elim rest [
           | inl memory ↦ short_of status memory.0 (inl reads) memory.1 memory.2
           | inr failed ↦ elim failed [
-            | inl broken ↦ unwritten_of status broken.0 broken.1 broken.2
+            | inl broken ↦ unwritten_of status broken.0 (inl reads) broken.1 broken.2
             | inr line ↦ absurd (omega (arith, line.2))
           ]
         ]
       ]
 
-      pub ends_stopped_unread : (status : Status) → ReadRose stages before after
-          → (IsTrue before.folder.tells → (report : Report) → says.report before.folder.held [] report → Contains report.pauses text)
-          → (says.late [] → ⊥) → Printed text [] ReadFault status before.stream after.stream → CallEnds says_of request before after (status_number status) []
+      pub ends_stopped_unread : (status : Status) → (rose : ReadRose stages before after)
+          → (KnowsIt → (report : Report) → says.report before.folder.held [] report → Contains report.pauses text)
+          → says.preceded [] stages (reading rose.name) → Printed text [] ReadFault status before.stream after.stream → CallEnds says_of request before after (status_number status) []
       ends_stopped_unread status rose pauses early printed = elim printed.how [
         | inl all ↦ subst (λ (n : ℕ). CallEnds says_of request before after n []) (sym (ap status_number all.0))
-            (ends_unread text form rose all.1 (λ out. all.2 out ∙ ap (λ t. before.stream.written ++ t) (append-nil text)) (λ told. inr (begins told)) pauses (λ late. absurd (early late)))
+            (ends_unread text form rose all.1 (λ out. all.2 out ∙ ap (λ t. before.stream.written ++ t) (append-nil text)) (λ told. inr (begins told)) pauses (inl early))
         | inr rest ↦ elim rest [
           | inl memory ↦ short_of status memory.0 (inr (rose, early)) memory.1 memory.2
           | inr failed ↦ elim failed [
-            | inl broken ↦ unwritten_of status broken.0 broken.1 broken.2
+            | inl broken ↦ unwritten_of status broken.0 (inr (rose, early)) broken.1 broken.2
             | inr line ↦ absurd (omega (arith, line.2))
           ]
         ]
       ]
 
     module _ (number : ℕ) (body last : List ℕ) (form : IsOfForm request number body) (is : IsDue says before number body last) where
+      -- body and line were printed; or a write of this line has failed
+      abbrev PrintsParts : Type 0
+      PrintsParts = PrintsReport (record { body = body; last = last; pauses = [] }) before after number
+
+      of_parts : (p : HasParts says before.folder.held body last) → PrintsParts → PrintsReport p.report before after number
+      of_parts p prints = elim prints [
+        | inl all ↦ inl (all.0, all.1 ∙ ap (λ t. before.stream.written ++ t) (sym (parts_text says before.folder.held body last p)))
+        | inr line ↦ inr (
+          line.0,
+          line.1,
+          line.2,
+          subst (λ (b : List ℕ). EndsInLine b p.report.last before.stream.written after.stream.written) (sym p.body)
+              (subst (λ (l : List ℕ). EndsInLine body l before.stream.written after.stream.written) (sym p.last) line.3),
+        )
+      ]
+
       -- the event decides, whether or not its line was printed whole
-      ends_due : (IsTrue before.stream.tells → IsClean stages before after number → IsWritten (body ++ last) before after)
+      ends_due : SameCounts before.folder.reads after.folder.reads
+          → (IsTrue before.stream.tells → PrintsParts)
           → (IsTrue before.stream.tells → WritesPrefix last (before.stream.written ++ body) after.stream.written)
           → ((number ≡ 0) ⊎ (number ≡ 8) → NoneFailed before after) → CallEnds says_of request before after number []
-      ends_due whole behind unmoved = ends number knows.keeps (record {
+      ends_due reads whole behind unmoved = ends number knows.keeps (record {
         due = λ told. inl (is.has told);
         possible = inl is.may;
         no_form = form.form;
@@ -411,25 +430,19 @@ module _ {C : Type 0} (says_of : Option C → Says) (request : Option C) (before
         read_fault = λ e. absurd (is.event.0 e);
         write_fault = λ e. absurd (is.event.1 e);
         memory = λ e. absurd (is.event.2 e);
-        memory_alone = λ e. absurd (is.event.2 e);
+        decided = λ unrefused. no_file_failed reads;
         unmoved = unmoved;
       }) (λ told.
           let p = is.parts told in
           record {
-            whole = λ out clean. (p.report, p.has, whole out clean ∙ ap (λ t. before.stream.written ++ t) (sym (parts_text says before.folder.held body last p)));
-            body = λ out other. (
-              p.report,
-              p.has,
-              subst (λ (b : List ℕ). WritesPrefix p.report.last (before.stream.written ++ b) after.stream.written) (sym p.body)
-                  (subst (λ (l : List ℕ). WritesPrefix l (before.stream.written ++ body) after.stream.written) (sym p.last) (behind out)),
-            );
+            whole = λ out unrefused. (p.report, p.has, of_parts p (whole out));
             part = λ out. parts_part body last p (front_behind body last before.stream.written after.stream.written (behind out));
             pause = λ out e. absurd (is.event.0 e);
             stop = λ e. absurd (is.event.1 e);
           }) (λ told.
           let m = knows.made told in
-          record { outputs = m.left.outputs; are = m.left.are; begun = m.left.begun; earlier = λ some. absurd (omega (arith, some)); whole = λ clean. m.made; others = m.left.others })
-          (λ out e quiet. absurd (is.event.0 e)) (λ told clean. is.whole told)
+          record { outputs = m.left.outputs; are = m.left.are; begun = m.left.begun; earlier = λ some. absurd (omega (arith, some)); whole = λ unrefused. m.made; others = m.left.others; unmade = m.left.unmade })
+          (λ out e. absurd (is.event.0 e)) (λ told unrefused. is.whole told)
 
       -- the words ask for something, where a body was to be printed
       has_form : 0 < length body → request ≢ None
@@ -441,16 +454,16 @@ module _ {C : Type 0} (says_of : Option C → Says) (request : Option C) (before
       ends_printed_as due status answer told reads printed =
           let ended = λ (n : ℕ). CallEnds says_of request before after n [] in
           elim printed.how [
-            | inl all ↦ subst ended (sym (told.event all.0)) (ends_due (λ out clean. all.2 out)
+            | inl all ↦ subst ended (sym (told.event all.0)) (ends_due reads (λ out. inl (all.1, all.2 out))
                 (λ out. whole_line body last before.stream.written after.stream.written (all.2 out)) (λ done. none_failed reads all.1))
             | inr rest ↦ elim rest [
               | inl memory ↦ subst ended (sym (told.memory memory.0)) (ends_without_memory (inl reads) memory.1 (λ t out. parts_part body last (is.parts t) (memory.2 out)))
               | inr failed ↦ elim failed [
-                | inl broken ↦ subst ended (sym (told.write broken.0)) (ends_unwritten body (has_form broken.2.some) broken.1 broken.2 (λ t. parts_begin says before.folder.held body last (is.parts t)))
+                | inl broken ↦ subst ended (sym (told.write broken.0)) (ends_unwritten body (has_form broken.2.some) (inl reads) broken.1 broken.2 (λ t. parts_begin says before.folder.held body last (is.parts t)))
                 | inr line ↦
                     let not_done : (number ≡ 0) ⊎ (number ≡ 8) → ⊥ = λ e. omega (arith, line.2, ap length (is.last e)) in
-                    subst ended (sym (told.event line.0)) (ends_due
-                    (λ out clean. elim clean [ inl e ↦ absurd (not_done (inl e)) | inr c ↦ absurd (c.1 (inl line.1)) ])
+                    subst ended (sym (told.event line.0)) (ends_due reads
+                    (λ out. inr (λ zero. not_done (inl zero), λ eight. not_done (inr eight), line.1, line.3 out))
                     (λ out. part_of_line body last before.stream.written after.stream.written (line.3 out)) (λ done. absurd (not_done done)))
               ]
             ]
@@ -466,13 +479,14 @@ module _ {C : Type 0} (says_of : Option C → Says) (request : Option C) (before
 pub only_read : {T E : Type 0} (failed : E) (result : Result T E) (file : List ℕ) (old new : DepotState) → OnlyReads {T = T} {E = E} failed result file old new → IsOnlyRead old new
 only_read failed result file old new reads = record { told = reads.told; kept = reads.kept; creates = reads.creates; appends = reads.appends }
 
-pub makes_nothing : (says : Says) (before after : Outside) → says.outputs before.folder.held [] [] → SameHeld before.folder.held after.folder.held → HasMade says before after
-makes_nothing says before after outputs kept = record {
+pub makes_nothing : (says : Says) (before after : Outside) (stages : List Stage) → says.outputs before.folder.held [] [] → SameHeld before.folder.held after.folder.held → HasMade says before after stages
+makes_nothing says before after stages outputs kept = record {
   left = record {
     outputs = [];
     are = outputs;
     begun = λ k d within. absurd (omega (arith, within));
     others = λ name none. kept name;
+    unmade = λ name none. kept name;
   };
   made = λ k d within. absurd (omega (arith, within));
 }
@@ -491,16 +505,16 @@ knows_reading says stages before after are outputs lawful access withheld reads 
     folder_told = reads.told;
     stream_told = told;
   };
-  made = λ told. makes_nothing says before after outputs (reads.kept told);
+  made = λ told. makes_nothing says before after stages outputs (reads.kept told);
   creates = reads.creates;
   appends = reads.appends;
 }
 
 -- that reads one file
-pub knows_file : (file : List ℕ) (prints : Option (List ℕ) → Report → Type 0) (due : Option (List ℕ) → ℕ → Type 0) (quiet : Type 0) (before after : Outside)
-    → IsOnlyRead before.folder after.folder → after.stream.tells ≡ before.stream.tells → Knows (reading_says file prints due quiet) before after (reading_stage file ∷ [])
-knows_file file prints due quiet before after reads told =
-    knows_reading (reading_says file prints due quiet) (reading_stage file ∷ []) before after (refl, refl) refl refl tt tt reads told
+pub knows_file : (file : List ℕ) (prints : Option (List ℕ) → Report → Type 0) (due : Option (List ℕ) → ℕ → Type 0) (early : Type 0) (before after : Outside)
+    → IsOnlyRead before.folder after.folder → after.stream.tells ≡ before.stream.tells → Knows (reading_says file prints due early) before after (reading_stage file ∷ [])
+knows_file file prints due early before after reads told =
+    knows_reading (reading_says file prints due early) (reading_stage file ∷ []) before after (refl, refl) refl refl tt tt reads told
 
 -- ---- words that are no form
 

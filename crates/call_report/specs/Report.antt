@@ -9,7 +9,7 @@ Folder = List ℕ → Option (List ℕ)
 abbrev pub Versions : Type 0
 Versions = List (List (List ℕ))
 
--- What is printed before the event that decides how the call ends, and the line of that event, if it has one; and what may stand there where a read of an input or the making of an output fails.
+-- What is printed before the event that decides how the call ends, and the line of that event, if it has one; and all that may stand there where a read of an input fails, the making of an output, or an append to it.
 pub record Report : Type 0 where
   pub body : List ℕ
   pub last : List ℕ

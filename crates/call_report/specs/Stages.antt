@@ -14,11 +14,6 @@ reading_stage file = record { input = Some file; output = None }
 abbrev pub making_stage : List ℕ → Stage
 making_stage file = record { input = None; output = Some file }
 
--- the file that is read first, if one is
-abbrev pub named_input : List Stage → Option (List ℕ)
-named_input [] = None
-named_input (stage ∷ stages) = stage.input
-
 -- the file that the last stage reads
 abbrev pub input_in_hand : List Stage → Option (List ℕ)
 input_in_hand [] = None

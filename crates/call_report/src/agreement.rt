@@ -93,7 +93,7 @@ fn level_or_category(level: bool) -> &'static str
     if level { "level" } else { "category" }
 }
 
-/// Whether each two neighbouring hops agree.
+/// Whether every two neighbouring hops agree.
 #[tactic(auto, unfolding(crate::specs::Lines::Agreement::agreement_line))]
 pub fn agree_or_disagree(agree: bool) -> &'static [u8]
     ensures { result.now ≡ agreement_line agree }

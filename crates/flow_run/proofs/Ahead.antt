@@ -1,14 +1,14 @@
 -- Packets that are read ahead.
-use Rattle.std.proofs.Common.{◌≡◌, ℕ, ◌≤◌, Bool, true, false, IsTrue, All, List, [], ◌++◌, length, take, drop, map, Option, Some, None, refl, sym, ap, subst, ◌∙◌, append_assoc, arith, inl}
+use Rattle.std.proofs.Common.{◌≡◌, ℕ, ◌+◌, ◌-◌, ◌≤◌, Bool, true, false, IsTrue, All, List, [], ◌++◌, length, take, drop, map, Option, Some, None, refl, sym, ap, subst, ◌∙◌, append_assoc, arith, inl}
 use Rattle.std.proofs.lemmas.List.{map-append}
-use Rattle.std.proofs.lemmas.List.Elements.{All-append}
+use Rattle.std.proofs.lemmas.List.Elements.{All-append, All-nil}
 use Rattle.net_io.specs.Depot.{DepotState}
 use Rattle.pcap_frames.specs.declared.record.FrameHead.{FrameHead}
 use Rattle.packet_walk.specs.declared.packet.PacketIn.{PacketIn}
 use Rattle.capture_reader.specs.Frame.{CapturedFrame, packet_in}
 use Rattle.capture_reader.specs.Reader.{file_name_of}
 use Rattle.flow_run.specs.declared.source.Source.{Source}
-use Rattle.flow_run.specs.inside.Source.{packets_left, frames_left, heads_left, left_in, read_into, file_of, in_front, HasGot, HasOnlyRead, HasStepped, IsAhead}
+use Rattle.flow_run.specs.inside.Source.{packets_left, frames_left, heads_left, left_in, read_into, due_in, file_of, in_front, HasGot, HasOnlyRead, HasStepped, IsAhead}
 use Rattle.flow_run.proofs.Places.{none_read}
 use Rattle.flow_run.proofs.Reading.{same_file}
 
@@ -58,10 +58,13 @@ module _ (a b : DepotState) (s s' : Source) (next next' : List PacketIn) (only :
       (packets_kept a.tells b.tells s' (file_of a s) (file_of b s') only.told (same_file s'.behind a b s s' only got.same.name))
       ∙ left_got a.tells (file_of a s) s s' (read_into s next) (read_into s' next') got
 
-  pub stepped_ahead : s.behind ≡ None → HasStepped s s' a b
-  stepped_ahead none = record {
+  pub stepped_ahead : s.behind ≡ None → length s'.heads.items + s.read ≡ length s.heads.items + s'.read → HasStepped s s' a b
+  stepped_ahead none counted = record {
     same = got.same;
     heads = times_got a.tells (file_of a s) s s' (read_into s next) (read_into s' next') got;
+    counted =
+        let due : due_in s' ≡ due_in s = ap (λ n. length s'.fetched.items - n) got.fetched.at ∙ ap (λ (ts : List FrameHead). length ts - s.at) got.fetched.times in
+        omega (arith, due, counted);
     moved = inl (none, only);
   }
 
@@ -86,6 +89,14 @@ pub left_unread : (folder : DepotState) (source : Source) (next : List PacketIn)
 left_unread folder source next none =
     let left = packets_left folder.tells source (file_of folder source) in
     ap (λ (ps : List PacketIn). in_front ps left) (none_read source.heads.items next none) ∙ none_in_front left
+
+-- and nothing stands in these places yet
+pub unread_ahead : (source : Source) (next : List PacketIn) → source.heads.items ≡ [] → IsAhead source next
+unread_ahead source next none = record {
+  places = omega (arith, ap length none);
+  few = omega (arith, ap length none);
+  short = subst (λ (ps : List PacketIn). All (λ (p : PacketIn). length p.bytes ≤ 262144) ps) (sym (none_read source.heads.items next none)) (All-nil _);
+}
 
 -- a source that has as many times leaves what was read ahead
 pub same_ahead : (s s' : Source) (next : List PacketIn) → s'.heads.items ≡ s.heads.items → IsAhead s next → IsAhead s' next

@@ -42,7 +42,7 @@ use Rattle.flow_run.specs.declared.source.Behind.{Behind}
 use Rattle.flow_run.specs.declared.source.Behind.TheVariants as the_behind
 use Rattle.flow_run.specs.Input.{FlowInput, input_by, flow_input}
 use Rattle.flow_run.specs.Run.{FlowRun, is_judged, is_denied, walked_lines, run_text, run_end, kept_frames, passed_in, denied_in}
-use Rattle.flow_run.specs.Ends.{IsHandedOn, IsPrinted, IsEnd, HasEnded, HasMade, RanShort, IsCause, IsRunOf, HasSteps, FlowEnds}
+use Rattle.flow_run.specs.Ends.{IsHandedOn, IsPrinted, IsEnd, HasEnded, HasMade, HasReadInput, IsCause, IsRunOf, HasSteps, FlowEnds}
 use Rattle.flow_run.specs.inside.Output.{IsAppended, HasHead}
 use Rattle.flow_run.specs.inside.Source.{frames_left, packets_left, heads_left, file_of, StandsBy, IsAtEnd, event_of, is_end, ReadsMove, IsFed}
 use Rattle.flow_run.specs.inside.Taken.{Moment, IsPrintedTo, kept_by, IsMoved, outside_of, HasTaken}
@@ -132,12 +132,15 @@ module _ (plan : PlanState) (names : List (List ℕ)) (workers number most upto 
   faults_same : after.stream ≡ before.stream → before.stream.faults ≤ after.stream.faults
   faults_same same = omega (arith, ap (λ (s : SinkState). s.faults) same)
 
-  ran_short : after.folder ≡ before.folder → after.stream ≡ before.stream → RanShort flow before after
-  ran_short folder stream = record {
-    reads = inl (λ name. ap (λ (d : DepotState). d.reads name) folder);
-    creates = λ name. ap (λ (d : DepotState). d.creates name) folder;
-    written = record { writes = ap (λ (s : SinkState). s.faults) stream; appends = λ name. ap (λ (d : DepotState). d.appends name) folder };
-  }
+  -- memory ran out: nothing has failed but a read of the input
+  abbrev RanShort : Type 0
+  RanShort = NoWriteFailed before after × HasReadInput flow before after
+
+  ran_short : after.folder ≡ before.folder → after.stream ≡ before.stream → RanShort
+  ran_short folder stream = (
+    record { writes = ap (λ (s : SinkState). s.faults) stream; appends = λ name. ap (λ (d : DepotState). d.appends name) folder },
+    record { reads = inl (λ name. ap (λ (d : DepotState). d.reads name) folder); creates = λ name. ap (λ (d : DepotState). d.creates name) folder },
+  )
 
   -- memory runs out for its line
   pub ends_lineless : after.folder ≡ before.folder → after.stream ≡ before.stream → FlowEnds plan names workers number most upto flow before after waits waits' [] (Stopped the_stop.OutOfMemory)
@@ -169,7 +172,7 @@ module _ (plan : PlanState) (names : List (List ℕ)) (workers number most upto 
         (faults_same stream) folder_told (ap (λ (s : SinkState). s.tells) stream)
 
     -- memory runs out behind its line
-    pub ends_early : RanShort flow before after → FlowEnds plan names workers number most upto flow before after waits waits' [] (Stopped the_stop.OutOfMemory)
+    pub ends_early : RanShort → FlowEnds plan names workers number most upto flow before after waits waits' [] (Stopped the_stop.OutOfMemory)
     ends_early short =
         early (Stopped the_stop.OutOfMemory) (λ told. tt) (λ told. cut_off _ _ _ _ _ (line_waits waits_are stream)) (λ told. unmade the_stop.OutOfMemory (kept told)) tt short still
         (faults_same stream) folder_told (ap (λ (s : SinkState). s.tells) stream)
@@ -305,8 +308,10 @@ moved_outside flow (Some the_stop.Read) was now before after a f a' f' moved = u
 moved_outside flow (Some the_stop.Create) was now before after a f a' f' moved = absurd moved
 moved_outside flow (Some the_stop.Append) was now before after a f a' f' moved =
     (moved.0, moved.1, subst (λ (n : ℕ). Rose n (after.folder.appends moved.0)) (a moved.0) (subst (λ (n : ℕ). Rose (was.folder.appends moved.0) n) (sym (a' moved.0)) moved.2))
-moved_outside flow (Some the_stop.Print) was now before after a f a' f' moved =
-    subst (λ (n : ℕ). Rose n after.stream.faults) f (subst (λ (n : ℕ). Rose was.stream.faults n) (sym f') moved)
+moved_outside flow (Some the_stop.Print) was now before after a f a' f' moved = (
+  subst (λ (n : ℕ). Rose n after.stream.faults) f (subst (λ (n : ℕ). Rose was.stream.faults n) (sym f') moved.0),
+  λ name. a' name ∙ moved.1 name ∙ a name,
+)
 moved_outside flow (Some the_stop.OutOfMemory) was now before after a f a' f' moved = unwritten_outside was now before after a f a' f' moved
 
 -- no read has failed, or one of this name
@@ -337,15 +342,18 @@ module _ (flow : FlowLine) (behind : Option Behind) (before after : Outside) (re
     writes = written.writes;
   }
 
+  has_read : HasReadInput flow before after
+  has_read = record { reads = reads_or_rose behind flow.input before.folder.reads after.folder.reads reads; creates = creates }
+
   cause_of : (end : FlowEnd) → IsBehind end behind → (stop_of end ≡ Some the_stop.Read → behind ≡ Some the_behind.Failed) → IsMoved flow (stop_of end) before after → IsCause flow end before after
   cause_of (GoesOn network replies) is failed moved = none_failed the_behind.Whole refl is moved
   cause_of (Broken fault) is failed moved = none_failed (the_behind.Broken fault) refl is moved
   cause_of TooMany is failed moved = none_failed the_behind.TooMany refl is moved
   cause_of (Stopped the_stop.Read) is failed moved = (subst (λ (b : Option Behind). ReadsMove b flow.input before.folder.reads after.folder.reads) (failed refl) reads, moved)
   cause_of (Stopped the_stop.Create) is failed moved = absurd moved
-  cause_of (Stopped the_stop.Append) is failed moved = moved
-  cause_of (Stopped the_stop.Print) is failed moved = moved
-  cause_of (Stopped the_stop.OutOfMemory) is failed moved = record { reads = reads_or_rose behind flow.input before.folder.reads after.folder.reads reads; creates = creates; written = moved }
+  cause_of (Stopped the_stop.Append) is failed moved = (moved.0, moved.1, moved.2, has_read)
+  cause_of (Stopped the_stop.Print) is failed moved = (moved.0, moved.1, has_read)
+  cause_of (Stopped the_stop.OutOfMemory) is failed moved = (moved, has_read)
 
 module _ (plan : PlanState) (names : List (List ℕ)) (workers number most upto : ℕ) (flow : FlowLine) (before : Outside) (was : Moment) (after : Outside) (waits waits' : List ℕ)
     (seen : List (List ℕ)) (end : FlowEnd) (start : IsStart flow most before.folder was.folder was.source was.octets) (stream : was.stream ≡ before.stream)
@@ -596,11 +604,13 @@ ends_uncreated plan names workers number most upto flow before after waits waits
     by_case the_stop.Append moved = absurd moved
     by_case the_stop.Print moved = absurd moved
     by_case the_stop.OutOfMemory moved =
-        ends_early plan names workers number most upto flow before after waits waits' low waits_are stream (created.told ∙ read.told) kept still (record {
-          reads = inl (λ name. created.reads name ∙ read.reads name);
-          creates = λ name. moved name ∙ read.creates name;
-          written = unwritten;
-        })
+        ends_early plan names workers number most upto flow before after waits waits' low waits_are stream (created.told ∙ read.told) kept still (
+          unwritten,
+          record {
+            reads = inl (λ name. created.reads name ∙ read.reads name);
+            creates = λ name. moved name ∙ read.creates name;
+          },
+        )
 
 -- ---- the beginning of the input
 
@@ -644,11 +654,13 @@ ends_unbegun plan names workers number most upto flow before after waits waits' 
     ends_unread plan names workers number most upto flow before after waits waits' low waits_are stream only.told only.kept (λ none. (only.creates, only.appends)) (only.reads.cause refl)
     (record { writes = ap (λ (s : SinkState). s.faults) stream; appends = only.appends })
 ends_unbegun plan names workers number most upto flow before after waits waits' read_stop.OutOfMemory low waits_are stream begun only =
-    ends_early plan names workers number most upto flow before after waits waits' low waits_are stream only.told only.kept (λ none. (only.creates, only.appends)) (record {
-      reads = inl (only.reads.still (λ failed. absurd cc));
-      creates = only.creates;
-      written = record { writes = ap (λ (s : SinkState). s.faults) stream; appends = only.appends };
-    })
+    ends_early plan names workers number most upto flow before after waits waits' low waits_are stream only.told only.kept (λ none. (only.creates, only.appends)) (
+      record { writes = ap (λ (s : SinkState). s.faults) stream; appends = only.appends },
+      record {
+        reads = inl (only.reads.still (λ failed. absurd cc));
+        creates = only.creates;
+      },
+    )
 
 -- a folder, a stream and a report that ended so
 pub behind_so : (place : FlowPlace) (source : Source) (begun : DepotState) (printed : SinkState) (lines : List ℕ) (folder folder' : DepotState) (stream stream' : SinkState) (still still' : List ℕ)

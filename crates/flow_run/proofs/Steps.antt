@@ -21,6 +21,7 @@ use Rattle.capture_reader.specs.Written.{file_frame, file_frames, IsTime}
 use Rattle.label_flow.specs.Pair.{PairState, pair}
 use Rattle.label_flow.specs.Schedule.{versions_in}
 use Rattle.call_report.specs.Lines.Flow.{walked_line}
+use Rattle.call_report.specs.Event.{packets_limit}
 use Rattle.call_report.specs.Outside.{NoWriteFailed}
 use Rattle.call_report.specs.Printing.{HandsOn}
 use Rattle.call_report.proofs.Law.{nothing_is_handed_on}
@@ -32,8 +33,9 @@ use Rattle.flow_run.specs.declared.source.Behind.TheVariants.{Whole, Broken, Too
 use Rattle.flow_run.specs.Run.{is_denied, passed_in, denied_in, walked_lines}
 use Rattle.flow_run.specs.Ends.{IsHandedOn}
 use Rattle.flow_run.specs.inside.Output.{IsAppended, IsThere, AppendsMove, HasAppended, frame_of}
-use Rattle.flow_run.specs.inside.Source.{IsSame, HasMoved, HasStepped, ReadsMove, pending, frames_left, heads_left, file_of, IsFed, IsAhead, StandsBy}
+use Rattle.flow_run.specs.inside.Source.{IsSame, HasMoved, HasStepped, ReadsMove, pending, frames_left, heads_left, file_of, due_in, IsFed, IsAhead, StandsBy}
 use Rattle.flow_run.specs.inside.Taken.{Moment, Outlets, outlets_at, IsPrintedTo, print_stop, HasHanded, kept_by, IsMoved, outside_of, HasTaken, IsGoing}
+use Rattle.flow_run.specs.inside.Flown.{IsFresh}
 use Rattle.flow_run.proofs.Outputs.{appended_more, appended_cut, appended_stops}
 use Rattle.flow_run.proofs.Prints.{cut_off, print_fails, print_goes, lines_more}
 use Rattle.flow_run.proofs.Reading.{reads_more, same_more, stands_same, readable_kept}
@@ -154,7 +156,8 @@ moved_more flow (Some the_stop.OutOfMemory) was now new before more faults = sti
 
 moved_print : (flow : FlowLine) (fault : IoFault) (was now new : Moment) → IsMoved flow None (outside_of was) (outside_of now)
     → Counts {T = Unit {0}} io.Failed (Err fault) now.stream.faults new.stream.faults → new.folder ≡ now.folder → IsMoved flow (Some (print_stop fault)) (outside_of was) (outside_of new)
-moved_print flow io.Failed was now new before counts folder = rose_same _ _ _ before.writes (counts.cause refl)
+moved_print flow io.Failed was now new before counts folder =
+    (rose_same _ _ _ before.writes (counts.cause refl), λ name. ap (λ (d : DepotState). d.appends name) folder ∙ before.appends name)
 moved_print flow io.OutOfMemory was now new before counts folder =
     still_unwritten was now new before (λ name. ap (λ (d : DepotState). d.appends name) folder) (counts.still (λ failed. absurd cc))
 
@@ -473,25 +476,67 @@ module _ (flow : FlowLine) (now new : Moment) (stop : Option FlowStop) (text fra
       (λ told. handed_others stop text flow.output frame (outlets_at now) (outlets_at new) handed told (file_name_of now.source.reader) (λ is. going.apart (is ∙ ap Some going.input)))
       reader most read behind heads fetched fed
 
-  going_handed : (versions : List ℕ) (denied : Bool) → new.seen ≡ now.seen ++ versions ∷ [] → new.passed ≡ now.passed + cond denied 0 1 → new.denied ≡ now.denied + cond denied 1 0 → IsGoing flow new
-  going_handed versions denied seen passed more = record {
+  going_handed : new.source.most ≡ now.source.most → new.source.read ≡ now.source.read → new.source.heads.items ≡ now.source.heads.items → new.source.fetched.items ≡ now.source.fetched.items
+      → new.source.at ≡ now.source.at + 1 → 0 < due_in now.source → (versions : List ℕ) (denied : Bool) → new.seen ≡ now.seen ++ versions ∷ []
+      → new.passed ≡ now.passed + cond denied 0 1 → new.denied ≡ now.denied + cond denied 1 0 → IsGoing flow new
+  going_handed most read heads fetched at due versions denied seen passed more = record {
     input = ap file_name_of reader ∙ going.input;
     apart = going.apart;
     present = handed_there stop text flow.output frame (outlets_at now) (outlets_at new) handed going.present;
     counts = omega (arith, going.counts, ap length seen, length-append now.seen (versions ∷ []), passed, more, one_counts denied);
+    accepted =
+        omega (arith, going.accepted, ap length seen, length-append now.seen (versions ∷ []), read, ap length heads, ap length fetched, at, due);
+    few = omega (arith, going.few, most);
   }
 
 pub ready_handed : (flow : FlowLine) (now new : Moment) (next : List PacketIn) (stop : Option FlowStop) (text frame : List ℕ) (versions : List ℕ) (denied : Bool)
     → IsFed now.folder now.source × IsGoing flow now × IsAhead now.source next
     → new.source.reader ≡ now.source.reader → new.source.most ≡ now.source.most → new.source.read ≡ now.source.read → new.source.behind ≡ now.source.behind
-    → new.source.heads.items ≡ now.source.heads.items → new.source.fetched.items ≡ now.source.fetched.items
+    → new.source.heads.items ≡ now.source.heads.items → new.source.fetched.items ≡ now.source.fetched.items → new.source.at ≡ now.source.at + 1 → 0 < due_in now.source
     → new.seen ≡ now.seen ++ versions ∷ [] → new.passed ≡ now.passed + cond denied 0 1 → new.denied ≡ now.denied + cond denied 1 0
     → HasHanded stop text flow.output frame (outlets_at now) (outlets_at new) → IsFed new.folder new.source × IsGoing flow new × IsAhead new.source next
-ready_handed flow now new next stop text frame versions denied ready reader most read behind heads fetched seen passed more handed = (
+ready_handed flow now new next stop text frame versions denied ready reader most read behind heads fetched at due seen passed more handed = (
   fed_handed flow now new stop text frame ready.1 handed reader ready.0 most read behind heads fetched,
-  going_handed flow now new stop text frame ready.1 handed reader versions denied seen passed more,
+  going_handed flow now new stop text frame ready.1 handed reader most read heads fetched at due versions denied seen passed more,
   same_ahead now.source new.source next heads ready.2,
 )
+
+-- ---- what a feed needs, behind a fetch
+
+there_moved : (output : Option (List ℕ)) (a b : DepotState) (old new : Source) → HasMoved old new a b → IsThere output a → IsThere output b
+there_moved output a b old new (inl one) there =
+    λ told name is.
+    let told' = subst IsTrue one.1.told told in
+    let held = there told' name is in
+    (held.0, one.1.kept told' name ∙ held.1)
+there_moved output a b old new (inr stays) there = subst (λ (d : DepotState). IsThere output d) (sym stays.1) there
+
+pub going_stepped : (flow : FlowLine) (now new : Moment) → IsGoing flow now → HasStepped now.source new.source now.folder new.folder → new.seen ≡ now.seen → new.passed ≡ now.passed
+    → new.denied ≡ now.denied → IsGoing flow new
+going_stepped flow now new going stepped seen passed denied = record {
+  input = stepped.same.name ∙ going.input;
+  apart = going.apart;
+  present = there_moved flow.output now.folder new.folder now.source new.source stepped.moved going.present;
+  counts = omega (arith, going.counts, ap length seen, passed, denied);
+  accepted = omega (arith, going.accepted, stepped.counted, ap length seen);
+  few = omega (arith, stepped.same.most, going.few);
+}
+
+-- at its start nothing was accepted
+pub going_fresh : (flow : FlowLine) (most : ℕ) (now : Moment) → IsFresh flow.input most now.source → most ≤ packets_limit → flow.output ≢ Some flow.input → IsThere flow.output now.folder
+    → now.seen ≡ [] → now.passed ≡ 0 → now.denied ≡ 0 → IsGoing flow now
+going_fresh flow most now fresh few apart present seen passed denied = record {
+  input = fresh.name;
+  apart = apart;
+  present = present;
+  counts = omega (arith, ap length seen, passed, denied);
+  accepted = omega (arith, ap length seen, ap length fresh.heads, ap length fresh.fetched);
+  few = omega (arith, fresh.most_is, few);
+}
+
+-- there is room for one more packet where one is to be accepted
+pub room_accepted : (flow : FlowLine) (now : Moment) → IsFed now.folder now.source → IsGoing flow now → 0 < due_in now.source → length now.seen < 1048576
+room_accepted flow now fed going due = omega (arith, fed.within, going.accepted, going.few, due)
 
 -- the first time that isn't used yet
 pub head_first : (source : Source) (d : FrameHead) (file : List ℕ) → source.at < length source.fetched.items → d ≡ get_or source.fetched.items source.at d

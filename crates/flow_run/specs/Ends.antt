@@ -60,21 +60,22 @@ pub record HasMade (run : FlowRun) (end : FlowEnd) (before after : List ℕ → 
   pub made : HasEnded end → (output : Output) → run_output run ≡ Some output → IsMade output before after
   pub others : (name : List ℕ) → run.flow.output ≢ Some name → after name ≡ before name
 
--- Memory ran out: no making, no write and no append has failed, and no read, unless one of the input behind the packets that were judged.
-pub record RanShort (flow : FlowLine) (before after : Outside) : Type 0 where
+-- No making has failed, and no read, unless one of the input after the packets that were judged.
+pub record HasReadInput (flow : FlowLine) (before after : Outside) : Type 0 where
   pub reads : SameCounts before.folder.reads after.folder.reads ⊎ Rose (before.folder.reads flow.input) (after.folder.reads flow.input)
   pub creates : SameCounts before.folder.creates after.folder.creates
-  pub written : NoWriteFailed before after
 
 -- The numbers of faults: what stopped it has its number risen, and none has moved where nothing stopped it. Where a read or the making of the output
--- has failed, no write and no append has.
+-- has failed, or memory ran out, no write and no append has; where a write has, no append.
 abbrev pub IsCause : FlowLine → FlowEnd → Outside → Outside → Type 0
 IsCause flow (Stopped stop.Read) before after = Rose (before.folder.reads flow.input) (after.folder.reads flow.input) × NoWriteFailed before after
 IsCause flow (Stopped stop.Create) before after =
     (name : List ℕ) × (flow.output ≡ Some name) × Rose (before.folder.creates name) (after.folder.creates name) × NoWriteFailed before after
-IsCause flow (Stopped stop.Append) before after = (name : List ℕ) × (flow.output ≡ Some name) × Rose (before.folder.appends name) (after.folder.appends name)
-IsCause flow (Stopped stop.Print) before after = Rose before.stream.faults after.stream.faults
-IsCause flow (Stopped stop.OutOfMemory) before after = RanShort flow before after
+IsCause flow (Stopped stop.Append) before after =
+    (name : List ℕ) × (flow.output ≡ Some name) × Rose (before.folder.appends name) (after.folder.appends name) × HasReadInput flow before after
+IsCause flow (Stopped stop.Print) before after =
+    Rose before.stream.faults after.stream.faults × SameCounts before.folder.appends after.folder.appends × HasReadInput flow before after
+IsCause flow (Stopped stop.OutOfMemory) before after = NoWriteFailed before after × HasReadInput flow before after
 IsCause flow end before after = NoneFailed before after
 
 -- How a flow has run, where the folder tells what it holds: the flow of this number, of which so many packets may be read, with so many workers

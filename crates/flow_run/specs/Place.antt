@@ -4,10 +4,11 @@ use Rattle.flow_lines.specs.Hop.{node_of}
 use Rattle.node_tables.specs.Tables.{TableState}
 use Rattle.node_tables.specs.Steps.{tables_after}
 use Rattle.shared_tables.specs.Plan.{PlanState}
+use Rattle.call_report.specs.Event.{packets_limit}
 use Rattle.flow_run.specs.declared.end.FlowPlace.{FlowPlace}
 
 -- A flow stands at a place of its script: each node that it or a step names is there, its steps stand between those above it and the script's end,
--- there are 1 to 16 workers, and it doesn't write to what it reads.
+-- there are 1 to 16 workers, no more packets may be read than one call reads, and it doesn't write to what it reads.
 pub record StandsAt (place : FlowPlace) : Type 0 where
   pub workers : (0 < place.workers) × (place.workers ≤ 16)
   pub nodes : length place.names.now ≤ 32
@@ -15,6 +16,7 @@ pub record StandsAt (place : FlowPlace) : Type 0 where
   pub step_nodes : All (λ step. step.node < length place.names.now) place.steps.now
   pub hop_nodes : All (λ hop. node_of hop < length place.names.now) place.flow.now.hops
   pub beside : (place.flow.now.before ≤ place.upto) × (place.upto ≤ length place.steps.now)
+  pub most : place.most ≤ packets_limit
   pub apart : place.flow.now.output ≢ Some place.flow.now.input
 
 -- all steps of the script, on its nodes

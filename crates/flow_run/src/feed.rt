@@ -18,10 +18,8 @@ use label_flow::{Feed, PacketIn, Walked};
 use net_io::{Depot, IoFault, Sink};
 use std::alloc::Global;
 
-/// The most hops of a flow, and more packets than a call reads.
+/// The most hops of a flow, and so the most versions that a walk has: its type keeps no more.
 const HOPS: usize = 16;
-
-const PACKETS: usize = 1 << 27;
 
 /// Reads the packets of a flow, and gives what became of them to the report and the output.
 #[derive(Drop)]
@@ -45,13 +43,13 @@ pub struct RunFeed<'d, 'o, 'r, 'f, D, S> {
 
 // The versions of a packet are kept.
 fn keep_versions(seen: &mut FlowSeen, walked: &Walked) -> Result<(), FlowStop>
+    requires { length seen.old < 1048576 }
     ensures ok { OnOk result (seen.new ≡ seen.old ++ walked.now.versions ∷ []) }
-    ensures room { OnOk result (length seen.old < 2 ^ 27) }
     ensures err { OnErr result (seen.new ≡ seen.old) }
     ensures stop { IfErr result (λ stop. stop ≡ NoMemoryStop) }
 {
     let versions = walked.versions.as_slice();
-    if versions.len() > HOPS || seen.len() >= PACKETS {
+    if versions.len() > HOPS {
         return Err(FlowStop::OutOfMemory);
     }
     match seen.push(versions) {

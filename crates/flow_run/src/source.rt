@@ -124,6 +124,7 @@ fn read_one<D: Depot>(
     ensures last { result ≡ false → IsSome source.new.behind }
     ensures count { length source.new.heads.items
         ≡ length source.old.heads.items + (if result then 1 else 0) }
+    ensures read { source.new.read ≡ source.old.read + (if result then 1 else 0) }
     ensures places { length source.new.heads.items ≤ length batch.new.items }
 {
     if !has_place(alloc, batch, &mut source.heads) {
@@ -170,6 +171,8 @@ fn fill<D: Depot>(alloc: Global, depot: &mut D, source: &mut Source, batch: &mut
         source.old source.new
         (read_into source.old batch.old.items) (read_into source.new batch.new.items) }
     ensures few { length source.new.heads.items ≤ 1024 }
+    ensures counted { length source.new.heads.items + source.old.read
+        ≡ length source.old.heads.items + source.new.read }
     ensures places { length source.new.heads.items ≤ length batch.new.items }
     ensures some { (0 < length source.new.heads.items) ⊎ IsSome source.new.behind }
 {

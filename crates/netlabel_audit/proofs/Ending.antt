@@ -2,7 +2,6 @@
 use Rattle.std.proofs.Common.{◌≡◌, ◌≢◌, ◌⊎◌, ℕ, Bool, true, false, List, [], ◌∷◌, length, Option, Some, None, Result, Ok, Err, refl, sym, ap, subst, ◌∙◌, arith, inl, inr}
 use Rattle.std.specs.Prelude.{IsTrue, IfErr, MatchBool, Contains, nat_lt}
 use Rattle.std.proofs.lemmas.List.{append-nil}
-use Rattle.net_io.specs.Depot.{SameHeld}
 use Rattle.net_io.specs.Faults.{Rose, SameCounts}
 use Rattle.net_io.specs.Sink.{SinkState}
 use Rattle.label_commands.specs.declared.script.Script.{Script}
@@ -23,7 +22,7 @@ use Rattle.call_report.specs.Status.{status_number}
 use Rattle.call_report.proofs.Law.{Knows, IsNumberOf, IsOfForm, asks, makes_nothing, knows_reading, ends_printed, ends_printed_as, ends_unread, ends_unprinted}
 use Rattle.script_input.specs.Ends.{HasScript}
 use Rattle.script_input.specs.ScriptFile.{script_read, ByAnswer, ByScript, script_stop_status}
-use Rattle.script_input.proofs.Law.{ReadsScript, in_file}
+use Rattle.script_input.proofs.Law.{ReadsScript, in_file, content_of, content_holds, content_told}
 use Rattle.label_audit.specs.Reads.{OnlyReadsAmong}
 use Rattle.label_audit.specs.declared.audited.Audited.{Audited}
 use Rattle.label_audit.specs.declared.audited.Audited.TheVariants.{Yes, NoLine}
@@ -96,6 +95,7 @@ module _ (asked : Audit) where
 
   pub audit_reads : ReadsScript says asked.script
   audit_reads = record {
+    depends = tt;
     knows = λ before after reads told. knows_reading says (reading_stage asked.script ∷ []) before after (refl, inl refl) refl refl tt tt reads told;
     refused = λ held text why holds is.
         let outcome = decided_by (script_stop_status why) (script_stop_line why) in
@@ -106,21 +106,6 @@ module _ (asked : Audit) where
   }
 
   -- ---- behind it
-
-  -- what a folder tells, or some content in which the script is this text
-  content_of : Bool → Folder → List ℕ → Folder
-  content_of true held text = held
-  content_of false held text = λ name. Some text
-
-  content_holds : (tells : Bool) (held : Folder) (text file : List ℕ) → (IsTrue tells → held file ≡ Some text) → content_of tells held text file ≡ Some text
-  unfolding content_of
-  content_holds true held text file holds = holds refl
-  content_holds false held text file holds = refl
-
-  content_told : (tells : Bool) (held : Folder) (text : List ℕ) → IsTrue tells → SameHeld held (content_of tells held text)
-  unfolding content_of
-  content_told true held text told = λ name. refl
-  content_told false held text told = absurd (let no : false ≡ true = told in cc)
 
   module _ (before mid after : Outside) (script : Script) (has : HasScript asked.script before mid script) where
     abbrev ended : ℕ → Type 0
@@ -171,7 +156,7 @@ module _ (asked : Audit) where
           folder_told = only.told;
           stream_told = told_stream;
         };
-        made = λ told. makes_nothing says before after refl (only.kept told);
+        made = λ told. makes_nothing says before after (in_hand file) refl (only.kept told);
         creates = only.creates;
         appends = only.appends;
       }
@@ -205,7 +190,7 @@ module _ (asked : Audit) where
             event = (other 3 (λ e. omega (arith, e)) (λ e. omega (arith, e)), other 4 (λ e. omega (arith, e)) (λ e. omega (arith, e)), other 6 (λ e. omega (arith, e)) (λ e. omega (arith, e)));
             has = λ told. (outcome, is_outcome outcome is told, refl);
             may = (has.text, subst (λ (r : Result Script ScriptStop). AuditMay r (status_number due)) (sym has.is) may);
-            parts = λ told. record { report = late_report [] line; has = (outcome, is_outcome outcome is told, refl); body = refl; last = refl };
+            parts = λ known. record { report = late_report [] line; has = (outcome, is_outcome outcome is (known tt), refl); body = refl; last = refl };
             last = λ e. elim e [
               | inl zero ↦ absurd (other 0 (λ e. omega (arith, e)) (λ e. omega (arith, e)) zero)
               | inr eight ↦ absurd (other 8 (λ e. omega (arith, e)) (λ e. omega (arith, e)) eight)
@@ -229,7 +214,7 @@ module _ (asked : Audit) where
             event = (other 3 (λ e. omega (arith, e)) (λ e. omega (arith, e)), other 4 (λ e. omega (arith, e)) (λ e. omega (arith, e)), other 6 (λ e. omega (arith, e)) (λ e. omega (arith, e)));
             has = λ told. (outcome, is_outcome outcome is told, refl);
             may = (has.text, subst (λ (r : Result Script ScriptStop). AuditMay r number) (sym has.is) (elim which [ inl z ↦ inl z | inr g ↦ inr (inr (inl g)) ]));
-            parts = λ told. record { report = late_report line []; has = (outcome, is_outcome outcome is told, refl); body = refl; last = refl };
+            parts = λ known. record { report = late_report line []; has = (outcome, is_outcome outcome is (known tt), refl); body = refl; last = refl };
             last = λ e. refl;
             whole = λ told. refl;
           })
@@ -243,12 +228,12 @@ module _ (asked : Audit) where
           let still : after.stream ≡ before.stream = same ∙ has.stream in
           subst ended (sym (ap status_number is))
           (ends_unread audit_says (Some asked) before after (in_hand file) (knows file among (ap (λ (s : SinkState). s.tells) still)) [] (λ e. absurd cc)
-          (record { name = file; counted = inr refl; rose = subst (λ (n : ℕ). Rose n (after.folder.reads file)) (has.counts file) rose })
+          (record { name = file; in_hand = refl; rose = subst (λ (n : ℕ). Rose n (after.folder.reads file)) (has.counts file) rose })
           (ap (λ (s : SinkState). s.faults) still)
           (λ out. ap (λ (s : SinkState). s.written) still ∙ sym (append-nil before.stream.written))
-          (λ told. inl refl)
-          (λ told report reported. nothing_in_front before.folder.held report reported)
-          (λ late. refl))
+          (λ known. inl refl)
+          (λ known report reported. nothing_in_front before.folder.held report reported)
+          (inr refl))
 
       by_memory : (status : Status) → status ≡ OutOfMemory → SameCounts mid.folder.reads after.folder.reads → after.stream ≡ mid.stream → ended (status_number status)
       by_memory status is same still =

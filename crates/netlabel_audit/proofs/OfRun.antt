@@ -1,5 +1,5 @@
 -- The audit of a report that a run has printed.
-use Rattle.std.proofs.Common.{◌≡◌, ◌≤◌, ◌<◌, ◌⊎◌, ℕ, ◌+◌, ◌-◌, Bool, true, false, nat_lt, List, [], ◌∷◌, length, cond, Option, Some, None, Result, Ok, Err, refl, sym, ap, subst, ◌∙◌, inl, inr}
+use Rattle.std.proofs.Common.{◌≡◌, ◌⊎◌, ℕ, ◌+◌, ◌-◌, Bool, true, false, nat_lt, List, [], ◌∷◌, length, cond, Option, Some, None, Result, Ok, Err, refl, sym, ap, subst, ◌∙◌, arith, inl, inr}
 use Rattle.std.specs.Prelude.{IsTrue, IsSome, MatchBool, All}
 use Rattle.std.proofs.lemmas.Bool.{ltb-true}
 use Rattle.std.proofs.lemmas.List.{append-nil}
@@ -8,15 +8,14 @@ use Rattle.flow_lines.specs.declared.flow.FlowLine.{FlowLine}
 use Rattle.label_commands.specs.declared.script.Script.{Script}
 use Rattle.label_commands.specs.declared.stop.ScriptStop.{ScriptStop}
 use Rattle.capture_reader.specs.declared.format.CaptureFormat.{CaptureFormat}
-use Rattle.call_report.specs.CallEnds.{CallEnds, IsWritten}
+use Rattle.call_report.specs.CallEnds.{CallEnds, PrintsReport, IsWritten}
 use Rattle.call_report.specs.Event.{Event, packets_limit}
 use Rattle.call_report.specs.Outside.{Outside}
-use Rattle.call_report.specs.Report.{Folder, Versions, Report, report_text}
+use Rattle.call_report.specs.Report.{Folder, Versions, Report, report_text, late_report}
 use Rattle.flow_access.specs.Valid.{plan_of}
 use Rattle.flow_run.specs.Input.{FlowInput, flow_input}
 use Rattle.flow_run.specs.Run.{FlowRun, is_judged}
 use Rattle.script_run.specs.Runs.{AreRuns, AreWholeRuns, IsLawfulRun, FlowsStatus, StatusOr, is_done, last_event}
-use Rattle.script_run.specs.Report.{runs_report}
 use Rattle.script_run.proofs.Law.{runs_are_determined, runs_know_their_inputs_alone, done_flows_have_status_0, events_have_their_status}
 use Rattle.script_input.specs.ScriptFile.{ByScript, ByAnswer, script_read, script_stop_status}
 use Rattle.call_report.specs.Lines.Script.{script_stop_line}
@@ -153,13 +152,15 @@ module _ (asked : Audit) (script : Script) (ran : Folder) (text : List ℕ) (bef
   answered false is outcome same due =
       let zero : Some 0 ≡ Some status = sym (ap (λ (o : AuditOutcome). o.status) same) ∙ due in
       let ended : status ≡ 0 = sym (same_Some 0 status zero) in
-      inl (ended, λ stream. printed ((ends.prints of.told).whole stream (inl ended)))
+      inl (ended, λ stream. printed ended ((ends.prints (λ reads. of.told)).whole stream (λ refused. omega (arith, ended, refused))))
     where
-      printed : ((report : Report) × (audit_says (Some asked)).report held seen report × IsWritten (report_text report) before after) → IsWritten yes_line before after
-      printed (report, has, written) =
-          let told : has.0 ≡ answer_told 0 yes_line = outcome_is has.0 has.1 ∙ ap comes_to is in
-          let line : report_text report ≡ yes_line = ap report_text (sym has.2 ∙ ap (λ (o : AuditOutcome). o.report) told) ∙ append-nil yes_line in
-          subst (λ (t : List ℕ). IsWritten t before after) line written
+      printed : status ≡ 0 → ((report : Report) × (audit_says (Some asked)).report held seen report × PrintsReport report before after status) → IsWritten yes_line before after
+      printed ended (report, has, prints) =
+          let told : report ≡ late_report yes_line [] = sym has.2 ∙ ap (λ (o : AuditOutcome). o.report) (outcome_is has.0 has.1 ∙ ap comes_to is) in
+          elim prints [
+            | inl all ↦ subst (λ (t : List ℕ). IsWritten t before after) (ap report_text told ∙ append-nil yes_line) all.1
+            | inr line ↦ absurd (line.0 ended)
+          ]
 
   pub is_answered : IsAnsweredYes text before after status
   is_answered = elim (ends.ends.due of.told) [

@@ -36,6 +36,7 @@ abbrev pub audit_says : Option Audit → Says
 audit_says None = usage_says audit_usage_line
 audit_says (Some asked) = record {
   report = λ held seen report. (outcome : AuditOutcome) × IsAuditOutcome asked held outcome × (outcome.report ≡ report);
+  reads = Unit {0};
   status = λ held status. AuditStatus asked held status;
   possible = λ status. (text : List ℕ) × AuditMay (script_read asked.script text) status;
   stages = λ held seen stages. (seen ≡ []) × AuditStages asked held stages;
@@ -44,5 +45,5 @@ audit_says (Some asked) = record {
   whole = λ held seen. seen ≡ [];
   access = λ held seen. Unit {0};
   withheld = λ held seen. Unit {0};
-  late = λ seen. Unit {0};
+  preceded = λ seen stages call. ⊥;
 }

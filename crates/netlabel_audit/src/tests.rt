@@ -10,7 +10,7 @@ use std::process::Abort;
 use worked_values::octets_of;
 
 /// Captures: a name, and the octets in hexadecimal. All but the last two are of link type 101. An unlabelled packet from 10.0.0.1 to 10.0.0.2
-/// once, twice, three times without the last six octets, and once in pcapng; none; a wrong magic, in either format; Ethernet with ARP, a packet
+/// once, twice, three times without the last six octets, and once in pcapng; none, in either format; a wrong magic, in either format; Ethernet with ARP, a packet
 /// with a CIPSO option behind a tag of IEEE 802.1Q, and one from 192.168.7.9 and one from 172.16.0.1 without a label.
 const FILES: &str = "one.pcap
 d4c3b2a1020004000000000000000000000004006500000001000000000000001c0000001c0000004500001c00004000
@@ -34,6 +34,10 @@ one.pcapng
 
 empty.pcap
 d4c3b2a10200040000000000000000000000040065000000
+
+empty.pcapng
+0a0d0d0a1c0000004d3c2b1a01000000ffffffffffffffff1c0000000100000020000000650000000000040009000100
+090000000000000020000000
 
 bad.pcap
 00c3b2a10200040000000000000000000000040065000000

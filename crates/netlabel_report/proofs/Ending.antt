@@ -1,9 +1,9 @@
 -- How a call ends that has told reports, over plain values.
-use Rattle.std.proofs.Common.{◌≡◌, ◌≢◌, inl, inr, ◌<◌, ℕ, ◌+◌, Bool, true, false, List, [], ◌∷◌, ◌++◌, length, take, map, Option, Some, None, Result, Ok, Err, refl, sym, ap, subst, ◌∙◌, arith, append_assoc, length-append, if◌then◌else◌}
+use Rattle.std.proofs.Common.{◌≡◌, ◌≢◌, inl, inr, ◌<◌, ◌≤◌, ℕ, ◌+◌, Bool, true, false, List, [], ◌∷◌, ◌++◌, length, take, map, Option, Some, None, Result, Ok, Err, refl, sym, ap, subst, ◌∙◌, arith, append_assoc, length-append, if◌then◌else◌}
 use Rattle.std.specs.Prelude.{IsTrue, Contains, ◌&&◌}
 use Rattle.std.specs.List.{concat, range_with_len}
 use Rattle.std.specs.Result.{IsErrOf}
-use Rattle.std.proofs.lemmas.List.{append-nil, take_at}
+use Rattle.std.proofs.lemmas.List.{append-nil, take_at, length-map}
 use Rattle.std.proofs.lemmas.List.Folds.{concat-append}
 use Rattle.std.proofs.lemmas.List.FromFn.{get_or-map-range_with_len, length-map-range_with_len}
 use Rattle.net_io.specs.Faults.{Rose, SameCounts}
@@ -13,7 +13,7 @@ use Rattle.net_io.specs.declared.fault.IoFault.TheVariants.{Failed, OutOfMemory 
 use Rattle.label_commands.specs.declared.stop.ScriptStop.{ScriptStop}
 use Rattle.call_report.specs.declared.status.Status.{Status}
 use Rattle.call_report.specs.declared.status.Status.TheVariants.{Done, WrongScript, ReadFault}
-use Rattle.call_report.specs.CallEnds.{CallEnds}
+use Rattle.call_report.specs.CallEnds.{CallEnds, KnowsReport}
 use Rattle.call_report.specs.Outside.{Outside, IsOnlyRead}
 use Rattle.call_report.specs.Printing.{HandsOn, IsUnderWay, Printed}
 use Rattle.call_report.specs.Report.{Folder, Report}
@@ -80,6 +80,22 @@ last_in_hand [] name = refl
 last_in_hand (first ∷ []) name = refl
 last_in_hand (first ∷ second ∷ front) name = last_in_hand (second ∷ front) name
 
+-- files with this name in front of others
+record HasName (names : List (List ℕ)) (name : List ℕ) : Type 0 where
+  front : List (List ℕ)
+  behind : List (List ℕ)
+  are : names ≡ front ++ name ∷ behind
+
+-- what stands among the reports stands among all files that are read
+among_files : (script : Option (List ℕ)) (names : List (List ℕ)) (name : List ℕ) → HasName names name → HasName (files_of script names) name
+among_files None names name has = has
+among_files (Some file) names name has = record { front = file ∷ has.front; behind = has.behind; are = ap (λ ns. file ∷ ns) has.are }
+
+-- and the script precedes it
+after_script : (script : Option (List ℕ)) (names : List (List ℕ)) (name : List ℕ) (has : HasName names name) → length (files_of script []) ≤ length (among_files script names name has).front
+after_script None names name has = omega arith
+after_script (Some file) names name has = omega arith
+
 first_names : (names front behind : List (List ℕ)) (name : List ℕ) → names ≡ front ++ name ∷ behind → take (length front + 1) names ≡ front ++ name ∷ []
 first_names names front behind name are =
     ap (take (length front + 1)) (are ∙ sym (append_assoc front (name ∷ []) behind)) ∙ take_at (front ++ name ∷ []) behind (length front + 1) (length-append front (name ∷ []))
@@ -108,7 +124,7 @@ module _ (asked : ReportQuestion) (before after : Outside) where
   -- ---- what was told so far
 
   module _ (s : Standing) (waits : List ℕ) (result : Result (Unit {0}) TellStop) (mid : SinkState) (told : Tells before.folder.tells course s [] waits result before.stream mid)
-      (read : AreRead {T = Unit {0}} files result before.folder after.folder) where
+      (read : AreRead {T = Unit {0}} asked.names result before.folder after.folder) where
     abbrev text : List ℕ
     text = concat told.pieces
 
@@ -148,7 +164,7 @@ module _ (asked : ReportQuestion) (before after : Outside) (s : Standing) (waits
   Told result = Tells before.folder.tells (question_course asked before.folder.held) s [] waits result before.stream mid
 
   abbrev Read : Result (Unit {0}) TellStop → Type 0
-  Read result = AreRead {T = Unit {0}} (files_of asked.script asked.names) result before.folder after.folder
+  Read result = AreRead {T = Unit {0}} asked.names result before.folder after.folder
 
   -- all reports were told
   ends_whole : (x : Unit {0}) (status : Status) → Told (Ok x) → Read (Ok x) → Printed (waits ++ closing_text asked.way s) [] Done status mid after.stream
@@ -166,11 +182,11 @@ module _ (asked : ReportQuestion) (before after : Outside) (s : Standing) (waits
         event = (no_number flag 3 (λ e. omega (arith, e)) (λ e. omega (arith, e)), no_number flag 4 (λ e. omega (arith, e)) (λ e. omega (arith, e)), no_number flag 6 (λ e. omega (arith, e)) (λ e. omega (arith, e)));
         has = λ t. ap (course_status asked.tells) (is t);
         may = inl (may_be asked.tells (has_refused s.progress));
-        parts = λ t. record {
+        parts = λ knows. record {
           report = course_report asked.way (question_course asked before.folder.held);
           has = refl;
-          body = ap (λ (c : Course). (course_report asked.way c).body) (is t) ∙ ap (λ ps. concat ps ++ closing) (append-nil told.pieces);
-          last = ap (λ (c : Course). (course_report asked.way c).last) (is t);
+          body = ap (λ (c : Course). (course_report asked.way c).body) (is (knows tt)) ∙ ap (λ ps. concat ps ++ closing) (append-nil told.pieces);
+          last = ap (λ (c : Course). (course_report asked.way c).last) (is (knows tt));
         };
         last = λ e. refl;
         whole = λ t. refl;
@@ -199,38 +215,40 @@ module _ (asked : ReportQuestion) (before after : Outside) (s : Standing) (waits
         event = (λ e. omega (arith, e), λ e. omega (arith, e), λ e. omega (arith, e));
         has = λ t. ap (course_status asked.tells) (is t);
         may = inl (inr (inl refl));
-        parts = λ t. record {
+        parts = λ knows. record {
           report = course_report asked.way (question_course asked before.folder.held);
           has = refl;
-          body = ap (λ (c : Course). (course_report asked.way c).body) (is t) ∙ ap concat (append-nil told.pieces);
-          last = ap (λ (c : Course). (course_report asked.way c).last) (is t);
+          body = ap (λ (c : Course). (course_report asked.way c).body) (is (knows tt)) ∙ ap concat (append-nil told.pieces);
+          last = ap (λ (c : Course). (course_report asked.way c).last) (is (knows tt));
         };
         last = λ e. elim e [ inl zero ↦ absurd (omega (arith, zero)) | inr eight ↦ absurd (omega (arith, eight)) ];
         whole = λ t. refl;
       })
       status (read.still (λ e. absurd cc)) p
 
-  begun : (result : Result (Unit {0}) TellStop) (told : Told result) → IsTrue before.folder.tells → Begins (report_says (Some asked)) before.folder.held (concat told.pieces)
-  begun result told t = begins asked before after (concat told.pieces) (told_front asked.way (question_course asked before.folder.held) told.rest told.pieces (told.is t))
+  begun : (result : Result (Unit {0}) TellStop) (told : Told result) → KnowsReport (report_says (Some asked)) before.folder → Begins (report_says (Some asked)) before.folder.held (concat told.pieces)
+  begun result told knows = begins asked before after (concat told.pieces) (told_front asked.way (question_course asked before.folder.held) told.rest told.pieces (told.is (knows tt)))
 
   -- a report couldn't be read
   ends_unread : (status : Status) → Told (Err stop.ReadFault) → Read (Err stop.ReadFault) → Printed waits [] ReadFault status mid after.stream → Ended (status_number status)
   ends_unread status told read printed =
       let cause = read.cause refl in
-      let count = length cause.front + 1 in
-      let first = first_names (files_of asked.script asked.names) cause.front cause.behind cause.name cause.are in
+      let among : HasName asked.names cause.name = record { front = cause.front; behind = cause.behind; are = cause.are } in
+      let place = among_files asked.script asked.names cause.name among in
+      let count = length place.front + 1 in
+      let first = first_names (files_of asked.script asked.names) place.front place.behind cause.name place.are in
       let p = printed_all (Err stop.ReadFault) told read tt refl (λ e. absurd cc) [] ReadFault status printed in
       ends_stopped_unread report_says (Some asked) before after (stages_of asked before after count) (knows asked before after count read.only p.told) (concat told.pieces) (has_form asked before after)
       (begun (Err stop.ReadFault) told) status
-      (record { name = cause.name; counted = inr (ap (λ names. input_in_hand (map reading_stage names)) first ∙ last_in_hand cause.front cause.name); rose = cause.rose })
-      (λ t report has. subst (λ (r : Report). Contains r.pauses (concat told.pieces)) (sym has) (told_front asked.way (question_course asked before.folder.held) told.rest told.pieces (told.is t)).paused)
-      (λ e. e) p
+      (record { name = cause.name; in_hand = ap (λ names. input_in_hand (map reading_stage names)) first ∙ last_in_hand place.front cause.name; rose = cause.rose })
+      (λ knows report has. subst (λ (r : Report). Contains r.pauses (concat told.pieces)) (sym has) (told_front asked.way (question_course asked before.folder.held) told.rest told.pieces (told.is (knows tt))).paused)
+      (omega (arith, after_script asked.script asked.names cause.name among, ap length first, length-append place.front (cause.name ∷ []), length-map (take count (files_of asked.script asked.names)) reading_stage)) p
 
   -- what was told couldn't be written
   ends_unhanded : (fault : IoFault) → Told (Err (stop.Unwritten fault)) → Read (Err (stop.Unwritten fault)) → after.stream ≡ mid → Ended (status_number (write_status fault))
   ends_unhanded Failed told read same =
       let hands = subst (λ (x : SinkState). HandsOn {T = Unit {0}} (concat told.pieces) [] told.still (Err Failed) before.stream x) (sym same) told.hands in
-      ends_unwritten report_says (Some asked) before after (stages_of asked before after 0) (knows asked before after 0 read.only hands.told) (concat told.pieces) (has_form asked before after) (hands.counts.cause refl) hands.err
+      ends_unwritten report_says (Some asked) before after (stages_of asked before after 0) (knows asked before after 0 read.only hands.told) (concat told.pieces) (has_form asked before after) (inl (read.still (λ e. absurd cc))) (hands.counts.cause refl) hands.err
       (begun (Err (stop.Unwritten Failed)) told)
   ends_unhanded IoOutOfMemory told read same =
       let hands = subst (λ (x : SinkState). HandsOn {T = Unit {0}} (concat told.pieces) [] told.still (Err IoOutOfMemory) before.stream x) (sym same) told.hands in
@@ -276,18 +294,16 @@ module _ (manner : Manner) (now held : Folder) (same : (name : List ℕ) → now
       ap (λ file. followed_by (report_course manner file s) (reports_course manner held names)) (sym (same name))
       ∙ followed_same (report_course manner (now name) s) (reports_course manner held names) (reports_course manner now names) (reports_same names)
 
-rise_behind : (script : Option (List ℕ)) (names : List (List ℕ)) (old mid new : List ℕ → ℕ) → SameCounts old mid → IsRiseIn names mid new → IsRiseIn (files_of script names) old new
-rise_behind None names old mid new counts rise =
+rise_behind : (names : List (List ℕ)) (old mid new : List ℕ → ℕ) → SameCounts old mid → IsRiseIn names mid new → IsRiseIn names old new
+rise_behind names old mid new counts rise =
     record { front = rise.front; name = rise.name; behind = rise.behind; are = rise.are; rose = subst (λ (n : ℕ). Rose n (new rise.name)) (counts rise.name) rise.rose }
-rise_behind (Some file) names old mid new counts rise =
-    record { front = file ∷ rise.front; name = rise.name; behind = rise.behind; are = ap (λ ns. file ∷ ns) rise.are; rose = subst (λ (n : ℕ). Rose n (new rise.name)) (counts rise.name) rise.rose }
 
 module _ (asked : ReportQuestion) (before mid : Outside) (commands : Option (List CommandPlace)) (has : HasCommands asked.script before mid commands) where
   abbrev manner : Manner
   manner = record { way = asked.way; commands = commands }
 
   read_behind : (result : Result (Unit {0}) TellStop) (after : Outside) → AreRead {T = Unit {0}} asked.names result mid.folder after.folder
-      → AreRead {T = Unit {0}} (files_of asked.script asked.names) result before.folder after.folder
+      → AreRead {T = Unit {0}} asked.names result before.folder after.folder
   read_behind result after read = record {
     only = record {
       told = read.only.told ∙ has.reads.told;
@@ -296,7 +312,7 @@ module _ (asked : ReportQuestion) (before mid : Outside) (commands : Option (Lis
       appends = λ name. read.only.appends name ∙ has.reads.appends name;
     };
     still = λ none name. read.still none name ∙ has.counts name;
-    cause = λ e. rise_behind asked.script asked.names before.folder.reads mid.folder.reads after.folder.reads has.counts (read.cause e);
+    cause = λ e. rise_behind asked.names before.folder.reads mid.folder.reads after.folder.reads has.counts (read.cause e);
   }
 
   course_is : IsTrue before.folder.tells → question_course asked before.folder.held ≡ told_course manner mid.folder.held asked.names
@@ -338,6 +354,7 @@ module _ (tells : Bool) (file : List ℕ) (way : Way) (names : List (List ℕ)) 
 
   report_reads : ReadsScript (report_says (Some scripted)) file
   report_reads = record {
+    depends = tt;
     knows = λ before after reads told. knows_reading (report_says (Some scripted)) (reading_stage file ∷ []) before after (refl, (1, refl)) refl refl tt tt reads told;
     refused = λ held text why holds is.
         let course = refused_course held text why holds is in

@@ -96,11 +96,12 @@ files_of (Some file) names = file ∷ names
 abbrev pub AreFirstFiles : List (List ℕ) → List Stage → Type 0
 AreFirstFiles files stages = (count : ℕ) × (stages ≡ map reading_stage (take count files))
 
--- Words that are no form have the usage line. It prints while it reads, makes nothing, and prints no versions of its own.
+-- Words that are no form have the usage line. It prints while it reads reports, and nothing before the script, if one is named, was read; it makes nothing, and prints no versions of its own.
 abbrev pub report_says : Option ReportQuestion → Says
 report_says None = usage_says report_usage_line
 report_says (Some asked) = record {
   report = λ held seen report. report ≡ course_report asked.way (question_course asked held);
+  reads = Unit {0};
   status = λ held status. course_status asked.tells (question_course asked held) ≡ Some status;
   possible = λ status. IsReportStatus asked.tells status ⊎ IsScriptStatus asked.script status;
   stages = λ held seen stages. (seen ≡ []) × AreFirstFiles (files_of asked.script asked.names) stages;
@@ -109,5 +110,5 @@ report_says (Some asked) = record {
   whole = λ held seen. seen ≡ [];
   access = λ held seen. Unit {0};
   withheld = λ held seen. Unit {0};
-  late = λ seen. ⊥;
+  preceded = λ seen stages call. length (files_of asked.script []) < length stages;
 }

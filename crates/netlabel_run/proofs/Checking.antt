@@ -45,7 +45,8 @@ module _ (file : List ℕ) where
   -- what it knows of the file that it reads
   pub check_reads : ReadsScript (netlabel_says asked) file
   check_reads = record {
-    knows = λ before after reads told. knows_file file (CheckReport file) (CheckStatus file) (Unit {0}) before after reads told;
+    depends = tt;
+    knows = λ before after reads told. knows_file file (CheckReport file) (CheckStatus file) ⊥ before after reads told;
     refused = λ held text why holds is. record { status = has_status (held file) text (Err why) holds is; report = has_report (held file) text (Err why) holds is; whole = refl };
     may = λ text why is. (λ name. Some text, ap script_status (sym is));
     pauses = λ held report has. subst (λ pauses. Contains pauses []) (sym (check_pauses (held file) report has)) (0, omega arith, refl);
@@ -62,7 +63,7 @@ module _ (file : List ℕ) where
         event = (λ e. omega (arith, e), λ e. omega (arith, e), λ e. omega (arith, e));
         has = λ told. has_status (before.folder.held file) text (Ok script) (holds told) is;
         may = (λ name. Some text, ap script_status (sym is));
-        parts = λ told. record { report = script_report (Ok script); has = has_report (before.folder.held file) text (Ok script) (holds told) is; body = refl; last = refl };
+        parts = λ known. record { report = script_report (Ok script); has = has_report (before.folder.held file) text (Ok script) (holds (known tt)) is; body = refl; last = refl };
         last = λ e. refl;
         whole = λ told. refl;
       })

@@ -16,7 +16,7 @@ use Rattle.call_report.specs.Lines.Made.{made_line}
 use Rattle.call_report.specs.Report.{Report, late_report}
 use Rattle.call_report.specs.Stages.{Stage, making_stage}
 use Rattle.call_report.specs.Output.{Output, IsBegun, IsMade}
-use Rattle.call_report.specs.Outside.{Outside, AppendRose, NoneFailed}
+use Rattle.call_report.specs.Outside.{Outside, AppendRose}
 use Rattle.call_report.specs.Printing.{Printed}
 use Rattle.call_report.specs.Says.{Says}
 use Rattle.call_report.specs.CallEnds.{CallEnds, IsWritten}
@@ -50,8 +50,11 @@ module _ (seed count : ℕ) (file : List ℕ) (before after : Outside) where
   others : (stop : Option MadeStop) → Makes stop → IsTrue before.folder.tells → (name : List ℕ) → All (λ (o : Output). o.name ≢ name) (output ∷ []) → after.folder.held name ≡ before.folder.held name
   others stop makes told name none = makes.others told name (λ e. none 0 output (omega arith) (sym e))
 
-  has_left : (stop : Option MadeStop) → Makes stop → IsTrue before.folder.tells → HasLeft says before after
-  has_left stop makes told = record { outputs = output ∷ []; are = refl; begun = begun stop makes told; others = others stop makes told }
+  unmade : (stop : Option MadeStop) → Makes stop → IsTrue before.folder.tells → (name : List ℕ) → All (λ (stage : Stage). stage.output ≢ Some name) stages → after.folder.held name ≡ before.folder.held name
+  unmade stop makes told name none = makes.others told name (λ e. none 0 (making_stage file) (omega arith) (ap Some (sym e)))
+
+  has_left : (stop : Option MadeStop) → Makes stop → IsTrue before.folder.tells → HasLeft says before after stages
+  has_left stop makes told = record { outputs = output ∷ []; are = refl; begun = begun stop makes told; others = others stop makes told; unmade = unmade stop makes told }
 
   keeps : (stop : Option MadeStop) → Makes stop → after.stream.tells ≡ before.stream.tells → Keeps says before after stages
   keeps stop makes stream_told = record {
@@ -88,7 +91,7 @@ module _ (seed count : ℕ) (file : List ℕ) (before after : Outside) where
     event = (λ e. omega (arith, e), λ e. omega (arith, e), λ e. omega (arith, e));
     has = λ told. refl;
     may = refl;
-    parts = λ told. record { report = late_report line []; has = refl; body = refl; last = refl };
+    parts = λ known. record { report = late_report line []; has = refl; body = refl; last = refl };
     last = λ e. refl;
     whole = λ told. refl;
   }
@@ -106,16 +109,20 @@ module _ (seed count : ℕ) (file : List ℕ) (before after : Outside) where
   unwritten : after.stream ≡ before.stream → IsWritten [] before after
   unwritten same = ap (λ (s : SinkState). s.written) same ∙ sym (append-nil before.stream.written)
 
+  -- its report pauses before its line alone
+  no_pause : (report : Report) → says.report before.folder.held [] report → Contains report.pauses []
+  no_pause report has = subst (λ (r : Report). Contains r.pauses []) (sym has) (0, omega arith, refl)
+
   ends_unmade : (status : ℕ) (stop : Option MadeStop) → Makes stop → after.stream ≡ before.stream → HasCause says before after stages status → (status ≡ 4 → AppendRose stages before after)
       → CallEnds netlabel_says asked before after status []
   ends_unmade status stop makes same cause append =
       ends_refused netlabel_says asked before after stages status (keeps stop makes (ap (λ (s : SinkState). s.tells) same)) (has_left stop makes) (λ none. absurd cc) cause
-      (λ told. record {
+      (λ known. record {
         part = λ out. inl (unwritten same);
-        pause = λ out e. ([], unwritten same, λ report has. subst (λ (r : Report). Contains r.pauses []) (sym has) (0, omega arith, refl));
-        stop = λ e. inr (append e);
+        pause = λ out e. ([], unwritten same, no_pause);
+        stop = λ e. inr (record { rose = append e; text = []; pauses = no_pause; part = λ out. record { count = 0; within = omega arith; written = unwritten same } });
       })
-      (λ out e late. ap (λ (s : SinkState). s.written) same)
+      (λ out e. inr (ap (λ (s : SinkState). s.written) same))
 
   pub ends_uncreated : Makes (Some Create) → after.stream ≡ before.stream → CallEnds netlabel_says asked before after 3 []
   ends_uncreated makes same = ends_unmade 3 (Some Create) makes same (record {
@@ -123,7 +130,6 @@ module _ (seed count : ℕ) (file : List ℕ) (before after : Outside) where
     read_fault = λ e. (record { writes = ap (λ (s : SinkState). s.faults) same; appends = makes.cause.1 }, inr (record { name = file; in_hand = refl; rose = makes.cause.0 }));
     write_fault = λ e. absurd (omega (arith, e));
     memory = λ e. absurd (omega (arith, e));
-    memory_alone = λ e. absurd (omega (arith, e));
   }) (λ e. absurd (omega (arith, e)))
 
   pub ends_unappended : Makes (Some Append) → after.stream ≡ before.stream → CallEnds netlabel_says asked before after 4 []
@@ -132,18 +138,15 @@ module _ (seed count : ℕ) (file : List ℕ) (before after : Outside) where
       ends_unmade 4 (Some Append) makes same (record {
         refused = inr (inl refl);
         read_fault = λ e. absurd (omega (arith, e));
-        write_fault = λ e. inr rose;
+        write_fault = λ e. (inr rose, inl (record { reads = makes.reads; creates = makes.cause.0 }));
         memory = λ e. absurd (omega (arith, e));
-        memory_alone = λ e. absurd (omega (arith, e));
       }) (λ e. rose)
 
   pub ends_without_memory : Makes (Some OutOfMemory) → after.stream ≡ before.stream → CallEnds netlabel_says asked before after 6 []
   ends_without_memory makes same =
-      let none : NoneFailed before after = record { reads = makes.reads; creates = makes.cause.0; appends = makes.cause.1; writes = ap (λ (s : SinkState). s.faults) same } in
       ends_unmade 6 (Some OutOfMemory) makes same (record {
         refused = inr (inr refl);
         read_fault = λ e. absurd (omega (arith, e));
         write_fault = λ e. absurd (omega (arith, e));
-        memory = λ e. (record { writes = none.writes; appends = none.appends }, inl none);
-        memory_alone = λ e late. none;
+        memory = λ e. (record { writes = ap (λ (s : SinkState). s.faults) same; appends = makes.cause.1 }, inl (record { reads = makes.reads; creates = makes.cause.0 }));
       }) (λ e. absurd (omega (arith, e)))

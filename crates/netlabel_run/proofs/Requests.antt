@@ -22,7 +22,7 @@ is_there (Some octets) long = refl
 
 module _ (doi : ℕ) (level : Label) (file : List ℕ) (before : Outside) where
   pub knows_judge : (after : Outside) → IsOnlyRead before.folder after.folder → after.stream.tells ≡ before.stream.tells → Knows (netlabel_says (Some (Judge doi level file))) before after (reading_stage file ∷ [])
-  knows_judge after reads told = knows_file file (JudgeReport doi level) JudgeStatus (Unit {0}) before after reads told
+  knows_judge after reads told = knows_file file (JudgeReport doi level) JudgeStatus ⊥ before after reads told
 
   pub limit_due : (IsTrue before.folder.tells → packet_limit < length (octets_of (before.folder.held file)))
       → IsDue (netlabel_says (Some (Judge doi level file))) before 7 [] packet_limit_line
@@ -30,9 +30,9 @@ module _ (doi : ℕ) (level : Label) (file : List ℕ) (before : Outside) where
     event = (λ e. omega (arith, e), λ e. omega (arith, e), λ e. omega (arith, e));
     has = λ told. subst (λ held. JudgeStatus held 7) (sym (is_there (before.folder.held file) (long told))) (inl (long told, refl));
     may = (λ name. Some (replicate 65576 0), inl (omega (arith, length-replicate {A = ℕ} 65576 0), refl));
-    parts = λ told. record {
+    parts = λ known. record {
       report = late_report [] packet_limit_line;
-      has = subst (λ held. JudgeReport doi level held (late_report [] packet_limit_line)) (sym (is_there (before.folder.held file) (long told))) (too_long _ (long told));
+      has = subst (λ held. JudgeReport doi level held (late_report [] packet_limit_line)) (sym (is_there (before.folder.held file) (long (known tt)))) (too_long _ (long (known tt)));
       body = refl;
       last = refl;
     };
@@ -46,9 +46,9 @@ module _ (doi : ℕ) (level : Label) (file : List ℕ) (before : Outside) where
     event = (λ e. omega (arith, e), λ e. omega (arith, e), λ e. omega (arith, e));
     has = λ told. subst (λ held. JudgeStatus held 0) (sym (holds told)) (inr (short, refl));
     may = (λ name. Some [], inr (omega arith, refl));
-    parts = λ told. record {
+    parts = λ known. record {
       report = late_report (verdict_line verdict) [];
-      has = subst (λ held. JudgeReport doi level held (late_report (verdict_line verdict) [])) (sym (holds told)) (judged octets verdict short is);
+      has = subst (λ held. JudgeReport doi level held (late_report (verdict_line verdict) [])) (sym (holds (known tt))) (judged octets verdict short is);
       body = refl;
       last = refl;
     };

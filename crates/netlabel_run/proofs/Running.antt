@@ -1,5 +1,5 @@
 -- How `run` ends whose script was read, over plain values.
-use Rattle.std.proofs.Common.{◌≡◌, ◌<◌, ℕ, zero, suc, ◌-◌, Bool, true, false, List, [], ◌∷◌, ◌++◌, length, map, take, Option, Some, None, Result, Ok, Err, refl, sym, ap, subst, ◌∙◌, append-nil, arith, inl, inr, ◌⊎◌}
+use Rattle.std.proofs.Common.{◌≡◌, ◌≢◌, ◌<◌, ℕ, zero, suc, ◌-◌, true, false, List, [], ◌∷◌, ◌++◌, length, map, take, Option, Some, None, Result, Ok, Err, refl, sym, ap, ap₂, subst, ◌∙◌, append-nil, arith, inl, inr, ◌⊎◌}
 use Rattle.std.specs.Prelude.{IsTrue, IsSome, All, Contains}
 use Rattle.std.specs.Option.{option_map_or}
 use Rattle.std.proofs.lemmas.List.{length-map, length-take-le, length-append, take-append-le}
@@ -16,8 +16,8 @@ use Rattle.call_report.specs.Status.{status_number}
 use Rattle.call_report.specs.Report.{Folder, Versions, Report, report_text, late_report}
 use Rattle.call_report.specs.Event.{Event, packets_limit}
 use Rattle.call_report.specs.Output.{Output, IsBegun, IsMade}
-use Rattle.call_report.specs.Outside.{Outside, ReadRose, CreateRose, AppendRose, NoneFailed, NoWriteFailed}
-use Rattle.call_report.specs.Printing.{Printed}
+use Rattle.call_report.specs.Outside.{Outside, ReadRose, CreateRose, AppendRose, NoneFailed, NoFileFailed, NoInputFailed, NoWriteFailed}
+use Rattle.call_report.specs.Printing.{EndsInLine, Printed}
 use Rattle.call_report.specs.Stages.{Stage, reading_stage}
 use Rattle.call_report.proofs.Law.{a_whole_text_is_a_front, a_part_of_a_text_is_a_front}
 use Rattle.flow_run.specs.Run.{FlowRun}
@@ -25,21 +25,21 @@ use Rattle.shared_tables.specs.Plan.{PlanState}
 use Rattle.flow_access.specs.Valid.{plan_of}
 use Rattle.script_run.specs.Runs.{AreRuns, AreWholeRuns, IsLawfulRun, FlowsStatus, last_event}
 use Rattle.script_run.specs.Report.{pause_text, runs_report, runs_outputs}
-use Rattle.script_run.specs.Ends.{flow_in_hand, last_of, InputRose, OutputRose, EndsBy, IsDue, IsCauseOf, IsPrintedSo, HasRuns, HasFinished, ScriptEnds, due_body, due_line}
+use Rattle.script_run.specs.Ends.{flow_in_hand, last_of, HasInputs, InputRose, OutputRose, EndsBy, IsDue, IsCauseOf, IsPrintedSo, HasRuns, HasFinished, ScriptEnds, due_body, due_line}
 use Rattle.script_run.proofs.Law.{runs_are_determined, done_flows_have_status_0, events_have_their_status}
 use Rattle.netlabel_run.specs.declared.command.Command.{Command}
 use Rattle.netlabel_run.specs.declared.command.Command.TheVariants.{Run}
-use Rattle.call_report.specs.CallEnds.{CallEnds, HasBegun, EndsWith, Prints, Leaves, IsClean, IsRefusal, IsWritten, StopsInBody}
+use Rattle.call_report.specs.CallEnds.{CallEnds, HasBegun, EndsWith, Prints, Leaves, IsRefusal, IsUnrefused, IsWritten, PrintsReport, StopsInBody, StopsAtAppend, FailsToWrite, FailedAfterText}
 use Rattle.call_report.specs.Says.{Says}
 use Rattle.script_input.specs.ScriptFile.{script_read, script_stop_status, ByAnswer, ByScript}
 use Rattle.netlabel_run.specs.Run.{AreItsRuns, RunMay, flow_stage}
 use Rattle.netlabel_run.specs.Commands.{netlabel_says}
 use Rattle.call_report.specs.Lines.Script.{script_stop_line}
 use Rattle.call_report.specs.Outside.{IsOnlyRead}
-use Rattle.script_input.proofs.Law.{ReadsScript}
+use Rattle.script_input.proofs.Law.{content_of, content_holds, content_told, ReadsScript}
 use Rattle.netlabel_run.proofs.Access.{has_access, withholds}
-use Rattle.call_report.proofs.Law.{front_behind, part_of_line, printed_body, never_8, knows_reading}
-use Rattle.netlabel_run.proofs.Runs.{runs_same, runs_front, body_begins, line_begins, report_begins, done_has_no_event, done_is_whole, event_is_whole, input_of_last, output_of_last, none_of_theirs}
+use Rattle.call_report.proofs.Law.{front_behind, part_of_line, never_8, knows_reading}
+use Rattle.netlabel_run.proofs.Runs.{runs_same, runs_front, body_begins, report_begins, done_has_no_event, done_is_whole, event_is_whole, input_of_last, output_of_last, none_makes, none_of_theirs}
 
 -- ---- a file that holds a script
 
@@ -54,21 +54,6 @@ pub from_script : (file : List ℕ) (held : Option (List ℕ)) (text : List ℕ)
 from_script file held text script holds is absent refused read h =
     subst (λ (r : Result Script ScriptStop). ByAnswer r refused read) is
     (subst (λ (o : Option (List ℕ)). ByScript file o absent refused read) holds h)
-
--- what a folder tells, or some content in which a file is this text
-pub content_of : Bool → Folder → List ℕ → Folder
-content_of true held text = held
-content_of false held text = λ name. Some text
-
-content_holds : (tells : Bool) (held : Folder) (text file : List ℕ) → (IsTrue tells → held file ≡ Some text) → content_of tells held text file ≡ Some text
-unfolding content_of
-content_holds true held text file holds = holds refl
-content_holds false held text file holds = refl
-
-content_told : (tells : Bool) (held : Folder) (text : List ℕ) → IsTrue tells → SameHeld held (content_of tells held text)
-unfolding content_of
-content_told true held text told = λ name. refl
-content_told false held text told = absurd (let no : false ≡ true = told in cc)
 
 -- ---- numbers of statuses
 
@@ -115,15 +100,19 @@ record HasKept (body last : List ℕ) (due status : Status) (a b : SinkState) : 
   is : status ≡ WriteFault
   front : IsTrue a.tells → WritesPrefix (body ++ last) a.written b.written
 
-printed_or_kept : (body last : List ℕ) (due status : Status) (a b : SinkState) → IsPrintedSo body last due status a b → Printed body last due status a b ⊎ HasKept body last due status a b
+-- or none has
+abbrev HasEnded : List ℕ → List ℕ → Status → Status → SinkState → SinkState → Type 0
+HasEnded body last due status a b = (due ≢ WriteFault) × Printed body last due status a b
+
+printed_or_kept : (body last : List ℕ) (due status : Status) (a b : SinkState) → IsPrintedSo body last due status a b → HasEnded body last due status a b ⊎ HasKept body last due status a b
 printed_or_kept body last WriteFault status a b so = inr (record { due_is = refl; is = so.1; front = prefix_of body last WriteFault so.0 a b so.2 })
-printed_or_kept body last Done status a b so = inl so
-printed_or_kept body last NoForm status a b so = inl so
-printed_or_kept body last WrongScript status a b so = inl so
-printed_or_kept body last ReadFault status a b so = inl so
-printed_or_kept body last WrongCapture status a b so = inl so
-printed_or_kept body last OutOfMemory status a b so = inl so
-printed_or_kept body last Limit status a b so = inl so
+printed_or_kept body last Done status a b so = inl (λ e. cc, so)
+printed_or_kept body last NoForm status a b so = inl (λ e. cc, so)
+printed_or_kept body last WrongScript status a b so = inl (λ e. cc, so)
+printed_or_kept body last ReadFault status a b so = inl (λ e. cc, so)
+printed_or_kept body last WrongCapture status a b so = inl (λ e. cc, so)
+printed_or_kept body last OutOfMemory status a b so = inl (λ e. cc, so)
+printed_or_kept body last Limit status a b so = inl (λ e. cc, so)
 
 contains_first : (text : List ℕ) → Contains (text ∷ []) text
 contains_first text = (0, omega arith, refl)
@@ -194,7 +183,7 @@ module _ (file : List ℕ) (workers : ℕ) (before : Outside) (folder : DepotSta
 
   input_rose : InputRose hand mid after → ReadRose stages before after ⊎ CreateRose stages before after
   input_rose rose = elim rose.rose [
-    | inl read ↦ inl (record { name = rose.of.input; counted = inr (input_of_last (take (length seen) script.flows) (reading_stage file) rose.of rose.is); rose = read_rose rose.of.input read })
+    | inl read ↦ inl (record { name = rose.of.input; in_hand = input_of_last (take (length seen) script.flows) (reading_stage file) rose.of rose.is; rose = read_rose rose.of.input read })
     | inr create ↦ inr (record {
       name = create.0;
       in_hand = output_of_last (take (length seen) script.flows) (reading_stage file) rose.of rose.is ∙ create.1;
@@ -209,20 +198,42 @@ module _ (file : List ℕ) (workers : ℕ) (before : Outside) (folder : DepotSta
     rose = subst (λ (n : ℕ). Rose n (after.folder.appends rose.name)) (reads.appends rose.name) rose.rose;
   }
 
+  unappended : SameCounts folder.appends after.folder.appends → SameCounts before.folder.appends after.folder.appends
+  unappended none name = none name ∙ reads.appends name
+
   none_failed : NoneFailed mid after → NoneFailed before after
   none_failed none = record {
     reads = λ name. none.reads name ∙ counts name;
     creates = λ name. none.creates name ∙ reads.creates name;
-    appends = λ name. none.appends name ∙ reads.appends name;
+    appends = unappended none.appends;
     writes = none.writes;
   }
 
+  no_file_failed : NoFileFailed mid after → NoFileFailed before after
+  no_file_failed none = record { reads = λ name. none.reads name ∙ counts name; creates = λ name. none.creates name ∙ reads.creates name; appends = unappended none.appends }
+
   unwritten : NoWriteFailed mid after → NoWriteFailed before after
-  unwritten none = record { writes = none.writes; appends = λ name. none.appends name ∙ reads.appends name }
+  unwritten none = record { writes = none.writes; appends = unappended none.appends }
 
   -- of a flow's files nothing has failed where no flow was begun
   none_rose : seen ≡ [] → InputRose hand mid after → ⊥
   none_rose none rose = none_in_hand script.flows rose.of (ap (λ (s : Versions). flow_in_hand script s) (sym none) ∙ rose.is)
+
+  -- so where one has failed, a flow was begun
+  failed_after_text : InputRose hand mid after → FailedAfterText says seen stages before after
+  failed_after_text rose =
+      let begun : seen ≢ [] = λ none. none_rose none rose in
+      elim (input_rose rose) [ inl read ↦ inl (read, begun) | inr make ↦ inr (make, begun) ]
+
+  inputs : HasInputs hand mid after → NoInputFailed before after ⊎ FailedAfterText says seen stages before after
+  inputs has = elim has [
+    | inl none ↦ inl (record { reads = λ name. none.reads name ∙ counts name; creates = λ name. none.creates name ∙ reads.creates name })
+    | inr rose ↦ inr (failed_after_text rose)
+  ]
+
+  -- an append or a write has failed
+  fails_to_write : IsCauseOf hand WriteFault mid after → FailsToWrite stages before after
+  fails_to_write cause = elim cause.0 [ inl write ↦ inl (unappended write.0, write.1) | inr append ↦ inr (output_rose append) ]
 
   cause_of : (due : Status) → status ≡ due → IsCauseOf hand due mid after
   cause_of due e = subst (λ (s : Status). IsCauseOf hand s mid after) e ends.cause
@@ -237,7 +248,7 @@ module _ (file : List ℕ) (workers : ℕ) (before : Outside) (folder : DepotSta
     are = runs_same (plan_of script) before.folder.held folder.held (reads.kept told) 1 packets_limit script.flows seen has.runs has.are
 
     -- how it was printed
-    shown : Printed (due_body script has.runs ends.due) (due_line script has.runs ends.due) ends.due status before.stream after.stream
+    shown : HasEnded (due_body script has.runs ends.due) (due_line script has.runs ends.due) ends.due status before.stream after.stream
         ⊎ HasKept (due_body script has.runs ends.due) (due_line script has.runs ends.due) ends.due status before.stream after.stream
     shown = printed_or_kept (due_body script has.runs ends.due) (due_line script has.runs ends.due) ends.due status before.stream after.stream has.printed
 
@@ -269,7 +280,7 @@ module _ (file : List ℕ) (workers : ℕ) (before : Outside) (folder : DepotSta
 
     status_due : Told status
     status_due = elim shown [
-      | inl printed ↦ elim printed.how [
+      | inl printed ↦ elim printed.1.how [
         | inl all ↦ subst Told (sym all.0) (due_status ends.due has.is_due)
         | inr rest ↦ elim rest [
           | inl memory ↦ inr (inr (inr (ap status_number memory.0)))
@@ -286,7 +297,7 @@ module _ (file : List ℕ) (workers : ℕ) (before : Outside) (folder : DepotSta
 
     -- some first octets of what is printed with the event's line
     due_prefix : IsTrue before.stream.tells → WritesPrefix (due_body script has.runs ends.due ++ due_line script has.runs ends.due) before.stream.written after.stream.written
-    due_prefix out = elim shown [ inl printed ↦ prefix_of (due_body script has.runs ends.due) (due_line script has.runs ends.due) ends.due status before.stream after.stream printed out | inr kept ↦ kept.front out ]
+    due_prefix out = elim shown [ inl printed ↦ prefix_of (due_body script has.runs ends.due) (due_line script has.runs ends.due) ends.due status before.stream after.stream printed.1 out | inr kept ↦ kept.front out ]
 
     part : IsTrue before.stream.tells → IsWritten [] before after
         ⊎ ((r : Report) × says.report before.folder.held seen r × WritesPrefix (report_text r) before.stream.written after.stream.written)
@@ -294,67 +305,65 @@ module _ (file : List ℕ) (workers : ℕ) (before : Outside) (folder : DepotSta
         let begins = report_begins script has.runs ends.due in
         inr (report, has_report, longer_prefix (due_body script has.runs ends.due ++ due_line script has.runs ends.due) begins.0 (report_text report) before.stream.written after.stream.written begins.1 (due_prefix out))
 
-    body : IsTrue before.stream.tells → (IsRefusal (status_number status) → ⊥)
-        → (r : Report) × says.report before.folder.held seen r × WritesPrefix r.last (before.stream.written ++ r.body) after.stream.written
-    body out other = elim shown [
-      | inl printed ↦
-          let all = printed_body (due_body script has.runs ends.due) (due_line script has.runs ends.due) ends.due status before.stream after.stream printed other in
-          let begins = line_begins script has.runs ends.due (λ refusal. other (subst (λ (s : Status). IsRefusal (status_number s)) (sym all.0) refusal)) in (
-            report,
-            has_report,
-            longer_prefix (due_line script has.runs ends.due) begins.1 report.last (before.stream.written ++ report.body) after.stream.written begins.2
-                (subst (λ (t : List ℕ). WritesPrefix (due_line script has.runs ends.due) (before.stream.written ++ t) after.stream.written) begins.0 (all.1 out)),
-          )
-      | inr kept ↦ absurd (other (inr (inl (ap status_number kept.is))))
-    ]
-
     event_whole : (n : ℕ) → EndsBy n has.runs → AreWholeRuns script has.runs
     event_whole n by = event_is_whole script before.folder.held 1 packets_limit seen has.runs by.event are by.is
 
-    last_is_none : last_event has.runs ≡ None → report.body ++ [] ≡ report_text report
-    last_is_none none = ap (λ (e : Option Event). report.body ++ option_map_or (λ (x : Event). x.line) e []) (sym none)
+    no_last : last_event has.runs ≡ None → [] ≡ report.last
+    no_last none = sym (ap (λ (e : Option Event). option_map_or (λ (x : Event). x.line) e []) none)
 
-    -- the flows have finished, and nothing was left out
+    -- the flows have finished, nothing was left out, and what was to be printed is the report
     record Finished (due : Status) : Type 0 where
       finished : HasFinished due
       whole : AreWholeRuns script has.runs
-      printed : due_body script has.runs due ++ due_line script has.runs due ≡ report_text report
+      body : due_body script has.runs due ≡ report.body
+      last : due_line script has.runs due ≡ report.last
 
-    clean_due : (due : Status) → IsDue script has.runs hand mid after due → IsClean stages before after (status_number due) → Finished due
-    clean_due Done d clean = record { finished = tt; whole = done_is_whole script before.folder.held 1 packets_limit seen has.runs are d; printed = last_is_none (done_has_no_event script has.runs d) }
-    clean_due NoForm d clean = absurd d
-    clean_due WrongScript d clean = absurd d
-    clean_due ReadFault d clean = absurd (elim clean [ inl e ↦ omega (arith, e) | inr c ↦ elim (input_rose d) [ inl read ↦ c.1 (inr (inl read)) | inr create ↦ c.1 (inr (inr (inl create))) ] ])
-    clean_due WriteFault d clean = absurd (elim clean [ inl e ↦ omega (arith, e) | inr c ↦ c.1 (inr (inr (inr (output_rose d)))) ])
-    clean_due WrongCapture d clean = record { finished = tt; whole = event_whole 5 d; printed = refl }
-    clean_due OutOfMemory d clean = absurd (elim clean [ inl e ↦ omega (arith, e) | inr c ↦ c.0 refl ])
-    clean_due Limit d clean = record { finished = tt; whole = event_whole 7 d; printed = refl }
-
-    no_line : (due : Status) → status_number due ≡ 0 → due_line script has.runs due ≡ []
-    no_line due e = ap (due_line script has.runs) (is_by due Done e)
+    finished_due : (due : Status) → IsDue script has.runs hand mid after due → IsUnrefused (status_number due) → Finished due
+    finished_due Done d unrefused = record { finished = tt; whole = done_is_whole script before.folder.held 1 packets_limit seen has.runs are d; body = refl; last = no_last (done_has_no_event script has.runs d) }
+    finished_due NoForm d unrefused = absurd d
+    finished_due WrongScript d unrefused = absurd d
+    finished_due ReadFault d unrefused = absurd (unrefused (inl refl))
+    finished_due WriteFault d unrefused = absurd (unrefused (inr (inl refl)))
+    finished_due WrongCapture d unrefused = record { finished = tt; whole = event_whole 5 d; body = refl; last = refl }
+    finished_due OutOfMemory d unrefused = absurd (unrefused (inr (inr refl)))
+    finished_due Limit d unrefused = record { finished = tt; whole = event_whole 7 d; body = refl; last = refl }
 
     append_rose : ends.due ≡ WriteFault → AppendRose stages before after
     append_rose is = output_rose (subst (IsDue script has.runs hand mid after) is has.is_due)
 
-    -- where nothing was refused
-    clean_ends : IsClean stages before after (status_number status) → Finished ends.due × (IsTrue before.stream.tells → IsWritten (report_text report) before after)
-    clean_ends clean = elim shown [
-      | inl printed ↦ elim printed.how [
+    -- so it is with each status that is no refusal's
+    finished_ends : IsUnrefused (status_number status) → Finished ends.due × (IsTrue before.stream.tells → PrintsReport report before after (status_number status))
+    finished_ends unrefused = elim shown [
+      | inl printed ↦ elim printed.1.how [
         | inl all ↦
-            let f = clean_due ends.due has.is_due (so all.0) in
-            (f, λ out. all.2 out ∙ ap (λ t. before.stream.written ++ t) f.printed)
-        | inr rest ↦ absurd (elim rest [
-          | inl memory ↦ elim (so memory.0) [ inl e ↦ omega (arith, e) | inr c ↦ c.0 refl ]
+            let f = finished_due ends.due has.is_due (so all.0) in
+            (f, λ out. inl (all.1, subst (λ (t : List ℕ). IsWritten t before after) (whole_text f) (all.2 out)))
+        | inr rest ↦ elim rest [
+          | inl memory ↦ absurd (so memory.0 (inr (inr refl)))
           | inr failed ↦ elim failed [
-            | inl broken ↦ elim (so broken.0) [ inl e ↦ omega (arith, e) | inr c ↦ c.1 (inl broken.1) ]
-            | inr line ↦ elim (so line.0) [ inl e ↦ omega (arith, line.2, ap length (no_line ends.due e)) | inr c ↦ c.1 (inl line.1) ]
+            | inl broken ↦ absurd (so broken.0 (inr (inl refl)))
+            | inr line ↦
+                let f = finished_due ends.due has.is_due (so line.0) in
+                (f, λ out. inr (λ zero. omega (arith, line.2, no_line (sym line.0 ∙ is_by status Done zero)), never_8 status, line.1, in_its_line f (line.3 out)))
           ]
-        ])
+        ]
       ]
-      | inr kept ↦ absurd (elim (so kept.is) [ inl e ↦ omega (arith, e) | inr c ↦ c.1 (inr (inr (inr (append_rose kept.due_is)))) ])
+      | inr kept ↦ absurd (so kept.is (inr (inl refl)))
     ] where
-      so : {s : Status} → status ≡ s → IsClean stages before after (status_number s)
-      so is = subst (λ (s : Status). IsClean stages before after (status_number s)) is clean
+      so : {s : Status} → status ≡ s → IsUnrefused (status_number s)
+      so is = subst (λ (s : Status). IsUnrefused (status_number s)) is unrefused
+
+      no_line : ends.due ≡ Done → length (due_line script has.runs ends.due) ≡ 0
+      no_line done = ap (λ (d : Status). length (due_line script has.runs d)) done
+
+      whole_text : Finished ends.due → due_body script has.runs ends.due ++ due_line script has.runs ends.due ≡ report_text report
+      whole_text f = ap₂ (λ (b l : List ℕ). b ++ l) f.body f.last
+
+      in_its_line : Finished ends.due → EndsInLine (due_body script has.runs ends.due) (due_line script has.runs ends.due) before.stream.written after.stream.written
+          → EndsInLine report.body report.last before.stream.written after.stream.written
+      in_its_line f ends' =
+          subst (λ (b : List ℕ). EndsInLine b report.last before.stream.written after.stream.written) f.body
+          (subst (λ (l : List ℕ). EndsInLine (due_body script has.runs ends.due) l before.stream.written after.stream.written) f.last ends')
 
     -- every report of what was asked for has the same texts where a call of the folder can fail
     pauses : (r : Report) → says.report before.folder.held seen r → Contains r.pauses (pause_text script has.runs)
@@ -368,7 +377,7 @@ module _ (file : List ℕ) (workers : ℕ) (before : Outside) (folder : DepotSta
     pause out e =
         let read = is_by status ReadFault e in
         elim shown [
-          | inl printed ↦ elim printed.how [
+          | inl printed ↦ elim printed.1.how [
             | inl all ↦
                 let due : ends.due ≡ ReadFault = sym all.0 ∙ read in (
                   pause_text script has.runs,
@@ -386,32 +395,40 @@ module _ (file : List ℕ) (workers : ℕ) (before : Outside) (folder : DepotSta
           | inr kept ↦ absurd (omega (arith, e, ap status_number kept.is))
         ]
 
-    stop : status_number status ≡ 4 → StopsInBody says before after seen ⊎ AppendRose stages before after
+    stop : status_number status ≡ 4 → StopsInBody says before after seen ⊎ StopsAtAppend says before after seen stages
     stop e =
         let write = is_by status WriteFault e in
         elim shown [
-          | inl printed ↦ elim printed.how [
-            | inl all ↦ inr (append_rose (sym all.0 ∙ write))
+          | inl printed ↦ elim printed.1.how [
+            | inl all ↦ absurd (printed.0 (sym all.0 ∙ write))
             | inr rest ↦ elim rest [
               | inl memory ↦ absurd (omega (arith, e, ap status_number memory.0))
               | inr failed ↦ elim failed [
                 | inl broken ↦
                     let begins = body_begins script has.runs ends.due in
                     inl (record {
+                      appends = unappended (ends.appends printed.0);
                       report = report;
                       has = has_report;
                       some = omega (arith, broken.2.some, ap length begins.1, length-append (due_body script has.runs ends.due) begins.0);
                       part = λ out. longer_less (due_body script has.runs ends.due) begins.0 report.body before.stream.written after.stream.written begins.1 (broken.2.written out);
                     })
-                | inr line ↦ absurd (omega (arith, line.2, ap (λ (d : Status). length (due_line script has.runs d)) (sym line.0 ∙ write)))
+                | inr line ↦ absurd (printed.0 (sym line.0 ∙ write))
               ]
             ]
           ]
-          | inr kept ↦ inr (append_rose kept.due_is)
-        ]
+          | inr kept ↦ inr (record {
+            rose = append_rose kept.due_is;
+            text = pause_text script has.runs;
+            pauses = pauses;
+            part = λ out. subst (λ (t : List ℕ). WritesPrefix t before.stream.written after.stream.written) (pause_due kept.due_is) (kept.front out);
+          })
+        ] where
+          pause_due : ends.due ≡ WriteFault → due_body script has.runs ends.due ++ due_line script has.runs ends.due ≡ pause_text script has.runs
+          pause_due is = ap (λ (d : Status). due_body script has.runs d ++ due_line script has.runs d) is ∙ append-nil (pause_text script has.runs)
 
     prints : Prints says before after (status_number status) seen stages
-    prints = record { whole = λ out clean. (report, has_report, (clean_ends clean).1 out); body = body; part = part; pause = pause; stop = stop }
+    prints = record { whole = λ out unrefused. (report, has_report, (finished_ends unrefused).1 out); part = part; pause = pause; stop = stop }
 
     -- ---- files
 
@@ -434,15 +451,16 @@ module _ (file : List ℕ) (workers : ℕ) (before : Outside) (folder : DepotSta
         as_script file (before.folder.held file) text script (holds told) is _ _ _ (take (length seen - 1) has.runs, runs_front (plan_of script) before.folder.held (length seen - 1) 1 packets_limit script.flows seen has.runs are, refl),
         λ k d within. made_here _ (has.earlier k d within),
       );
-      whole = λ clean k d within. made_here _ (has.made (clean_ends clean).0.finished k d within);
+      whole = λ unrefused k d within. made_here _ (has.made (finished_ends unrefused).0.finished k d within);
       others = λ name none. has.others name (none_of_theirs has.runs name none) ∙ kept name;
+      unmade = λ name none. has.others name (none_makes (plan_of script) before.folder.held name 1 packets_limit script.flows seen has.runs are (λ k d less. none (suc k) d (omega (arith, less)))) ∙ kept name;
     }
 
     lawful : says.lawful before.folder.held seen
     lawful = as_script file (before.folder.held file) text script (holds told) is _ _ _ (has.runs, are, has.lawful)
 
-    whole : IsClean stages before after (status_number status) → says.whole before.folder.held seen
-    whole clean = as_script file (before.folder.held file) text script (holds told) is _ _ _ (has.runs, are, (clean_ends clean).0.whole)
+    whole : IsUnrefused (status_number status) → says.whole before.folder.held seen
+    whole unrefused = as_script file (before.folder.held file) text script (holds told) is _ _ _ (has.runs, are, (finished_ends unrefused).0.whole)
 
   -- ---- the call
 
@@ -452,9 +470,19 @@ module _ (file : List ℕ) (workers : ℕ) (before : Outside) (folder : DepotSta
   possible WrongScript cause = absurd cause
   possible ReadFault cause = inr (inl refl)
   possible WriteFault cause = inr (inr (inl refl))
-  possible WrongCapture cause = inl (text, subst (λ (r : Result Script ScriptStop). RunMay r 5) (sym is) (inr (some_flow script seen cause, inl refl)))
+  possible WrongCapture cause = inl (text, subst (λ (r : Result Script ScriptStop). RunMay r 5) (sym is) (inr (some_flow script seen cause.0, inl refl)))
   possible OutOfMemory cause = inr (inr (inr refl))
-  possible Limit cause = inl (text, subst (λ (r : Result Script ScriptStop). RunMay r 7) (sym is) (inr (some_flow script seen cause, inr refl)))
+  possible Limit cause = inl (text, subst (λ (r : Result Script ScriptStop). RunMay r 7) (sym is) (inr (some_flow script seen cause.0, inr refl)))
+
+  decided : (s : Status) → IsCauseOf hand s mid after → IsUnrefused (status_number s) → NoFileFailed before after
+  decided Done cause unrefused = no_file_failed (record { reads = cause.reads; creates = cause.creates; appends = cause.appends })
+  decided NoForm cause unrefused = absurd cause
+  decided WrongScript cause unrefused = absurd cause
+  decided ReadFault cause unrefused = absurd (unrefused (inl refl))
+  decided WriteFault cause unrefused = absurd (unrefused (inr (inl refl)))
+  decided WrongCapture cause unrefused = no_file_failed cause.1
+  decided OutOfMemory cause unrefused = absurd (unrefused (inr (inr refl)))
+  decided Limit cause unrefused = no_file_failed cause.1
 
   with_ends : EndsWith says asked before after (status_number status) seen stages
   with_ends = record {
@@ -463,11 +491,9 @@ module _ (file : List ℕ) (workers : ℕ) (before : Outside) (folder : DepotSta
     no_form = λ e. absurd (cause_of NoForm (is_by status NoForm e));
     usage = λ none. absurd cc;
     read_fault = λ e. let cause = cause_of ReadFault (is_by status ReadFault e) in (unwritten cause.0, input_rose cause.1);
-    write_fault = λ e. elim (cause_of WriteFault (is_by status WriteFault e)) [ inl write ↦ inl write | inr append ↦ inr (output_rose append) ];
-    memory = λ e.
-        let cause = cause_of OutOfMemory (is_by status OutOfMemory e) in
-        (unwritten cause.0, elim cause.1 [ inl none ↦ inl (none_failed none) | inr rose ↦ inr (input_rose rose) ]);
-    memory_alone = λ e none. elim (cause_of OutOfMemory (is_by status OutOfMemory e)).1 [ inl none' ↦ none_failed none' | inr rose ↦ absurd (none_rose none rose) ];
+    write_fault = λ e. let cause = cause_of WriteFault (is_by status WriteFault e) in (fails_to_write cause, inputs cause.1);
+    memory = λ e. let cause = cause_of OutOfMemory (is_by status OutOfMemory e) in (unwritten cause.0, inputs cause.1);
+    decided = decided status ends.cause;
     unmoved = λ done. elim done [ inl none ↦ none_failed (cause_of Done (is_by status Done none)) | inr eight ↦ absurd (never_8 status eight) ];
   }
 
@@ -476,13 +502,13 @@ module _ (file : List ℕ) (workers : ℕ) (before : Outside) (folder : DepotSta
     stages = stages;
     begun = begun;
     ends = with_ends;
-    prints = prints;
+    prints = λ known. prints (known tt);
     leaves = leaves;
     lawful = lawful;
     whole = whole;
     access = λ told. has_access asked before.folder.held seen;
     withheld = λ told. withholds asked before.folder.held seen;
-    silent = λ out e none. absurd (none_rose none (cause_of ReadFault (is_by status ReadFault e)).1);
+    silent = λ out e. inl (failed_after_text (cause_of ReadFault (is_by status ReadFault e)).1);
     still = λ none.
         let same = ends.still (no_outputs (take (length seen) script.flows) (λ k d less. none (suc k) d (omega (arith, less)))) in
         (λ name. same.0 name ∙ reads.creates name, λ name. same.1 name ∙ reads.appends name);
@@ -533,6 +559,7 @@ pauses_so file held (Some text) r h = pauses_by held (script_read file text) r h
 -- what it knows of the file that it reads
 pub run_reads : (file : List ℕ) (workers : ℕ) → ReadsScript (netlabel_says (Some (Run file workers))) file
 run_reads file workers = record {
+  depends = tt;
   knows = λ before after reads told. knows_reading (netlabel_says (Some (Run file workers))) (reading_stage file ∷ []) before after
       (refl, of_each file _ _ _ refl (λ why. refl) (λ script. refl) (before.folder.held file))
       (of_each file _ _ _ refl (λ why. refl) (λ script. ([], tt, refl)) (before.folder.held file))

@@ -22,9 +22,7 @@ use Rattle.call_report.specs.declared.status.Status.{Status}
 use Rattle.call_report.specs.declared.status.Status.TheVariants.{Done, NoForm, WrongScript, ReadFault, WriteFault, WrongCapture, OutOfMemory, Limit}
 use Rattle.call_report.specs.Report.{report_text}
 use Rattle.call_report.specs.Event.{Event}
-use Rattle.call_report.specs.Status.{status_number}
 use Rattle.netlabel_run.specs.Run.{flow_stage}
-use Rattle.call_report.specs.CallEnds.{IsRefusal}
 
 -- ---- another folder with the same content
 
@@ -93,18 +91,6 @@ body_begins script runs WrongScript = ([], append-nil (runs_report script runs).
 body_begins script runs WrongCapture = ([], append-nil (runs_report script runs).body)
 body_begins script runs OutOfMemory = ([], append-nil (runs_report script runs).body)
 body_begins script runs Limit = ([], append-nil (runs_report script runs).body)
-
--- where the outside refused nothing all of the body is printed, and of the event's line nothing, or all
-pub line_begins : (script : Script) (runs : List FlowRun) (due : Status) → (IsRefusal (status_number due) → ⊥)
-    → (due_body script runs due ≡ (runs_report script runs).body) × (rest : List ℕ) × (due_line script runs due ++ rest ≡ (runs_report script runs).last)
-line_begins script runs Done other = (refl, (runs_report script runs).last, refl)
-line_begins script runs NoForm other = (refl, (runs_report script runs).last, refl)
-line_begins script runs WrongScript other = (refl, (runs_report script runs).last, refl)
-line_begins script runs ReadFault other = absurd (other (inl refl))
-line_begins script runs WriteFault other = absurd (other (inr (inl refl)))
-line_begins script runs WrongCapture other = (refl, [], append-nil (runs_report script runs).last)
-line_begins script runs OutOfMemory other = absurd (other (inr (inr refl)))
-line_begins script runs Limit other = (refl, [], append-nil (runs_report script runs).last)
 
 -- with an event's line it begins the report
 without_line : (script : Script) (runs : List FlowRun) (body : List ℕ) → (rest : List ℕ) × (body ++ rest ≡ (runs_report script runs).body) → (rest : List ℕ) × ((body ++ []) ++ rest ≡ report_text (runs_report script runs))
@@ -234,6 +220,19 @@ output_of_last (flow ∷ []) stage of is = let same : flow ≡ of = cc in ap (λ
 output_of_last (flow ∷ next ∷ flows) stage of is = output_of_last (next ∷ flows) (flow_stage flow) of is
 
 -- ---- outputs
+
+-- what no stage makes that was begun, no flow makes that has run
+pub none_makes : (plan : PlanState) (held : Folder) (name : List ℕ) (number most : ℕ) (flows : List FlowLine) (seen : Versions) (runs : List FlowRun) → AreRuns plan held number most flows seen runs
+    → All (λ (stage : Stage). stage.output ≢ Some name) (map flow_stage (take (length seen) flows)) → All (λ (run : FlowRun). run.flow.output ≢ Some name) runs
+none_makes plan held name number most [] [] [] h none = All-nil (λ (run : FlowRun). run.flow.output ≢ Some name)
+none_makes plan held name number most (flow ∷ flows) [] [] h none = All-nil (λ (run : FlowRun). run.flow.output ≢ Some name)
+none_makes plan held name number most (flow ∷ flows) (lists ∷ seen) (run ∷ runs) h none =
+    All-cons (λ (r : FlowRun). r.flow.output ≢ Some name) run runs (subst (λ (f : FlowLine). f.output ≢ Some name) (sym h.1) (none 0 (flow_stage flow) (omega arith)))
+    (none_makes plan held name (number + 1) (most - length lists) flows seen runs h.5 (λ k d less. none (suc k) d (omega (arith, less))))
+none_makes plan held name number most [] [] (run ∷ runs) h none = absurd h
+none_makes plan held name number most [] (lists ∷ seen) runs h none = absurd h
+none_makes plan held name number most (flow ∷ flows) [] (run ∷ runs) h none = absurd h
+none_makes plan held name number most (flow ∷ flows) (lists ∷ seen) [] h none = absurd h
 
 cons_rest : (P : Output → Type 0) (o : Option Output) (os : List Output) → All P (cons_option o os) → All P os
 cons_rest P None os all = all

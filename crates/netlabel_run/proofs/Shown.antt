@@ -26,7 +26,7 @@ use Rattle.call_report.specs.Lines.Packet.{shown_line, shown_end_line, IsShown}
 use Rattle.call_report.specs.Lines.Capture.{capture_line}
 use Rattle.call_report.specs.Lines.Fixed.{packets_limit_line}
 use Rattle.call_report.specs.Event.{Event, packets_limit}
-use Rattle.call_report.specs.CallEnds.{CallEnds}
+use Rattle.call_report.specs.CallEnds.{CallEnds, KnowsReport}
 use Rattle.netlabel_run.specs.Show.{lines_report, CaptureReport, ShowReport, ShowStatus, capture_status, show_says}
 use Rattle.netlabel_run.specs.Commands.{netlabel_says}
 use Rattle.call_report.specs.Report.{Folder, Report, late_report}
@@ -83,11 +83,7 @@ module _ (file : List ℕ) where
   has_form e = absurd cc
 
   knows_show : (before after : Outside) → IsOnlyRead before.folder after.folder → after.stream.tells ≡ before.stream.tells → Knows (show_says file) before after (reading_stage file ∷ [])
-  knows_show before after reads told = knows_file file ShowReport ShowStatus ⊥ before after reads told
-
-  -- it doesn't wait for the capture's end before it prints
-  not_late : (show_says file).late [] → ⊥
-  not_late late = late
+  knows_show before after reads told = knows_file file ShowReport ShowStatus (Unit {0}) before after reads told
 
   -- a front of a told capture's report begins the report of the call
   front_begins : (held : Folder) (octets text : List ℕ) → held file ≡ Some octets → HasFront octets text → Begins (show_says file) held text
@@ -100,7 +96,7 @@ module _ (file : List ℕ) where
 
   -- what is due of a capture, by its body, the event's line and the status that is told
   show_due : (before : Outside) (due : Status) (body last octets' : List ℕ) → status_number due ≡ capture_status (capture_file octets') → (status_number due ≡ 3 → ⊥) → (status_number due ≡ 4 → ⊥) → (status_number due ≡ 6 → ⊥)
-      → (status_number due ≡ 0 → last ≡ []) → (IsTrue before.folder.tells → (show_says file).status before.folder.held (status_number due)) → (IsTrue before.folder.tells → HasParts (show_says file) before.folder.held body last) → IsDue (show_says file) before (status_number due) body last
+      → (status_number due ≡ 0 → last ≡ []) → (IsTrue before.folder.tells → (show_says file).status before.folder.held (status_number due)) → (KnowsReport (show_says file) before.folder → HasParts (show_says file) before.folder.held body last) → IsDue (show_says file) before (status_number due) body last
   show_due before due body last octets' may not_3 not_4 not_6 done has parts = record {
     event = (not_3, not_4, not_6);
     has = has;
@@ -161,14 +157,18 @@ module _ (file : List ℕ) (before now after : Outside) (reader : AnyFrames) (wa
       let held : now.folder.held (file_name_of reader) ≡ Some (showing.told told).0 = showing.same.kept told (file_name_of reader) ∙ ap before.folder.held showing.name ∙ (showing.told told).1 in
       subst (Answers packet next result) (ap octets_of held) (answer (subst IsTrue (sym showing.same.told) told))
 
-  begins : IsTrue before.folder.tells → Begins (show_says file) before.folder.held showing.text
-  begins told =
-      let t = showing.told told in
+  -- what is known of the report
+  abbrev KnowsIt : Type 0
+  KnowsIt = KnowsReport (show_says file) before.folder
+
+  begins : KnowsIt → Begins (show_says file) before.folder.held showing.text
+  begins known =
+      let t = showing.told (known tt) in
       front_begins file before.folder.held t.0 showing.text t.1 (has_front t.0 (format_of reader) (left_of reader t.0) n showing.text t.2 showing.few)
 
-  pauses : IsTrue before.folder.tells → (report : Report) → (show_says file).report before.folder.held [] report → Contains report.pauses showing.text
-  pauses told report has =
-      let t = showing.told told in
+  pauses : KnowsIt → (report : Report) → (show_says file).report before.folder.held [] report → Contains report.pauses showing.text
+  pauses known report has =
+      let t = showing.told (known tt) in
       let front = has_front t.0 (format_of reader) (left_of reader t.0) n showing.text t.2 showing.few in
       let mine : ShowReport (before.folder.held file) front.report = subst (λ (f : Option (List ℕ)). ShowReport f front.report) (sym t.1) front.has in
       subst (λ (r : Report). Contains r.pauses showing.text) (show_report_once (before.folder.held file) front.report report mine has)
@@ -202,10 +202,10 @@ module _ (file : List ℕ) (before now after : Outside) (reader : AnyFrames) (wa
       let end = shown_end_line n in
       let whole : EndsBy None =
       λ told. let t = showing.told told in ends_whole t.0 (format_of reader) (left_of reader t.0) n showing.text t.2 showing.few (said packet next (Ok None) answer told).0 in
-      let has : IsTrue before.folder.tells → HasParts (show_says file) before.folder.held (showing.text ++ end) [] = λ told.
-      let amid = (showing.told told).2 in
+      let has : KnowsIt → HasParts (show_says file) before.folder.held (showing.text ++ end) [] = λ known.
+      let amid = (showing.told (known tt)).2 in
       let count : length amid.lines ≡ n = lines_count 1 amid.frames amid.lines amid.are ∙ amid.count in
-      record { report = lines_report amid.lines None; has = parts None whole told; body = λ i. sym amid.is i ++ shown_end_line (count i); last = refl } in
+      record { report = lines_report amid.lines None; has = parts None whole (known tt); body = λ i. sym amid.is i ++ shown_end_line (count i); last = refl } in
       ends_printed netlabel_says (asked file) before after (reading_stage file ∷ []) (knows (Ok None) reads printed.told) Done (showing.text ++ end) []
       (asks (asked file) 0 (showing.text ++ end) (has_form file) (λ e. omega (arith, e)))
       (show_due file before Done (showing.text ++ end) [] (capture_with 0) whole_status (λ e. omega (arith, e)) (λ e. omega (arith, e)) (λ e. omega (arith, e)) (λ e. refl) (due None whole) has)
@@ -219,9 +219,9 @@ module _ (file : List ℕ) (before now after : Outside) (reader : AnyFrames) (wa
       → Printed waiting line kind status now.stream after.stream → CallEnds netlabel_says (asked file) before after (status_number status) []
   ends_by result kind line octets' status reads other may not_3 not_4 not_6 not_1 not_0 ends printed =
       let event : Option Event = Some (record { status = status_number kind; line = line }) in
-      let has : IsTrue before.folder.tells → HasParts (show_says file) before.folder.held showing.text line = λ told.
-      let amid = (showing.told told).2 in
-      record { report = lines_report amid.lines event; has = parts event ends told; body = sym amid.is; last = refl } in
+      let has : KnowsIt → HasParts (show_says file) before.folder.held showing.text line = λ known.
+      let amid = (showing.told (known tt)).2 in
+      record { report = lines_report amid.lines event; has = parts event ends (known tt); body = sym amid.is; last = refl } in
       ends_printed netlabel_says (asked file) before after (reading_stage file ∷ []) (knows result reads printed.told) kind showing.text line
       (asks (asked file) (status_number kind) showing.text (has_form file) not_1)
       (show_due file before kind showing.text line octets' may not_3 not_4 not_6 (λ e. absurd (not_0 e)) (due event ends) has)
@@ -257,8 +257,8 @@ module _ (file : List ℕ) (before now after : Outside) (reader : AnyFrames) (wa
       ends_at_fault (stop.Ng fault) (Pcapng fault) status reads (λ failed. absurd cc) (said packet next (Err (stop.Ng fault)) answer) printed
   ends_at_stop stop.ReadFault packet next status reads answer printed =
       ends_stopped_unread netlabel_says (asked file) before after (reading_stage file ∷ []) (knows (Err stop.ReadFault) reads printed.told) showing.text (has_form file) begins status
-      (record { name = file; counted = inl refl; rose = then_rose before.folder now.folder after.folder showing.same stop.ReadFault (file_name_of reader) file showing.name reads })
-      pauses (not_late file)
+      (record { name = file; in_hand = refl; rose = then_rose before.folder now.folder after.folder showing.same stop.ReadFault (file_name_of reader) file showing.name reads })
+      pauses tt
       (a_report_is_printed showing.text waiting before.stream now.stream showing.way [] ReadFault status after.stream printed)
   ends_at_stop stop.OutOfMemory packet next status reads answer printed =
       ends_stopped_short netlabel_says (asked file) before after (reading_stage file ∷ []) (knows (Err stop.OutOfMemory) reads printed.told) showing.text (has_form file) begins status
@@ -289,11 +289,11 @@ module _ (file : List ℕ) (before now after : Outside) (reader : AnyFrames) (wa
       few = omega (arith, few);
     }
 
-    write_front : IsTrue before.folder.tells → Begins (show_says file) before.folder.held (showing.text ++ shown_line (n + 1) s)
-    write_front told =
-        let t = showing.told told in
+    write_front : KnowsIt → Begins (show_says file) before.folder.held (showing.text ++ shown_line (n + 1) s)
+    write_front known =
+        let t = showing.told (known tt) in
         let text = showing.text ++ shown_line (n + 1) s in
-        front_begins file before.folder.held t.0 text t.1 (has_front t.0 (format_of next) (left_of next t.0) (n + 1) text (amid_more told) (omega (arith, few)))
+        front_begins file before.folder.held t.0 text t.1 (has_front t.0 (format_of next) (left_of next t.0) (n + 1) text (amid_more (known tt)) (omega (arith, few)))
 
     -- or was not
     pub ends_at_write : {T : Type 0} (still : List ℕ) (fault : IoFault) → HandsOn {T = T} (shown_line (n + 1) s) waiting still (Err fault) now.stream after.stream
@@ -301,6 +301,7 @@ module _ (file : List ℕ) (before now after : Outside) (reader : AnyFrames) (wa
     ends_at_write still Failed hands =
         let line = shown_line (n + 1) s in
         ends_unwritten netlabel_says (asked file) before after (reading_stage file ∷ []) (knows (Ok (Some head)) reads hands.told) (showing.text ++ line) (has_form file)
+        (inl (same_reads (Ok (Some head)) reads (λ failed. absurd cc)))
         (faults_rose_over_a_report showing.text waiting before.stream now.stream showing.way after.stream (hands.counts.cause refl))
         (a_report_breaks showing.text waiting before.stream now.stream showing.way line after.stream hands.err)
         write_front
@@ -315,8 +316,8 @@ module _ (file : List ℕ) (before now after : Outside) (reader : AnyFrames) (wa
 -- ---- a capture that can't be begun
 
 module _ (file : List ℕ) (before after : Outside) where
-  any_begins : IsTrue before.folder.tells → Begins (show_says file) before.folder.held []
-  any_begins told = let r = some_report (before.folder.held file) in record { report = r.0; has = r.1; rest = r.0.body; body = refl }
+  any_begins : KnowsReport (show_says file) before.folder → Begins (show_says file) before.folder.held []
+  any_begins known = let r = some_report (before.folder.held file) in record { report = r.0; has = r.1; rest = r.0.body; body = refl }
 
   abbrev Began : ReadStop → Type 0
   Began why = OnlyReads {T = AnyFrames} stop.ReadFault (Err why) file before.folder after.folder
@@ -334,7 +335,7 @@ module _ (file : List ℕ) (before after : Outside) where
       (asks (asked file) 5 [] (has_form file) (λ e. omega (arith, e)))
       (show_due file before WrongCapture [] (capture_line 1 fault) [] empty_is_broken (λ e. omega (arith, e)) (λ e. omega (arith, e)) (λ e. omega (arith, e)) (λ e. absurd (omega (arith, e)))
       (λ told. let t = there told in subst (λ (f : Option (List ℕ)). ShowStatus f 5) (sym t.1) (ap capture_status (sym t.2)))
-      (λ told. let t = there told in record {
+      (λ known. let t = there (known tt) in record {
         report = report;
         has = subst (λ (f : Option (List ℕ)). ShowReport f report) (sym t.1) (subst (λ (r : Result CaptureFile FileFault). CaptureReport r report) (sym t.2) refl);
         body = refl;
@@ -348,7 +349,7 @@ module _ (file : List ℕ) (before after : Outside) where
   ends_unbegun (stop.Ng fault) status reads answer printed = ends_at_begin (stop.Ng fault) (Pcapng fault) status reads (λ failed. absurd cc) answer printed
   ends_unbegun stop.ReadFault status reads answer printed =
       ends_stopped_unread netlabel_says (asked file) before after (reading_stage file ∷ []) (knows_begun stop.ReadFault reads printed.told) [] (has_form file) any_begins status
-      (record { name = file; counted = inl refl; rose = reads.reads.cause refl })
-      (λ told report has. first_pause (before.folder.held file) report has) (not_late file) printed
+      (record { name = file; in_hand = refl; rose = reads.reads.cause refl })
+      (λ known report has. first_pause (before.folder.held file) report has) tt printed
   ends_unbegun stop.OutOfMemory status reads answer printed =
       ends_stopped_short netlabel_says (asked file) before after (reading_stage file ∷ []) (knows_begun stop.OutOfMemory reads printed.told) [] (has_form file) any_begins status (reads.reads.still (λ failed. absurd cc)) printed

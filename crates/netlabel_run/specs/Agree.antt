@@ -1,4 +1,4 @@
--- `agree`: whether each two neighbouring hops of a flow give the numbers on the wire one meaning, under versions of the tables that a packet of
+-- `agree`: whether every two neighbouring hops of a flow give the numbers on the wire one meaning, under versions of the tables that a packet of
 -- the flow can have; or why the text is no script, or has no such flow or versions.
 use Rattle.std.specs.Prelude.{ℕ, ◌+◌, List, [], ◌∷◌, ◌++◌, Option, Some, None, is_none}
 use Rattle.std.specs.List.{list_all}
@@ -19,7 +19,7 @@ abbrev pub IsFound : HopState → HopState → Option Disagree → Type 0
 IsFound left right None = Agree left.tables right.tables left.named right.named
 IsFound left right (Some d) = IsFirst left.tables right.tables left.named right.named d
 
--- what each two neighbouring hops come to, each with the tables of its own version and the reading of its own node
+-- what every two neighbouring hops come to, each with the tables of its own version and the reading of its own node
 abbrev pub AreFound : PlanState → List NamedMeanings → List Hop → List ℕ → List (Option Disagree) → Type 0
 AreFound plan readings hops versions found = EachTwo IsFound plan readings hops versions found
 

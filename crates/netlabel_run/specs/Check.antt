@@ -35,4 +35,4 @@ CheckStatus file (Some text) status = status ≡ script_status (script_read file
 
 -- it reads one file, and prints nothing in front of the read
 abbrev pub check_says : List ℕ → Says
-check_says file = reading_says file (CheckReport file) (CheckStatus file) (Unit {0})
+check_says file = reading_says file (CheckReport file) (CheckStatus file) ⊥

@@ -89,4 +89,4 @@ JudgeStatus (Some octets) status = ((packet_limit < length octets) × (status �
 
 -- it reads one file, and prints nothing in front of the read
 abbrev pub judge_says : ℕ → Label → List ℕ → Says
-judge_says doi level file = reading_says file (JudgeReport doi level) JudgeStatus (Unit {0})
+judge_says doi level file = reading_says file (JudgeReport doi level) JudgeStatus ⊥

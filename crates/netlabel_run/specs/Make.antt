@@ -11,6 +11,7 @@ use Rattle.call_report.specs.Says.{Says}
 abbrev pub make_says : ℕ → ℕ → List ℕ → Says
 make_says seed count file = record {
   report = λ held seen report. report ≡ late_report (made_line count (delivered_made seed count) (denied_made seed count)) [];
+  reads = ⊥;
   status = λ held status. status ≡ 0;
   possible = λ status. status ≡ 0;
   stages = λ held seen stages. (seen ≡ []) × (stages ≡ making_stage file ∷ []);
@@ -19,5 +20,5 @@ make_says seed count file = record {
   whole = λ held seen. seen ≡ [];
   access = λ held seen. Unit {0};
   withheld = λ held seen. Unit {0};
-  late = λ seen. Unit {0};
+  preceded = λ seen stages call. ⊥;
 }

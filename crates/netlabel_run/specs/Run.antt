@@ -1,5 +1,5 @@
 -- `run`: the commands and flows of a script.
-use Rattle.std.specs.Prelude.{ℕ, ◌≡◌, ◌⊎◌, ◌<◌, List, [], ◌∷◌, length, take, drop, map, All, Some, Result, Ok, Err}
+use Rattle.std.specs.Prelude.{ℕ, ◌≡◌, ◌≢◌, ◌⊎◌, ◌<◌, List, [], ◌∷◌, length, take, drop, map, All, Some, Result, Ok, Err}
 use Rattle.label_commands.specs.declared.script.Script.{Script}
 use Rattle.label_commands.specs.declared.stop.ScriptStop.{ScriptStop}
 use Rattle.flow_lines.specs.declared.flow.FlowLine.{FlowLine}
@@ -89,10 +89,11 @@ OfEachRun P file held seen = ByScript file (held file)
     (λ stop. Unit {0})
     (λ script. (runs : List FlowRun) → AreItsRuns script held seen runs → All (P script) runs)
 
--- a status is possible by what its script may hold; nothing is printed in front of its reads where it has begun no flow
+-- a status is possible by what its script may hold; something may be printed before its reads and makings once it has begun a flow
 abbrev pub run_says : List ℕ → ℕ → Says
 run_says file workers = record {
   report = RunReport file;
+  reads = Unit {0};
   status = RunStatus file;
   possible = λ status. (text : List ℕ) × RunMay (script_read file text) status;
   stages = RunStages file;
@@ -101,5 +102,5 @@ run_says file workers = record {
   whole = RunWhole file;
   access = OfEachRun HasRunAccess file;
   withheld = OfEachRun RunWithholds file;
-  late = λ seen. seen ≡ [];
+  preceded = λ seen stages call. seen ≢ [];
 }

@@ -48,4 +48,4 @@ ShowStatus (Some octets) status = status ≡ capture_status (capture_file octets
 
 -- it reads one file, and prints while it reads
 abbrev pub show_says : List ℕ → Says
-show_says file = reading_says file ShowReport ShowStatus ⊥
+show_says file = reading_says file ShowReport ShowStatus (Unit {0})

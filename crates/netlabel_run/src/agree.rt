@@ -1,4 +1,4 @@
-//! `agree`: whether each two neighbouring hops of a flow give the numbers on the wire one meaning.
+//! `agree`: whether every two neighbouring hops of a flow give the numbers on the wire one meaning.
 
 ghost use Rattle.std.specs.Prelude.{◌≡◌, ◌++◌, [], Some, is_none, OnOk};
 ghost use Rattle.std.specs.List.{list_all};
@@ -17,7 +17,7 @@ use node_agreement::{Disagree, agrees};
 use script_input::{Compares, HopAt, answer_hops, script_of};
 use std::alloc::Global;
 
-/// Reads a script whole, and compares each two neighbouring hops of its flow of this number, each with the tables of its version. Nothing is
+/// Reads a script whole, and compares every two neighbouring hops of its flow of this number, each with the tables of its version. Nothing is
 /// printed before the script is known to be right. Where no versions are named, all are that of the commands above the flow.
 pub(crate) fn agree<D: Depot, S: Sink>(
     alloc: Global,

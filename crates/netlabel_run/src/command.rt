@@ -21,7 +21,7 @@ pub(crate) enum Command<'a> {
     Show {
         file: FileName<'a>,
     },
-    /// `agree`: whether each two neighbouring hops of a script's flow agree, under these versions of the tables.
+    /// `agree`: whether every two neighbouring hops of a script's flow agree, under these versions of the tables.
     Agree {
         file: FileName<'a>,
         flow: u32,

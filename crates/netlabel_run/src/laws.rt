@@ -55,7 +55,7 @@ pub fn labels_are_delivered_exactly_where_granted()
         → (IsVerdict doi level octets (Ok label) ↔ IsGranted doi level octets label) }
 {}
 
-/// `agree` is the last line exactly where each two neighbouring hops agree, each with the tables of its version: what access asks of neighbours.
+/// `agree` is the last line exactly where every two neighbouring hops agree, each with the tables of its version: what access asks of neighbours.
 pub fn agreement_is_told_where_neighbours_agree()
     ensures { (plan : PlanState) (readings : List NamedMeanings) (hops : List Hop)
         (versions : List ℕ) (found : List (Option Disagree))

@@ -32,9 +32,9 @@ use Rattle.call_report.specs.Status.{status_number}
 use Rattle.call_report.proofs.Law.{a_report_begins}
 use Rattle.ripso_border_run.specs.declared.task.Task.{Task}
 use Rattle.ripso_border_run.specs.Outcome.{refused, ByInput, ByCapture}
-use Rattle.ripso_border_run.specs.Says.{border_says}
+use Rattle.ripso_border_run.specs.Says.{border_says, capture_stages}
 use Rattle.ripso_border_run.specs.inside.Course.{IsPlanned, IsUnmoved, with_left, IsCrossing, none_counted}
-use Rattle.ripso_border_run.proofs.Stopping.{asked}
+use Rattle.ripso_border_run.proofs.Stopping.{asked, keeps_capture}
 use Rattle.ripso_border_run.proofs.Early.{early_unread, early_short, early_event}
 
 some_of : (o : Option (List ℕ)) → IsSome o → (held : List ℕ) × (o ≡ Some held)
@@ -63,11 +63,11 @@ module _ (task : Task) (plan : DoiPlan) (before start mid after : Outside) (plan
     -- it couldn't be read
     pub ends_unread_input : IsErrOf result stop.ReadFault → mid.stream ≡ start.stream → CallEnds border_says (asked task) before mid 3 []
     ends_unread_input failed still =
-        early_unread task before mid told_mid kept_mid appends_mid
-        (inl (record { name = task.input; counted = inr refl; rose = subst (λ (k : ℕ). Rose k (mid.folder.reads task.input)) (same.reads task.input) (read.reads.cause failed) })) (still ∙ stream)
+        early_unread task before mid (capture_stages task) (keeps_capture task before mid planned.begun told_mid) kept_mid appends_mid
+        (inl (record { name = task.input; in_hand = refl; rose = subst (λ (k : ℕ). Rose k (mid.folder.reads task.input)) (same.reads task.input) (read.reads.cause failed) })) (still ∙ stream)
 
     pub ends_short_input : (IsErrOf result stop.ReadFault → ⊥) → mid.stream ≡ start.stream → CallEnds border_says (asked task) before mid 6 []
-    ends_short_input other still = early_short task before mid told_mid kept_mid appends_mid (reads_mid other) creates_mid (still ∙ stream)
+    ends_short_input other still = early_short task before mid (capture_stages task) (keeps_capture task before mid planned.begun told_mid) kept_mid appends_mid (reads_mid other) creates_mid (still ∙ stream)
 
     held_input : IsTrue before.folder.tells → start.folder.held task.input ≡ before.folder.held task.input
     held_input told = same.kept told task.input
@@ -77,7 +77,7 @@ module _ (task : Task) (plan : DoiPlan) (before start mid after : Outside) (plan
         → (IsTrue start.folder.tells → capture_header (octets_of (start.folder.held task.input)) ≡ Err broken) → (IsTrue start.folder.tells → IsSome (start.folder.held task.input))
         → Printed [] (capture_line 1 (fault.Pcap broken)) WrongCapture status start.stream mid.stream → CallEnds border_says (asked task) before mid (status_number status) []
     ends_no_capture broken status other answer present printed =
-        early_event task before mid told_mid kept_mid appends_mid WrongCapture status (capture_line 1 (fault.Pcap broken)) (inr (inr (inl refl)))
+        early_event task before mid (capture_stages task) (keeps_capture task before mid planned.begun told_mid) kept_mid appends_mid WrongCapture status (capture_line 1 (fault.Pcap broken)) (inr (inr (inl refl)))
         (λ e. omega (arith, e), λ e. omega (arith, e), λ e. omega (arith, e)) (λ e. omega (arith, e)) (λ e. omega (arith, e))
         (λ told.
         let now_told = subst IsTrue (sym same.told) told in
@@ -106,13 +106,13 @@ module _ (task : Task) (plan : DoiPlan) (before start mid after : Outside) (plan
 
       pub ends_unmade : why ≡ Failed → CallEnds border_says (asked task) before after 3 []
       ends_unmade failed =
-          early_unread task before after told_after kept_after appends_after
+          early_unread task before after (capture_stages task) (keeps_capture task before after planned.begun told_after) kept_after appends_after
           (inr (record { name = task.output; in_hand = refl; rose = subst (λ (k : ℕ). Rose k (after.folder.creates task.output)) (creates_mid (Ok reader) read task.output) (made.creates.cause (ap Err failed)) }))
           (still ∙ stream)
 
       pub ends_short_output : (why ≡ Failed → ⊥) → CallEnds border_says (asked task) before after 6 []
       ends_short_output other =
-          early_short task before after told_after kept_after appends_after (λ name. made.reads name ∙ reads_mid (Ok reader) read (λ e. absurd cc) name)
+          early_short task before after (capture_stages task) (keeps_capture task before after planned.begun told_after) kept_after appends_after (λ name. made.reads name ∙ reads_mid (Ok reader) read (λ e. absurd cc) name)
           (λ name. made.creates.still (λ e. other (let is : why ≡ Failed = cc in is)) name ∙ creates_mid (Ok reader) read name) (still ∙ stream)
 
     -- ---- the first frame

@@ -1,4 +1,4 @@
--- How a call ends in front of its first frame: nothing was printed but the line of an event, and no file has changed.
+-- How a call ends before its first frame: nothing was printed but the line of an event, and no file has changed.
 use Rattle.std.proofs.Common.{◌≡◌, ◌≢◌, ◌⊎◌, ℕ, Bool, true, false, List, [], Option, Some, None, Result, Ok, Err, refl, sym, ap, subst, ◌∙◌, arith, inl, inr}
 use Rattle.std.specs.Prelude.{IsTrue, Contains, MatchBool}
 use Rattle.std.proofs.lemmas.List.{append-nil}
@@ -20,8 +20,9 @@ use Rattle.call_report.specs.Lines.Script.{script_stop_line}
 use Rattle.call_report.specs.Outside.{Outside, ReadRose, CreateRose}
 use Rattle.call_report.specs.Printing.{Printed}
 use Rattle.call_report.specs.Report.{Folder, Report, late_report}
+use Rattle.call_report.specs.Stages.{Stage}
 use Rattle.call_report.specs.Status.{status_number}
-use Rattle.call_report.proofs.Law.{HasLeft, Begins, asks, none_when_done, ends_printed, makes_nothing}
+use Rattle.call_report.proofs.Law.{HasLeft, Keeps, Begins, asks, none_when_done, ends_printed, makes_nothing}
 use Rattle.script_input.specs.ScriptFile.{script_read, ByAnswer, ByScript, script_stop_status}
 use Rattle.ripso_border_run.specs.declared.task.Task.{Task}
 use Rattle.ripso_border_run.specs.Definition.{border_definition}
@@ -99,12 +100,12 @@ module _ (task : Task) where
 
 -- ---- an early end
 
-module _ (task : Task) (before after : Outside) (told : after.folder.tells ≡ before.folder.tells) (kept : IsTrue before.folder.tells → SameHeld before.folder.held after.folder.held)
-    (appends : SameCounts before.folder.appends after.folder.appends) where
-  untouched : IsTrue before.folder.tells → HasLeft (border_says (asked task)) before after
+module _ (task : Task) (before after : Outside) (stages : List Stage) (keeps : after.stream.tells ≡ before.stream.tells → Keeps (border_says (asked task)) before after stages)
+    (kept : IsTrue before.folder.tells → SameHeld before.folder.held after.folder.held) (appends : SameCounts before.folder.appends after.folder.appends) where
+  untouched : IsTrue before.folder.tells → HasLeft (border_says (asked task)) before after stages
   untouched tells =
       let any = any_outcome task before.folder.held in
-      record { outputs = any.0.outputs; are = (any.0, any.1, refl); begun = λ k d within. inl (kept tells _); others = λ name none. kept tells name }
+      record { outputs = any.0.outputs; are = (any.0, any.1, refl); begun = λ k d within. inl (kept tells _); others = λ name none. kept tells name; unmade = λ name none. kept tells name }
 
   begins_empty : IsTrue before.folder.tells → Begins (border_says (asked task)) before.folder.held []
   begins_empty tells = let any = any_outcome task before.folder.held in record { report = any.0.report; has = (any.0, any.1, refl); rest = any.0.report.body; body = refl }
@@ -116,11 +117,10 @@ module _ (task : Task) (before after : Outside) (told : after.folder.tells ≡ b
   nothing_written same = ap (λ (s : SinkState). s.written) same ∙ sym (append-nil before.stream.written)
 
   -- a read has failed, or the making of the output
-  pub early_unread : (ReadRose (stopping.stages task before after) before after ⊎ CreateRose (stopping.stages task before after) before after) → after.stream ≡ before.stream
-      → CallEnds border_says (asked task) before after 3 []
+  pub early_unread : (ReadRose stages before after ⊎ CreateRose stages before after) → after.stream ≡ before.stream → CallEnds border_says (asked task) before after 3 []
   early_unread rose same =
-      stopping.unread task before after [] begins_empty told (ap (λ (s : SinkState). s.tells) same) untouched appends (ap (λ (s : SinkState). s.faults) same) rose empty_pauses
-      (λ out. nothing_written same)
+      stopping.unread task before after stages (keeps (ap (λ (s : SinkState). s.tells) same)) [] begins_empty untouched appends (ap (λ (s : SinkState). s.faults) same) rose empty_pauses
+      (λ out. nothing_written same) (inr refl)
 
   empty_prefix : IsWritten [] before after → WritesPrefix [] before.stream.written after.stream.written
   empty_prefix is = record { count = 0; within = omega arith; written = is }
@@ -128,7 +128,7 @@ module _ (task : Task) (before after : Outside) (told : after.folder.tells ≡ b
   -- memory ran out
   pub early_short : SameCounts before.folder.reads after.folder.reads → SameCounts before.folder.creates after.folder.creates → after.stream ≡ before.stream → CallEnds border_says (asked task) before after 6 []
   early_short reads creates same =
-      stopping.short task before after [] begins_empty told (ap (λ (s : SinkState). s.tells) same) untouched appends (ap (λ (s : SinkState). s.faults) same) (inl (reads, creates))
+      stopping.short task before after stages (keeps (ap (λ (s : SinkState). s.tells) same)) [] begins_empty untouched appends (ap (λ (s : SinkState). s.faults) same) (inl (record { reads = reads; creates = creates }))
       (λ out. empty_prefix (nothing_written same))
 
   -- and what tells it was printed
@@ -137,7 +137,7 @@ module _ (task : Task) (before after : Outside) (told : after.folder.tells ≡ b
   early_quiet status reads creates printed =
       let ended = λ (n : ℕ). CallEnds border_says (asked task) before after n [] in
       let short = λ (writes : after.stream.faults ≡ before.stream.faults) (prefix : IsTrue before.stream.tells → WritesPrefix [] before.stream.written after.stream.written).
-      stopping.short task before after [] begins_empty told printed.told untouched appends writes (inl (reads, creates)) prefix in
+      stopping.short task before after stages (keeps printed.told) [] begins_empty untouched appends writes (inl (record { reads = reads; creates = creates })) prefix in
       elim printed.how [
         | inl all ↦ subst ended (sym (ap status_number all.0)) (short all.1 (λ out. empty_prefix (all.2 out)))
         | inr rest ↦ elim rest [
@@ -155,10 +155,10 @@ module _ (task : Task) (before after : Outside) (told : after.folder.tells ≡ b
       → SameCounts before.folder.reads after.folder.reads → SameCounts before.folder.creates after.folder.creates → Printed [] line due status before.stream after.stream
       → CallEnds border_says (asked task) before after (status_number status) []
   early_event due status line may event not_1 not_0 is reads creates printed =
-      ends_printed border_says (asked task) before after (stopping.stages task before after)
+      ends_printed border_says (asked task) before after stages
       (record {
-        keeps = stopping.keeps task before after told printed.told;
-        made = λ tells. makes_nothing (border_says (asked task)) before after (refused (status_number due) line, is tells, refl) (kept tells);
+        keeps = keeps printed.told;
+        made = λ tells. makes_nothing (border_says (asked task)) before after stages (refused (status_number due) line, is tells, refl) (kept tells);
         creates = creates;
         appends = appends;
       })
@@ -167,7 +167,7 @@ module _ (task : Task) (before after : Outside) (told : after.folder.tells ≡ b
         event = event;
         has = λ tells. (refused (status_number due) line, is tells, refl);
         may = may;
-        parts = λ tells. record { report = late_report [] line; has = (refused (status_number due) line, is tells, refl); body = refl; last = refl };
+        parts = λ known. record { report = late_report [] line; has = (refused (status_number due) line, is (known tt), refl); body = refl; last = refl };
         last = none_when_done due line (λ zero. absurd (not_0 zero));
         whole = λ tells. refl;
       })

@@ -36,13 +36,13 @@ use Rattle.ripso_border_run.specs.declared.task.Task.{Task}
 use Rattle.ripso_border_run.specs.Frames.{AreMadeOf, written_frames, made_lines, count_passed, count_denied, border_report}
 use Rattle.ripso_border_run.specs.Lines.{Made, crossed_end_line}
 use Rattle.ripso_border_run.specs.Outcome.{Outcome, IsOutcome, capture_crossed}
-use Rattle.ripso_border_run.specs.Says.{border_says, IsEnding}
+use Rattle.ripso_border_run.specs.Says.{border_says, capture_stages, IsEnding}
 use Rattle.ripso_border_run.specs.inside.Course.{with_left, IsCrossing, IsEnded, appended, unappended, without_memory}
 use Rattle.ripso_border_run.proofs.Made.{are_counted, starts_contain}
 use Rattle.ripso_border_run.proofs.Leading.{Leads, outcome_of}
 use Rattle.ripso_border_run.proofs.Stopping as stopping
 use Rattle.ripso_border_run.proofs.Stopping.{asked}
-use Rattle.ripso_border_run.proofs.Ending.{records_are, leads, begun, prefix_sent, ends_without_memory}
+use Rattle.ripso_border_run.proofs.Ending.{records_are, leads, begun, keeps, may_pause, prefix_sent, ends_without_memory}
 
 -- nothing more, or a fault: so many frames at the most
 quiet_event : (most n : ℕ) (capture : CaptureFile) → length capture.frames ≡ n → n ≤ most
@@ -126,15 +126,15 @@ module _ (task : Task) (plan : DoiPlan) (before now : Outside) (reader : Reader)
         event = (not_3, not_4, not_6);
         has = λ told. (outcome told, is_outcome told, ap Some number);
         may = may;
-        parts = λ told. record { report = border_report crossing.made event; has = (outcome told, is_outcome told, refl); body = body; last = last };
+        parts = λ known. record { report = border_report crossing.made event; has = (outcome (known tt), is_outcome (known tt), refl); body = body; last = last };
         last = none_when_done due line line_none;
         whole = λ told. refl;
       }
 
       knows : (x : Unit {0}) (left : List ℕ) → HasAppended (Ok x) task.output [] waits left now.folder after.folder → left ≡ [] → after.stream.tells ≡ now.stream.tells
-          → Knows (border_says (asked task)) before after (stopping.stages task before after)
+          → Knows (border_says (asked task)) before after (capture_stages task)
       knows x left has none told_stream = record {
-        keeps = stopping.keeps task before after (has.frame.told ∙ crossing.told) (told_stream ∙ crossing.way.told);
+        keeps = keeps task plan before now reader hand waits waiting counts crossing after (has.frame.told ∙ crossing.told) (told_stream ∙ crossing.way.told);
         made = λ told.
             let amid = crossing.amid told in
             let one = has.here (subst IsTrue (sym crossing.told) told) in
@@ -150,13 +150,14 @@ module _ (task : Task) (plan : DoiPlan) (before now : Outside) (reader : Reader)
 
       ends_so : IsEnded task.output waits (waiting ++ tail) line due now after status → CallEnds border_says (asked task) before after (status_number status) []
       ends_so (appended x left has none printed) =
-          ends_printed border_says (asked task) before after (stopping.stages task before after) (knows x left has none printed.told) due (text ++ tail) line
+          ends_printed border_says (asked task) before after (capture_stages task) (knows x left has none printed.told) due (text ++ tail) line
           (asks (asked task) (status_number due) (text ++ tail) has_form not_1) due_is status (λ name. has.frame.reads name ∙ crossing.reads name)
           (a_report_is_printed (text ++ tail) (waiting ++ tail) before.stream now.stream (a_report_takes_a_text text waiting before.stream now.stream crossing.way tail) line due status after.stream printed)
       ends_so (unappended refused left has is same) =
           subst (λ (n : ℕ). CallEnds border_says (asked task) before after n []) (sym (ap status_number is))
-          (stopping.ends_at_append task before after text (begun task plan before now reader hand waits waiting counts crossing) (has.frame.told ∙ crossing.told)
-          (ap (λ (s : SinkState). s.tells) same ∙ crossing.way.told)
+          (stopping.ends_at_append task before after
+          (keeps task plan before now reader hand waits waiting counts crossing after (has.frame.told ∙ crossing.told) (ap (λ (s : SinkState). s.tells) same ∙ crossing.way.told))
+          text (begun task plan before now reader hand waits waiting counts crossing)
           (λ told.
           let amid = crossing.amid told in
           let one = has.here (subst IsTrue (sym crossing.told) told) in
@@ -166,11 +167,11 @@ module _ (task : Task) (plan : DoiPlan) (before now : Outside) (reader : Reader)
           (append_assoc amid.sent one.sent one.rest ∙ ap (λ t. amid.sent ++ t) (one.all ∙ append-nil waits) ∙ amid.whole)
           (λ name apart. has.others (subst IsTrue (sym crossing.told) told) name apart ∙ crossing.others told name apart))
           refused
-          (λ name. has.frame.reads name ∙ crossing.reads name)
-          (λ name. has.frame.creates name ∙ crossing.creates name)
+          (record { reads = λ name. has.frame.reads name ∙ crossing.reads name; creates = λ name. has.frame.creates name ∙ crossing.creates name })
           (λ failed. subst (λ (k : ℕ). Rose k (after.folder.appends task.output)) (crossing.appends task.output) (has.frame.appends.cause (ap Err failed)))
           (λ other name. has.frame.appends.still (λ e. other (let is_failed : refused ≡ Failed = cc in is_failed)) name ∙ crossing.appends name)
           (ap (λ (s : SinkState). s.faults) same ∙ crossing.way.faults)
+          (may_pause task plan before now reader hand waits waiting counts crossing)
           (prefix_sent task plan before now reader hand waits waiting counts crossing after.stream same))
       ends_so (without_memory is folder same) =
           subst (λ (n : ℕ). CallEnds border_says (asked task) before after n []) (sym (ap status_number is))

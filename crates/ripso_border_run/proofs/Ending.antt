@@ -1,5 +1,5 @@
 -- How a call goes on from packet to packet, and how it ends at each place.
-use Rattle.std.proofs.Common.{◌≡◌, ◌≢◌, ℕ, ◌+◌, ◌<◌, Bool, List, [], ◌∷◌, ◌++◌, length, map, drop, take, Option, Some, Result, Ok, Err, refl, sym, ap, subst, ◌∙◌, append_assoc, length-append, arith, inl, inr}
+use Rattle.std.proofs.Common.{◌≡◌, ◌≢◌, ℕ, ◌+◌, ◌<◌, Bool, List, [], ◌∷◌, ◌++◌, length, map, drop, take, Option, Some, Result, Ok, Err, refl, sym, ap, subst, ◌∙◌, append_assoc, length-append, arith, inl}
 use Rattle.std.specs.Prelude.{IsTrue, OnOk, Contains}
 use Rattle.std.specs.List.{concat}
 use Rattle.std.specs.Option.{option_map}
@@ -34,17 +34,17 @@ use Rattle.call_report.specs.declared.status.Status.{Status}
 use Rattle.call_report.specs.declared.status.Status.TheVariants.{ReadFault}
 use Rattle.call_report.specs.CallEnds.{CallEnds}
 use Rattle.call_report.specs.Event.{packets_limit}
-use Rattle.call_report.specs.Outside.{Outside, ReadRose}
+use Rattle.call_report.specs.Outside.{Outside}
 use Rattle.call_report.specs.Printing.{HandsOn, IsUnderWay, Printed}
 use Rattle.call_report.specs.Report.{Report}
 use Rattle.call_report.specs.Status.{status_number, write_status}
-use Rattle.call_report.proofs.Law.{HasLeft, Begins, a_report_goes_on, a_report_breaks, faults_rose_over_a_report, a_report_is_printed}
+use Rattle.call_report.proofs.Law.{HasLeft, Keeps, Begins, a_report_goes_on, a_report_breaks, faults_rose_over_a_report, a_report_is_printed}
 use Rattle.ripso_border_run.specs.declared.lines.Counts.{Counts}
 use Rattle.ripso_border_run.specs.declared.task.Task.{Task}
 use Rattle.ripso_border_run.specs.Frames.{IsMadeOf, AreMadeOf, written_frames, made_lines, count_passed, count_denied}
 use Rattle.ripso_border_run.specs.Lines.{Made, made_packet_line}
 use Rattle.ripso_border_run.specs.Outcome.{Outcome, IsOutcome}
-use Rattle.ripso_border_run.specs.Says.{border_says}
+use Rattle.ripso_border_run.specs.Says.{border_says, capture_stages}
 use Rattle.ripso_border_run.specs.inside.Course.{made_of, shown_of, kept_of, after_counting, with_left, IsAmid, IsCrossing}
 use Rattle.ripso_border_run.proofs.Made.{are_joined, are_counted, written_joined, text_joined, passed_joined, denied_joined}
 use Rattle.ripso_border_run.proofs.Leading.{Leads, leads_less, leads_amid, outcome_once, octets_joined}
@@ -114,7 +114,7 @@ module _ (task : Task) (plan : DoiPlan) (before now : Outside) (reader : Reader)
   pub begun : (told : IsTrue before.folder.tells) → Begins (border_says (asked task)) before.folder.held text
   begun told = stopping.begins task before before text octets_made (leads told)
 
-  may_pause : IsTrue before.folder.tells → (report : Report) → (border_says (asked task)).report before.folder.held [] report → Contains report.pauses text
+  pub may_pause : IsTrue before.folder.tells → (report : Report) → (border_says (asked task)).report before.folder.held [] report → Contains report.pauses text
   may_pause told = stopping.pauses task before before text octets_made (leads told) (once told)
 
   pub prefix_sent : (after : SinkState) → after ≡ now.stream → IsTrue before.stream.tells → WritesPrefix text before.stream.written after.written
@@ -122,11 +122,14 @@ module _ (task : Task) (plan : DoiPlan) (before now : Outside) (reader : Reader)
       prefix_of crossing.way.goes.sent waiting text before.stream.written after.written crossing.way.goes.all (ap (λ (s : SinkState). s.written) same ∙ crossing.way.goes.written out)
 
   -- the folder as it is, or after a read
-  pub left_now : (after : Outside) → (IsTrue now.folder.tells → SameHeld now.folder.held after.folder.held) → (told : IsTrue before.folder.tells) → HasLeft (border_says (asked task)) before after
+  pub left_now : (after : Outside) → (IsTrue now.folder.tells → SameHeld now.folder.held after.folder.held) → (told : IsTrue before.folder.tells) → HasLeft (border_says (asked task)) before after (capture_stages task)
   left_now after kept told =
       let amid = crossing.amid told in
       let still = kept (subst IsTrue (sym crossing.told) told) in
       stopping.has_left task before after text octets_made (leads told) amid.sent waits (still task.output ∙ amid.here) amid.whole (λ name other. still name ∙ crossing.others told name other)
+
+  pub keeps : (after : Outside) → after.folder.tells ≡ before.folder.tells → after.stream.tells ≡ before.stream.tells → Keeps (border_says (asked task)) before after (capture_stages task)
+  keeps after folder stream = stopping.keeps_capture task before after crossing.planned.begun folder stream
 
   abbrev tells_still : (after : Outside) → after.stream ≡ now.stream → after.stream.tells ≡ before.stream.tells
   tells_still after same = ap (λ (s : SinkState). s.tells) same ∙ crossing.way.told
@@ -136,25 +139,22 @@ module _ (task : Task) (plan : DoiPlan) (before now : Outside) (reader : Reader)
   -- no memory for more
   pub ends_without_memory : (after : Outside) → after.folder ≡ now.folder → after.stream ≡ now.stream → CallEnds border_says (asked task) before after 6 []
   ends_without_memory after folder same =
-      stopping.short task before after text begun (ap (λ (d : DepotState). d.tells) folder ∙ crossing.told) (tells_still after same)
+      stopping.short task before after (capture_stages task) (keeps after (ap (λ (d : DepotState). d.tells) folder ∙ crossing.told) (tells_still after same)) text begun
       (left_now after (λ told name. ap (λ (d : DepotState). d.held name) folder))
       (λ name. ap (λ (d : DepotState). d.appends name) folder ∙ crossing.appends name)
       (ap (λ (s : SinkState). s.faults) same ∙ crossing.way.faults)
-      (inl (λ name. ap (λ (d : DepotState). d.reads name) folder ∙ crossing.reads name, λ name. ap (λ (d : DepotState). d.creates name) folder ∙ crossing.creates name))
+      (inl (record { reads = λ name. ap (λ (d : DepotState). d.reads name) folder ∙ crossing.reads name; creates = λ name. ap (λ (d : DepotState). d.creates name) folder ∙ crossing.creates name }))
       (prefix_sent after.stream same)
 
   -- the read has failed
   pub ends_unread : (after : Outside) → OnlyReads {T = Option FrameHead} stop.ReadFault (Err stop.ReadFault) reader.name now.folder after.folder → reader.name ≡ task.input
       → (status : Status) → Printed waiting [] ReadFault status now.stream after.stream → CallEnds border_says (asked task) before after (status_number status) []
   ends_unread after read named status printed =
-      let rose : ReadRose (stopping.stages task before after) before after = record {
-        name = task.input;
-        counted = inr refl;
-        rose = subst (λ (n : List ℕ). Rose (before.folder.reads n) (after.folder.reads n)) named
-            (subst (λ (k : ℕ). Rose k (after.folder.reads reader.name)) (crossing.reads reader.name) (read.reads.cause refl));
-      } in
-      stopping.ends_at_read task before after text begun (read.told ∙ crossing.told) (printed.told ∙ crossing.way.told) (left_now after read.kept) status
-      (λ name. read.appends name ∙ crossing.appends name) rose may_pause
+      stopping.ends_at_read task before after (keeps after (read.told ∙ crossing.told) (printed.told ∙ crossing.way.told)) text begun (left_now after read.kept) status
+      (λ name. read.appends name ∙ crossing.appends name)
+      (subst (λ (n : List ℕ). Rose (before.folder.reads n) (after.folder.reads n)) named
+      (subst (λ (k : ℕ). Rose k (after.folder.reads reader.name)) (crossing.reads reader.name) (read.reads.cause refl)))
+      may_pause
       (a_report_is_printed text waiting before.stream now.stream crossing.way [] ReadFault status after.stream printed)
 
   -- ---- one frame is in hand
@@ -308,7 +308,7 @@ module _ (task : Task) (plan : DoiPlan) (before now : Outside) (reader : Reader)
   leads_line : (told : IsTrue before.folder.tells) → Leads task before.folder.held (shown_text ++ line) (file_octets (format.Pcap reader.header.nanos) (written_frames crossing.done crossing.made))
   leads_line told = leads_less task before.folder.held (shown_text ++ line) (file_octets (format.Pcap reader.header.nanos) (written_frames crossing.done crossing.made)) kept (leads_next told)
 
-  left_line : (after : Outside) → after.folder ≡ now.folder → (told : IsTrue before.folder.tells) → HasLeft (border_says (asked task)) before after
+  left_line : (after : Outside) → after.folder ≡ now.folder → (told : IsTrue before.folder.tells) → HasLeft (border_says (asked task)) before after (capture_stages task)
   left_line after same told =
       let amid = crossing.amid told in
       stopping.has_left task before after (shown_text ++ line) _ (leads_line told) amid.sent waits
@@ -319,10 +319,10 @@ module _ (task : Task) (plan : DoiPlan) (before now : Outside) (reader : Reader)
   pub ends_at_line : {T : Type 0} (after : Outside) (still : List ℕ) (fault : IoFault) → after.folder ≡ now.folder → HandsOn {T = T} line waiting still (Err fault) now.stream after.stream
       → CallEnds border_says (asked task) before after (status_number (write_status fault)) []
   ends_at_line after still fault same hands =
-      stopping.ends_at_write task before after (shown_text ++ line) (λ told. stopping.begins task before before (shown_text ++ line) _ (leads_line told)) (ap (λ (d : DepotState). d.tells) same ∙ crossing.told) (hands.told ∙ crossing.way.told) (left_line after same) fault
+      stopping.ends_at_write task before after (stopping.keeps_capture task before after crossing.planned.begun (ap (λ (d : DepotState). d.tells) same ∙ crossing.told) (hands.told ∙ crossing.way.told)) (shown_text ++ line)
+      (λ told. stopping.begins task before before (shown_text ++ line) _ (leads_line told)) (left_line after same) fault
       (λ name. ap (λ (d : DepotState). d.appends name) same ∙ crossing.appends name)
-      (λ name. ap (λ (d : DepotState). d.reads name) same ∙ crossing.reads name)
-      (λ name. ap (λ (d : DepotState). d.creates name) same ∙ crossing.creates name)
+      (record { reads = λ name. ap (λ (d : DepotState). d.reads name) same ∙ crossing.reads name; creates = λ name. ap (λ (d : DepotState). d.creates name) same ∙ crossing.creates name })
       (λ failed. faults_rose_over_a_report shown_text waiting before.stream now.stream crossing.way after.stream (hands.counts.cause (ap Err failed)))
       (λ other. hands.counts.still (λ e. other (let is : fault ≡ Failed = cc in is)) ∙ crossing.way.faults)
       (a_report_breaks shown_text waiting before.stream now.stream crossing.way line after.stream hands.err)
@@ -352,14 +352,15 @@ module _ (task : Task) (plan : DoiPlan) (before now : Outside) (reader : Reader)
     -- its frame couldn't be appended
     pub ends_at_frame : (fault : IoFault) → HasAppended (Err fault) task.output kept waits waits' now.folder after.folder → CallEnds border_says (asked task) before after (status_number (write_status fault)) []
     ends_at_frame fault has =
-        stopping.ends_at_append task before after (shown_text ++ line) (λ told. stopping.begins task before before (shown_text ++ line) _ (leads_next told)) (has.frame.told ∙ crossing.told) way_next.told
+        stopping.ends_at_append task before after (stopping.keeps_capture task before after crossing.planned.begun (has.frame.told ∙ crossing.told) way_next.told) (shown_text ++ line)
+        (λ told. stopping.begins task before before (shown_text ++ line) _ (leads_next told))
         (λ told. let a = appended_now (Err fault) has told in stopping.has_left task before after (shown_text ++ line) _ (leads_next told) a.0 a.1 a.2 a.3 (others_next (Err fault) has told))
         fault
-        (λ name. has.frame.reads name ∙ crossing.reads name)
-        (λ name. has.frame.creates name ∙ crossing.creates name)
+        (record { reads = λ name. has.frame.reads name ∙ crossing.reads name; creates = λ name. has.frame.creates name ∙ crossing.creates name })
         (λ failed. subst (λ (k : ℕ). Rose k (after.folder.appends task.output)) (crossing.appends task.output) (has.frame.appends.cause (ap Err failed)))
         (λ other name. has.frame.appends.still (λ e. other (let is : fault ≡ Failed = cc in is)) name ∙ crossing.appends name)
         way_next.faults
+        (λ told. stopping.pauses task before before (shown_text ++ line) _ (leads_next told) (outcome_once task plan before crossing.planned told))
         (λ out. prefix_of way_next.goes.sent still (shown_text ++ line) before.stream.written after.stream.written way_next.goes.all (way_next.goes.written out))
 
     -- or it was, but for what waits

@@ -3,6 +3,7 @@
 
 use crate::border;
 use net_io::{MemoryDepot, MemorySink};
+use octet_grammar::write_decimal;
 use std::alloc::Global;
 use std::process::Abort;
 use worked_values::octets_of;
@@ -95,7 +96,7 @@ const CROSSED: [Case; 9] = [
     Case {
         words: "in s 16 b c",
         script: BORDER,
-        capture: "d4c3b2a10200040000000000000000000000040065000000010000000000000020000000200000004600002000000000401189460a0000010a00000282045a8003e8003500080000010000000000000020000000200000004600002000000000401189460a0000010a00000282045a8003e80035000800",
+        capture: CUT,
         status: 5,
         printed: "packet 1 written\ncapture 1 octet 119 Short\n",
         made: "d4c3b2a1020004000000000000000000000004006500000001000000000000002800000028000000480000280000000040119ca00a0000010a000002860b0000001001050002400003e8003500080000",
@@ -247,18 +248,45 @@ const ONE_PRINTED: &str = "packet 1 written\nend packets 1 passed 1 denied 0\n";
 
 /// The call of the folder that fails, the status, what is printed, and what the output holds.
 const CALLS: [(u32, u8, &str, &str); 8] = [
+    // The script is read, and its end.
     (1, 3, "", HELD),
     (2, 3, "", HELD),
+    // The input's beginning is read, and then the output made.
     (3, 3, "", HELD),
     (4, 3, "", HELD),
     (5, 3, "", HELD),
+    // The next read, after a packet's line, and the append.
     (6, 3, "packet 1 written\n", ""),
     (7, 4, "", ""),
     (8, 0, ONE_PRINTED, ONE_MADE),
 ];
 
-/// The write that fails, of which each takes 7 octets, the status and what is printed.
-const WRITES: [(u32, u8, &str); 3] = [(1, 4, ""), (2, 4, "packet "), (8, 0, ONE_PRINTED)];
+/// A script and a capture, the write that fails, of which each takes 7 octets, the status, what is printed, and what the output holds.
+const WRITES: [(&str, &str, u32, u8, &str, &str); 8] = [
+    (BORDER, ONE, 1, 4, "", ONE_MADE),
+    (BORDER, ONE, 2, 4, "packet ", ONE_MADE),
+    (BORDER, ONE, 8, 0, ONE_PRINTED, ONE_MADE),
+    // A packet's line, and then the line of the event, which has decided.
+    (BORDER, CUT, 3, 4, "packet 1 writt", ONE_MADE),
+    (BORDER, CUT, 4, 5, "packet 1 written\n", ONE_MADE),
+    (BORDER, CUT, 5, 5, "packet 1 written\ncapture", ONE_MADE),
+    ("frob\n", ONE, 2, 2, "script ", HELD),
+    ("node r\n", ONE, 3, 2, "script line 0 ", HELD),
+];
+
+/// A capture that ends in a record after a packet.
+const CUT: &str =
+    "d4c3b2a10200040000000000000000000000040065000000010000000000000020000000200000004600002000000000401189460a0000010a00000282045a8003e8003500080000010000000000000020000000200000004600002000000000401189460a0000010a00000282045a8003e80035000800";
+
+/// Of 1000 packets: the call of the folder that fails, how many lines are printed, and how many octets the output holds.
+const APPENDS: [(u32, u64, usize); 4] = [
+    (6, 0, 0),
+    (7, 0, 16432),
+    // A piece of the report was printed.
+    (8, 868, 32840),
+    // The rest of the output: neither the rest of the lines nor the report's end is printed.
+    (10, 868, 49248),
+];
 
 /// A packet that goes in, in a capture.
 const RECORD: &str =
@@ -333,6 +361,19 @@ fn capture_of(rt: &impl Abort, alloc: Global, count: u32) -> Vec<u8> {
     file
 }
 
+/// The lines of so many packets that are all written.
+fn lines_of(rt: &impl Abort, alloc: Global, count: u64) -> Vec<u8> {
+    let mut text = Vec::new(alloc);
+    for number in 0..count {
+        text.extend_from_slice(b"packet ")
+            .expect(rt, "there is memory");
+        write_decimal(number + 1, &mut text).expect(rt, "there is memory");
+        text.extend_from_slice(b" written\n")
+            .expect(rt, "there is memory");
+    }
+    text
+}
+
 #[test]
 fn packets_cross_both_ways(rt: HostRuntime) {
     all_told(&rt, rt.alloc(), &CROSSED);
@@ -354,7 +395,6 @@ fn refuses_before_the_output_is_made(rt: HostRuntime) {
 #[test]
 fn tells_what_fails(rt: HostRuntime) {
     let capture = octets_of(rt.alloc(), ONE).expect(&rt, "there is memory");
-    let whole = octets_of(rt.alloc(), ONE_MADE).expect(&rt, "there is memory");
     for (call, status, printed, made) in CALLS {
         let told = outcome(&rt, rt.alloc(), "in s 16 b c", BORDER, &capture, call, 0);
         let made = octets_of(rt.alloc(), made).expect(&rt, "there is memory");
@@ -364,19 +404,28 @@ fn tells_what_fails(rt: HostRuntime) {
         );
         assert!(rt; told.made.as_slice() == made.as_slice(), "{call}");
     }
-    for (write, status, printed) in WRITES {
-        let told = outcome(&rt, rt.alloc(), "in s 16 b c", BORDER, &capture, 0, write);
+    for (script, capture, write, status, printed, made) in WRITES {
+        let capture = octets_of(rt.alloc(), capture).expect(&rt, "there is memory");
+        let told = outcome(&rt, rt.alloc(), "in s 16 b c", script, &capture, 0, write);
+        let made = octets_of(rt.alloc(), made).expect(&rt, "there is memory");
         assert!(rt;
             told.status == status && told.printed.as_slice() == printed.as_bytes(),
-            "{write}"
+            "{write} {printed}"
         );
-        assert!(rt; told.made.as_slice() == whole.as_slice(), "{write}");
+        assert!(rt;
+            told.made.as_slice() == made.as_slice(),
+            "{write} {printed}"
+        );
     }
 }
 
 #[test]
-fn appends_in_pieces(rt: HostRuntime) {
-    let capture = capture_of(&rt, rt.alloc(), 600);
-    let told = outcome(&rt, rt.alloc(), "in s 16 b c", BORDER, &capture, 7, 0);
-    assert_eq!(rt; (told.status, told.made.len()), (4, 16432));
+fn prints_no_end_after_an_append_that_fails(rt: HostRuntime) {
+    let capture = capture_of(&rt, rt.alloc(), 1000);
+    for (call, count, size) in APPENDS {
+        let told = outcome(&rt, rt.alloc(), "in s 16 b c", BORDER, &capture, call, 0);
+        assert_eq!(rt; (told.status, told.made.len()), (4, size), "{call}");
+        let lines = lines_of(&rt, rt.alloc(), count);
+        assert!(rt; told.printed.as_slice() == lines.as_slice(), "{call}");
+    }
 }

@@ -1,8 +1,8 @@
 -- How a call ends that reads a script from the file which its words name: where it gets none, and where it answers it and reads nothing else, whatever its program says.
-use Rattle.std.proofs.Common.{◌≡◌, ◌≢◌, ◌⊎◌, ℕ, List, [], ◌∷◌, Option, Some, None, Result, Ok, Err, refl, sym, ap, subst, ◌∙◌, arith, inl, inr}
+use Rattle.std.proofs.Common.{◌≡◌, ◌≢◌, ◌⊎◌, ℕ, Bool, true, false, List, [], ◌∷◌, Option, Some, None, Result, Ok, Err, refl, sym, ap, subst, ◌∙◌, arith, inl, inr}
 use Rattle.std.specs.Prelude.{IsTrue, Contains}
 use Rattle.std.proofs.lemmas.List.{append-nil}
-use Rattle.net_io.specs.Depot.{DepotState}
+use Rattle.net_io.specs.Depot.{DepotState, SameHeld}
 use Rattle.net_io.specs.Faults.{SameCounts}
 use Rattle.net_io.specs.Sink.{SinkState}
 use Rattle.label_commands.specs.declared.script.Script.{Script}
@@ -30,14 +30,30 @@ pub in_file : (file : List ℕ) (held : Option (List ℕ)) (text : List ℕ) (re
 in_file file held text read_of holds is absent refuses read has =
     subst (λ (o : Option (List ℕ)). ByScript file o absent refuses read) (sym holds) (subst (λ (r : Result Script ScriptStop). ByAnswer r refuses read) (sym is) has)
 
+-- what a folder tells, or some content in which each file is this text
+pub content_of : Bool → Folder → List ℕ → Folder
+content_of true held text = held
+content_of false held text = λ name. Some text
+
+pub content_holds : (tells : Bool) (held : Folder) (text file : List ℕ) → (IsTrue tells → held file ≡ Some text) → content_of tells held text file ≡ Some text
+unfolding content_of
+content_holds true held text file holds = holds refl
+content_holds false held text file holds = refl
+
+pub content_told : (tells : Bool) (held : Folder) (text : List ℕ) → IsTrue tells → SameHeld held (content_of tells held text)
+unfolding content_of
+content_told true held text told = λ name. refl
+content_told false held text told = absurd (let no : false ≡ true = told in cc)
+
 -- what is due where a text is no script
 pub record IsRefused (says : Says) (held : Folder) (why : ScriptStop) : Type 0 where
   pub status : says.status held (script_stop_status why)
   pub report : says.report held [] (late_report [] (script_stop_line why))
   pub whole : says.whole held []
 
--- What a program says of the file that it reads a script from: what is due where it is none, and that nothing is printed before it is read.
+-- What a program says of the file that it reads a script from: what is printed depends on it; what is due where it is none; and nothing is printed before it is read.
 pub record ReadsScript (says : Says) (file : List ℕ) : Type 0 where
+  pub depends : says.reads
   pub knows : (before after : Outside) → IsOnlyRead before.folder after.folder → after.stream.tells ≡ before.stream.tells → Knows says before after (reading_stage file ∷ [])
   pub refused : (held : Folder) (text : List ℕ) (why : ScriptStop) → held file ≡ Some text → script_read file text ≡ Err why → IsRefused says held why
   pub may : (text : List ℕ) (why : ScriptStop) → script_read file text ≡ Err why → says.possible (script_stop_status why)
@@ -61,7 +77,7 @@ module _ {C : Type 0} (says_of : Option C → Says) (request : Option C) (file :
         event = event;
         has = λ told. subst (says.status before.folder.held) (sym is) (reads.refused before.folder.held text why (holds told) read).status;
         may = subst says.possible (sym is) (reads.may text why read);
-        parts = λ told. record { report = late_report [] (script_stop_line why); has = (reads.refused before.folder.held text why (holds told) read).report; body = refl; last = refl };
+        parts = λ known. record { report = late_report [] (script_stop_line why); has = (reads.refused before.folder.held text why (holds (known reads.depends)) read).report; body = refl; last = refl };
         last = λ done. elim done [ inl zero ↦ absurd (other.1 zero) | inr eight ↦ absurd (other.2 eight) ];
         whole = λ told. (reads.refused before.folder.held text why (holds told) read).whole;
       })
@@ -80,9 +96,9 @@ module _ {C : Type 0} (says_of : Option C → Says) (request : Option C) (file :
   by_cause status known (refused text why holds read counts printed) = by_stop text why status known holds read counts printed
   by_cause status known (unread is rose same) =
       subst (λ (n : ℕ). CallEnds says_of request before after n []) (sym (ap status_number is))
-      (ends_unread says_of request before after (reading_stage file ∷ []) known [] form (record { name = file; counted = inl refl; rose = rose }) (ap (λ (s : SinkState). s.faults) same)
-      (λ out. ap (λ (s : SinkState). s.written) same ∙ sym (append-nil before.stream.written)) (λ told. inl refl)
-      (λ told report has. reads.pauses before.folder.held report has) (λ late. refl))
+      (ends_unread says_of request before after (reading_stage file ∷ []) known [] form (record { name = file; in_hand = refl; rose = rose }) (ap (λ (s : SinkState). s.faults) same)
+      (λ out. ap (λ (s : SinkState). s.written) same ∙ sym (append-nil before.stream.written)) (λ known. inl refl)
+      (λ known report has. reads.pauses before.folder.held report has) (inr refl))
   by_cause status known (without_memory counts printed) = ends_with_nothing says_of request before after (reading_stage file ∷ []) known status counts printed
 
   -- a call ends so that reads a script and gets none
@@ -121,7 +137,8 @@ module _ (answers : Script → ℕ → Report → Type 0) (file : List ℕ) (is_
   -- such a program reads a script
   pub answers_read : ReadsScript (script_says answers file) file
   answers_read = record {
-    knows = λ before after reads told. knows_file file (ScriptReport answers file) (ScriptStatus answers file) (Unit {0}) before after reads told;
+    depends = tt;
+    knows = λ before after reads told. knows_file file (ScriptReport answers file) (ScriptStatus answers file) ⊥ before after reads told;
     refused = λ held text why holds is. record {
       status = has_status (held file) text (Err why) (script_stop_status why) holds is refl;
       report = has_report (held file) text (Err why) (late_report [] (script_stop_line why)) holds is refl;
@@ -140,7 +157,7 @@ module _ (answers : Script → ℕ → Report → Type 0) (file : List ℕ) (is_
         event = (other.1, other.2, other.3);
         has = λ told. has_status (before.folder.held file) text (Ok script) number (holds told) is (late_report body last, has);
         may = (λ name. Some text, has_status (Some text) text (Ok script) number refl is (late_report body last, has));
-        parts = λ told. record { report = late_report body last; has = has_report (before.folder.held file) text (Ok script) (late_report body last) (holds told) is (number, has); body = refl; last = refl };
+        parts = λ known. record { report = late_report body last; has = has_report (before.folder.held file) text (Ok script) (late_report body last) (holds (known tt)) is (number, has); body = refl; last = refl };
         last = is_answering.no_line script number (late_report body last) has;
         whole = λ told. refl;
       }

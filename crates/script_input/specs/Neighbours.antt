@@ -25,7 +25,7 @@ hop_in network readings hop = hop_with hop (tables_of network (node_of hop)) (re
 abbrev pub hop_under : PlanState → List NamedMeanings → ℕ → Hop → HopState
 hop_under plan readings version hop = hop_in (network_after plan version) readings hop
 
--- what each two neighbouring hops come to, where this is found of two
+-- what every two neighbouring hops come to, where this is found of two
 abbrev pub EachTwo : {X : Type 0} → (HopState → HopState → X → Type 0) → PlanState → List NamedMeanings → List Hop → List ℕ → List X → Type 0
 EachTwo finds plan readings (hop ∷ []) (v ∷ []) [] = Unit {0}
 EachTwo finds plan readings (left ∷ right ∷ hops) (v ∷ w ∷ versions) (found ∷ others) =

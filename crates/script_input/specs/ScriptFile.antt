@@ -44,4 +44,4 @@ ScriptStatus answers file held status = ByScript file held
 
 -- a program that reads a script and no other file, and answers it
 abbrev pub script_says : (Script → ℕ → Report → Type 0) → List ℕ → Says
-script_says answers file = reading_says file (ScriptReport answers file) (ScriptStatus answers file) (Unit {0})
+script_says answers file = reading_says file (ScriptReport answers file) (ScriptStatus answers file) ⊥

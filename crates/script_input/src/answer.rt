@@ -14,7 +14,7 @@ use mls_label::OutOfMemory;
 use net_io::Sink;
 use std::alloc::Global;
 
-/// Prints what each two neighbouring hops come to of the flow of this number, each with the tables of its version, or why none are
+/// Prints what every two neighbouring hops come to of the flow of this number, each with the tables of its version, or why none are
 /// compared. Where no versions are named, all are that of the commands above the flow.
 pub fn answer_hops<C: Compares, S: Sink>(
     alloc: Global,

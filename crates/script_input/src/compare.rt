@@ -50,7 +50,7 @@ pub trait Compares {
         ensures { OnOk result (lines.new.items ≡ lines.old.items ++ text found.now) };
 }
 
-/// What each two neighbouring hops come to, from the first two to the last two. Two states of the tables go forward, one a hop behind the other,
+/// What every two neighbouring hops come to, from the first two to the last two. Two states of the tables go forward, one a hop behind the other,
 /// so that each command is carried out twice at most and no tables are copied.
 pub(crate) fn compare_hops<C: Compares>(
     alloc: Global,

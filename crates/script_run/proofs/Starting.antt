@@ -5,7 +5,7 @@ use Rattle.std.specs.List.{list_all}
 use Rattle.std.proofs.lemmas.Bool.{eq-eqb}
 use Rattle.std.proofs.lemmas.Option.{slice_get_read}
 use Rattle.std.proofs.lemmas.List.Elements.{All-nil, All-take, All-weaker}
-use Rattle.net_io.specs.Faults.{Rose}
+use Rattle.net_io.specs.Faults.{Rose, SameCounts}
 use Rattle.net_io.specs.Sink.{SinkState}
 use Rattle.label_commands.specs.declared.script.Script.{Script}
 use Rattle.label_commands.specs.Script.{before}
@@ -43,16 +43,26 @@ ends_first script workers start after status same printed = record {
     made = λ finished. absurd finished;
     others = λ name all. ap (λ f. f.held name) same;
   };
-  cause = ends_done (λ s. IsCauseOf None s start after) (first_replies script) OutOfMemory status start.stream after.stream printed short short inl;
-  still = λ none. (λ name. ap (λ f. f.creates name) same, λ name. ap (λ f. f.appends name) same);
+  cause = ends_done (λ s. IsCauseOf None s start after) (first_replies script) OutOfMemory status start.stream after.stream printed short short (λ rose. (inl (unappended, rose), inl (record { reads = unread; creates = uncreated })));
+  appends = λ other. unappended;
+  still = λ none. (uncreated, unappended);
   folder_told = ap (λ f. f.tells) same;
   stream_told = printed.told;
 } where
+  unread : SameCounts start.folder.reads after.folder.reads
+  unread name = ap (λ f. f.reads name) same
+
+  uncreated : SameCounts start.folder.creates after.folder.creates
+  uncreated name = ap (λ f. f.creates name) same
+
+  unappended : SameCounts start.folder.appends after.folder.appends
+  unappended name = ap (λ f. f.appends name) same
+
   short : after.stream.faults ≡ start.stream.faults → IsCauseOf None OutOfMemory start after
   short still = short_of_memory None start after (record {
-    reads = λ name. ap (λ f. f.reads name) same;
-    creates = λ name. ap (λ f. f.creates name) same;
-    appends = λ name. ap (λ f. f.appends name) same;
+    reads = unread;
+    creates = uncreated;
+    appends = unappended;
     writes = still;
   })
 
@@ -93,6 +103,7 @@ module _ (script : Script) (workers : ℕ) (start now : Outside) (waits : List �
           others = have.others;
         };
     cause = short_of_memory (flow_in_hand script seen) start now under.none;
+    appends = λ other. under.none.appends;
     still = λ none. (under.none.creates, under.none.appends);
     folder_told = under.folder_told;
     stream_told = under.stream_told;
@@ -126,7 +137,8 @@ module _ (script : Script) (workers : ℕ) (start now : Outside) (waits : List �
               others = have.others;
             };
         cause = ends_done (λ s. IsCauseOf (flow_in_hand script seen) s start after) (waits ++ done_line) Done status now.stream c printed none
-            (λ same. short_of_memory (flow_in_hand script seen) start after (none same)) (λ rose. inl (subst (λ (n : ℕ). Rose n c.faults) under.none.writes rose));
+            (λ same. short_of_memory (flow_in_hand script seen) start after (none same)) (λ rose. (inl (under.none.appends, subst (λ (n : ℕ). Rose n c.faults) under.none.writes rose), inl (record { reads = under.none.reads; creates = under.none.creates })));
+        appends = λ other. under.none.appends;
         still = λ none. (under.none.creates, under.none.appends);
         folder_told = under.folder_told;
         stream_told = printed.told ∙ under.stream_told;

@@ -6,7 +6,7 @@ use Rattle.std.specs.Option.{option_map_or}
 use Rattle.std.proofs.lemmas.List.{append-nil}
 use Rattle.net_io.specs.declared.fault.IoFault.{IoFault}
 use Rattle.net_io.specs.declared.fault.IoFault.TheVariants.{Failed, OutOfMemory as NoMemory}
-use Rattle.net_io.specs.Faults.{Rose}
+use Rattle.net_io.specs.Faults.{Rose, SameCounts}
 use Rattle.std.specs.declared.vec.Vec.{Vec}
 use Rattle.std.specs.declared.alloc.Global.{Global}
 use Rattle.net_io.specs.Sink.{SinkState}
@@ -26,7 +26,7 @@ use Rattle.call_report.specs.declared.status.Status.TheVariants.{ReadFault, Writ
 use Rattle.call_report.specs.Status.{write_status}
 use Rattle.call_report.specs.Report.{Versions}
 use Rattle.call_report.specs.Event.{Event}
-use Rattle.call_report.specs.Outside.{Outside, NoneFailed, NoWriteFailed}
+use Rattle.call_report.specs.Outside.{Outside, NoneFailed, NoFileFailed, NoInputFailed, NoWriteFailed}
 use Rattle.call_report.specs.Printing.{HandsOn, Printed}
 use Rattle.call_report.proofs.Law.{texts_join}
 use Rattle.flow_run.specs.declared.end.FlowEnd.{FlowEnd}
@@ -34,17 +34,17 @@ use Rattle.flow_run.specs.declared.end.FlowEnd.TheVariants.{GoesOn, Broken, TooM
 use Rattle.flow_run.specs.declared.end.FlowStop.{FlowStop}
 use Rattle.flow_run.specs.declared.end.FlowStop.TheVariants as stop
 use Rattle.flow_run.specs.Run.{FlowRun, is_judged, goes_on, run_text, run_end}
-use Rattle.flow_run.specs.Ends.{FlowEnds, IsRunOf, HasSteps}
+use Rattle.flow_run.specs.Ends.{FlowEnds, HasReadInput, IsRunOf, HasSteps}
 use Rattle.shared_tables.specs.Plan.{PlanState}
 use Rattle.script_run.specs.declared.turn.Next.{Next}
 use Rattle.flow_access.specs.Valid.{plan_of}
 use Rattle.script_run.specs.Runs.{is_done, last_event}
 use Rattle.script_run.specs.Report.{first_replies, replies_behind, turn_text, runs_report}
-use Rattle.script_run.specs.Ends.{IsCauseOf, InputRose, OutputRose, ScriptEnds}
+use Rattle.script_run.specs.Ends.{IsCauseOf, HasInputs, InputRose, OutputRose, ScriptEnds}
 use Rattle.script_run.specs.inside.Turn.{IsTurnEnd}
 use Rattle.script_run.proofs.Handing.{way_of, printed_behind, printed_failing, printed_broken, printed_in_part, printed_more, in_parts, ends_so, ends_done}
 use Rattle.script_run.proofs.Runs.{turns_text, turns_behind, pause_behind, turn_on, turn_off, not_done, event_stops, last_event_behind}
-use Rattle.script_run.proofs.Underway.{HaveRun, AreUnderWay, short_of_memory, goes_on_so, ends_here}
+use Rattle.script_run.proofs.Underway.{HaveRun, AreUnderWay, goes_on_so, ends_here}
 
 -- ---- the parts of a flow's text, and of the report up to it
 
@@ -108,17 +108,47 @@ module _
   rose_here : (c : SinkState) → Rose now.stream.faults c.faults → Rose start.stream.faults c.faults
   rose_here c rose = subst (λ (n : ℕ). Rose n c.faults) under.none.writes rose
 
+  -- no append has failed, of this flow or before it
+  no_append_over : (c : SinkState) → SameCounts now.folder.appends mid.folder.appends → SameCounts start.folder.appends (after c).folder.appends
+  no_append_over c none name = none name ∙ under.none.appends name
+
   unwritten_over : (c : SinkState) → NoWriteFailed now mid → c.faults ≡ mid.stream.faults → NoWriteFailed start (after c)
-  unwritten_over c none same = record { writes = same ∙ none.writes ∙ under.none.writes; appends = λ name. none.appends name ∙ under.none.appends name }
+  unwritten_over c none same = record { writes = same ∙ none.writes ∙ under.none.writes; appends = no_append_over c none.appends }
+
+  -- nor any read or making
+  no_input_over : (c : SinkState) → SameCounts now.folder.reads mid.folder.reads → SameCounts now.folder.creates mid.folder.creates → NoInputFailed start (after c)
+  no_input_over c reads creates = record { reads = λ name. reads name ∙ under.none.reads name; creates = λ name. creates name ∙ under.none.creates name }
+
+  no_file_over : (c : SinkState) → NoneFailed now mid → NoFileFailed start (after c)
+  no_file_over c none =
+      let inputs = no_input_over c none.reads none.creates in
+      record { reads = inputs.reads; creates = inputs.creates; appends = no_append_over c none.appends }
+
+  -- a write has failed after the flow, and no append
+  write_over : (c : SinkState) → now.stream.faults ≤ mid.stream.faults → SameCounts now.folder.appends mid.folder.appends → HasInputs (Some flow) start (after c)
+      → Rose mid.stream.faults c.faults → IsCauseOf (Some flow) WriteFault start (after c)
+  write_over c less none inputs rose = (inl (no_append_over c none, rose_over c less rose), inputs)
+
+  write_here : (c : SinkState) → NoneFailed now mid → now.stream.faults ≤ mid.stream.faults → Rose mid.stream.faults c.faults → IsCauseOf (Some flow) WriteFault start (after c)
+  write_here c none less = write_over c less none.appends (inl (no_input_over c none.reads none.creates))
 
   -- memory ran out where nothing has failed
   short_here : (c : SinkState) → NoneFailed now mid → c.faults ≡ mid.stream.faults → IsCauseOf (Some flow) OutOfMemory start (after c)
-  short_here c none same = short_of_memory (Some flow) start (after c) (record {
-    reads = λ name. none.reads name ∙ under.none.reads name;
-    creates = λ name. none.creates name ∙ under.none.creates name;
-    appends = λ name. none.appends name ∙ under.none.appends name;
-    writes = same ∙ none.writes ∙ under.none.writes;
-  })
+  short_here c none same = (unwritten_over c (record { writes = none.writes; appends = none.appends }) same, inl (no_input_over c none.reads none.creates))
+
+  -- a call on a file of the flow has failed
+  input_rose : (c : SinkState) → Rose (now.folder.reads flow.input) (mid.folder.reads flow.input) → InputRose (Some flow) start (after c)
+  input_rose c rose = record { of = flow; is = refl; rose = inl (subst (λ (n : ℕ). Rose n (mid.folder.reads flow.input)) (under.none.reads flow.input) rose) }
+
+  create_rose : (c : SinkState) (name : List ℕ) → flow.output ≡ Some name → Rose (now.folder.creates name) (mid.folder.creates name) → InputRose (Some flow) start (after c)
+  create_rose c name is rose = record { of = flow; is = refl; rose = inr (name, is, subst (λ (n : ℕ). Rose n (mid.folder.creates name)) (under.none.creates name) rose) }
+
+  output_rose : (c : SinkState) (name : List ℕ) → flow.output ≡ Some name → Rose (now.folder.appends name) (mid.folder.appends name) → OutputRose (Some flow) start (after c)
+  output_rose c name is rose = record { of = flow; is = refl; name = name; makes = is; rose = subst (λ (n : ℕ). Rose n (mid.folder.appends name)) (under.none.appends name) rose }
+
+  -- a read of its input may have, after the packets that were judged
+  inputs_over : (c : SinkState) → HasReadInput flow now mid → HasInputs (Some flow) start (after c)
+  inputs_over c read = elim read.reads [ inl same ↦ inl (no_input_over c same read.creates) | inr rose ↦ inr (input_rose c rose) ]
 
   -- ---- the replies behind it
 
@@ -164,7 +194,7 @@ module _
       → HandsOn {T = Unit {0}} (replies_text script.nodes script.steps flow.before (before script (k + 1) - flow.before)) waits' still (Err fault) mid.stream c
       → ScriptEnds script workers start (after c) (seen ++ lists ∷ []) (write_status fault)
   replies_fail network replies c still fault ran hands =
-      ends_here own script sound workers start now mid waits waits' left k seen under count flow at lists (GoesOn network replies) ran c OutOfMemory (write_status fault) (λ e. absurd e) hands.told (cause fault hands)
+      ends_here own script sound workers start now mid waits waits' left k seen under count flow at lists (GoesOn network replies) ran c OutOfMemory (write_status fault) (λ e. absurd e) (λ other. ran.cause.appends) hands.told (cause fault hands)
       (λ have ir. record {
         part = turn_text script ir.run ++ ending script have.runs ir.run;
         printed = printed_cut ir (ending script have.runs ir.run);
@@ -173,7 +203,7 @@ module _
       }) where
         cause : (fault : IoFault) → HandsOn {T = Unit {0}} (replies_text script.nodes script.steps flow.before (before script (k + 1) - flow.before)) waits' still (Err fault) mid.stream c
             → IsCauseOf (Some flow) (write_status fault) start (after c)
-        cause Failed h = inl (rose_here c (subst (λ (n : ℕ). Rose n c.faults) ran.cause.writes (h.counts.cause refl)))
+        cause Failed h = write_here c ran.cause ran.faults (h.counts.cause refl)
         cause NoMemory h = short_here c ran.cause (h.counts.still (λ failed. absurd cc))
 
         printed_cut : (ir : RunOf (GoesOn network replies)) (more : List ℕ) → Printed (waits ++ (turn_text script ir.run ++ more)) [] OutOfMemory (write_status fault) now.stream c
@@ -185,8 +215,8 @@ module _
   broken : (fault : FileFault) (c : SinkState) (status : Status) → Ran (Broken fault) → Printed waits' (capture_line (k + 1) fault) WrongCapture status mid.stream c
       → ScriptEnds script workers start (after c) (seen ++ lists ∷ []) status
   broken fault c status ran printed =
-      ends_here own script sound workers start now mid waits waits' left k seen under count flow at lists (Broken fault) ran c WrongCapture status (λ e. tt) printed.told
-      (ends_so (λ s. IsCauseOf (Some flow) s start (after c)) waits' (capture_line (k + 1) fault) WrongCapture status mid.stream c printed refl (short_here c ran.cause) (λ rose. inl (rose_over c ran.faults rose)))
+      ends_here own script sound workers start now mid waits waits' left k seen under count flow at lists (Broken fault) ran c WrongCapture status (λ e. tt) (λ other. ran.cause.appends) printed.told
+      (ends_so (λ s. IsCauseOf (Some flow) s start (after c)) waits' (capture_line (k + 1) fault) WrongCapture status mid.stream c printed (refl, no_file_over c ran.cause) (short_here c ran.cause) (write_here c ran.cause ran.faults))
       (λ have ir.
       let event : Event = record { status = 5; line = capture_line ir.run.number fault } in
       let line : capture_line (k + 1) fault ≡ (runs_report script (have.runs ++ ir.run ∷ [])).last = ap (λ n. capture_line n fault) (sym ir.numbered) ∙ event_line script have.runs ir.run event ir.ends.0 ir.ends.1 in
@@ -200,8 +230,8 @@ module _
 
   too_many : (c : SinkState) (status : Status) → Ran TooMany → Printed waits' packets_limit_line Limit status mid.stream c → ScriptEnds script workers start (after c) (seen ++ lists ∷ []) status
   too_many c status ran printed =
-      ends_here own script sound workers start now mid waits waits' left k seen under count flow at lists TooMany ran c Limit status (λ e. tt) printed.told
-      (ends_so (λ s. IsCauseOf (Some flow) s start (after c)) waits' packets_limit_line Limit status mid.stream c printed refl (short_here c ran.cause) (λ rose. inl (rose_over c ran.faults rose)))
+      ends_here own script sound workers start now mid waits waits' left k seen under count flow at lists TooMany ran c Limit status (λ e. tt) (λ other. ran.cause.appends) printed.told
+      (ends_so (λ s. IsCauseOf (Some flow) s start (after c)) waits' packets_limit_line Limit status mid.stream c printed (refl, no_file_over c ran.cause) (short_here c ran.cause) (write_here c ran.cause ran.faults))
       (λ have ir.
       let event : Event = record { status = 7; line = packets_limit_line } in
       record {
@@ -213,21 +243,12 @@ module _
       })
 
   -- a call of the folder has failed
-  input_rose : (c : SinkState) → Rose (now.folder.reads flow.input) (mid.folder.reads flow.input) → InputRose (Some flow) start (after c)
-  input_rose c rose = record { of = flow; is = refl; rose = inl (subst (λ (n : ℕ). Rose n (mid.folder.reads flow.input)) (under.none.reads flow.input) rose) }
-
-  create_rose : (c : SinkState) (name : List ℕ) → flow.output ≡ Some name → Rose (now.folder.creates name) (mid.folder.creates name) → InputRose (Some flow) start (after c)
-  create_rose c name is rose = record { of = flow; is = refl; rose = inr (name, is, subst (λ (n : ℕ). Rose n (mid.folder.creates name)) (under.none.creates name) rose) }
-
-  output_rose : (c : SinkState) (name : List ℕ) → flow.output ≡ Some name → Rose (now.folder.appends name) (mid.folder.appends name) → OutputRose (Some flow) start (after c)
-  output_rose c name is rose = record { of = flow; is = refl; name = name; makes = is; rose = subst (λ (n : ℕ). Rose n (mid.folder.appends name)) (under.none.appends name) rose }
-
   read_failed : (c : SinkState) (status : Status) → Ran (Stopped stop.Read) → Printed waits' [] ReadFault status mid.stream c → ScriptEnds script workers start (after c) (seen ++ lists ∷ []) status
   read_failed c status ran printed =
-      ends_here own script sound workers start now mid waits waits' left k seen under count flow at lists (Stopped stop.Read) ran c ReadFault status (λ e. absurd e) printed.told
+      ends_here own script sound workers start now mid waits waits' left k seen under count flow at lists (Stopped stop.Read) ran c ReadFault status (λ e. absurd e) (λ other. ran.cause.1.appends) printed.told
       (ends_done (λ s. IsCauseOf (Some flow) s start (after c)) waits' ReadFault status mid.stream c printed
       (λ same. (unwritten_over c ran.cause.1 same, input_rose c ran.cause.0))
-      (λ same. (unwritten_over c ran.cause.1 same, inr (input_rose c ran.cause.0))) (λ rose. inl (rose_over c ran.faults rose)))
+      (λ same. (unwritten_over c ran.cause.1 same, inr (input_rose c ran.cause.0))) (write_over c ran.faults ran.cause.1.appends (inr (input_rose c ran.cause.0))))
       (λ have ir. record {
         part = run_text script.nodes ir.run;
         printed = printed_behind (run_text script.nodes ir.run) waits waits' [] tt ReadFault status now.stream mid.stream c ir.printed printed;
@@ -238,9 +259,9 @@ module _
   create_failed : (c : SinkState) (status : Status) → Ran (Stopped stop.Create) → Printed waits' [] ReadFault status mid.stream c → ScriptEnds script workers start (after c) (seen ++ lists ∷ []) status
   create_failed c status ran printed =
       let rose_of = create_rose c ran.cause.0 ran.cause.1 ran.cause.2 in
-      ends_here own script sound workers start now mid waits waits' left k seen under count flow at lists (Stopped stop.Create) ran c ReadFault status (λ e. absurd e) printed.told
+      ends_here own script sound workers start now mid waits waits' left k seen under count flow at lists (Stopped stop.Create) ran c ReadFault status (λ e. absurd e) (λ other. ran.cause.3.appends) printed.told
       (ends_done (λ s. IsCauseOf (Some flow) s start (after c)) waits' ReadFault status mid.stream c printed (λ same. (unwritten_over c ran.cause.3 same, rose_of))
-      (λ same. (unwritten_over c ran.cause.3 same, inr rose_of)) (λ rose. inl (rose_over c ran.faults rose)))
+      (λ same. (unwritten_over c ran.cause.3 same, inr rose_of)) (write_over c ran.faults ran.cause.3.appends (inr rose_of)))
       (λ have ir. record {
         part = run_text script.nodes ir.run;
         printed = printed_behind (run_text script.nodes ir.run) waits waits' [] tt ReadFault status now.stream mid.stream c ir.printed printed;
@@ -251,7 +272,7 @@ module _
   append_failed : (c : SinkState) (ending : Status) → Ran (Stopped stop.Append) → Printed waits' [] WriteFault ending mid.stream c → ScriptEnds script workers start (after c) (seen ++ lists ∷ []) WriteFault
   append_failed c ending ran printed =
       let rose = output_rose c ran.cause.0 ran.cause.1 ran.cause.2 in
-      ends_here own script sound workers start now mid waits waits' left k seen under count flow at lists (Stopped stop.Append) ran c WriteFault WriteFault (λ e. absurd e) printed.told (inr rose)
+      ends_here own script sound workers start now mid waits waits' left k seen under count flow at lists (Stopped stop.Append) ran c WriteFault WriteFault (λ e. absurd e) (λ other. absurd (other refl)) printed.told (inr rose, inputs_over c ran.cause.3)
       (λ have ir. record {
         part = run_text script.nodes ir.run;
         printed = (ending, refl, printed_behind (run_text script.nodes ir.run) waits waits' [] tt WriteFault ending now.stream mid.stream c ir.printed printed);
@@ -271,7 +292,8 @@ module _
   -- the stream has failed, or memory
   print_failed : Ran (Stopped stop.Print) → ScriptEnds script workers start mid (seen ++ lists ∷ []) WriteFault
   print_failed ran =
-      ends_here own script sound workers start now mid waits waits' left k seen under count flow at lists (Stopped stop.Print) ran mid.stream OutOfMemory WriteFault (λ e. absurd e) refl (inl (rose_here mid.stream ran.cause))
+      ends_here own script sound workers start now mid waits waits' left k seen under count flow at lists (Stopped stop.Print) ran mid.stream OutOfMemory WriteFault (λ e. absurd e) (λ other. ran.cause.1) refl
+      (inl (no_append_over mid.stream ran.cause.1, rose_here mid.stream ran.cause.0), inputs_over mid.stream ran.cause.2)
       (λ have ir. record {
         part = turn_text script ir.run ++ ending script have.runs ir.run;
         printed = printed_broken (waits ++ run_text script.nodes ir.run) (more_of stop.Print have ir) (waits ++ (turn_text script ir.run ++ ending script have.runs ir.run)) OutOfMemory now.stream mid.stream
@@ -282,19 +304,15 @@ module _
 
   memory_failed : Ran (Stopped stop.OutOfMemory) → ScriptEnds script workers start mid (seen ++ lists ∷ []) OutOfMemory
   memory_failed ran =
-      ends_here own script sound workers start now mid waits waits' left k seen under count flow at lists (Stopped stop.OutOfMemory) ran mid.stream OutOfMemory OutOfMemory (λ e. absurd e) refl cause
+      ends_here own script sound workers start now mid waits waits' left k seen under count flow at lists (Stopped stop.OutOfMemory) ran mid.stream OutOfMemory OutOfMemory (λ e. absurd e) (λ other. ran.cause.0.appends) refl
+      (unwritten_over mid.stream ran.cause.0 refl, inputs_over mid.stream ran.cause.1)
       (λ have ir. record {
         part = turn_text script ir.run ++ ending script have.runs ir.run;
         printed = printed_in_part (waits ++ run_text script.nodes ir.run) (more_of stop.OutOfMemory have ir) (waits ++ (turn_text script ir.run ++ ending script have.runs ir.run)) OutOfMemory now.stream mid.stream
             (whole_of stop.OutOfMemory have ir) ir.printed.told ir.printed.faults ir.printed.prefix;
         body = body_whole script have.runs ir.run;
         is_due = tt;
-      }) where
-        cause : IsCauseOf (Some flow) OutOfMemory start mid
-        cause = elim ran.cause.reads [
-          | inl same ↦ short_here mid.stream (record { reads = same; creates = ran.cause.creates; appends = ran.cause.written.appends; writes = ran.cause.written.writes }) refl
-          | inr rose ↦ (unwritten_over mid.stream ran.cause.written refl, inr (input_rose mid.stream rose))
-        ]
+      })
 
   pub call_ends : (end : FlowEnd) (c : SinkState) (status : Status) → Ran end → Ends end c (Err status) → ScriptEnds script workers start (after c) (seen ++ lists ∷ []) status
   call_ends (GoesOn network replies) c status ran ends = subst (ScriptEnds script workers start (after c) (seen ++ lists ∷ [])) (sym ends.2) (replies_fail network replies c ends.1 ends.0 ran ends.3)

@@ -5,6 +5,7 @@ use Rattle.std.specs.List.{list_all}
 use Rattle.std.proofs.lemmas.List.{append-nil, take_all, take_at, length-map}
 use Rattle.std.proofs.lemmas.List.Elements.{All-nil, All-cons, All-head, All-tail, All-push, All-weaker}
 use Rattle.std.proofs.lemmas.Option.{slice_get_within}
+use Rattle.net_io.specs.Faults.{SameCounts}
 use Rattle.net_io.specs.Sink.{SinkState}
 use Rattle.flow_lines.specs.declared.flow.FlowLine.{FlowLine}
 use Rattle.label_commands.specs.declared.script.Script.{Script}
@@ -67,7 +68,7 @@ pub record AreUnderWay (script : Script) (workers : ℕ) (start now : Outside) (
 
 -- memory ran out, and nothing has failed
 pub short_of_memory : (hand : Option FlowLine) (before after : Outside) → NoneFailed before after → IsCauseOf hand OutOfMemory before after
-short_of_memory hand before after none = (record { writes = none.writes; appends = none.appends }, inl none)
+short_of_memory hand before after none = (record { writes = none.writes; appends = none.appends }, inl (record { reads = none.reads; creates = none.creates }))
 
 pub none_failed : (a : Outside) → NoneFailed a a
 none_failed a = record { reads = λ name. refl; creates = λ name. refl; appends = λ name. refl; writes = refl }
@@ -270,10 +271,11 @@ module _
     pub body : first_replies script ++ (turns_text script have.runs ++ part) ≡ due_body script (have.runs ++ ir.run ∷ []) due
     pub is_due : IsDue script (have.runs ++ ir.run ∷ []) (Some flow) start (record { folder = mid.folder; stream = c }) due
 
-  pub ends_here : (c : SinkState) (due status : Status) → (HasFinished due → HasEnded end) → c.tells ≡ mid.stream.tells → IsCauseOf (Some flow) status start (record { folder = mid.folder; stream = c })
+  pub ends_here : (c : SinkState) (due status : Status) → (HasFinished due → HasEnded end) → (due ≢ WriteFault → SameCounts now.folder.appends mid.folder.appends) → c.tells ≡ mid.stream.tells
+      → IsCauseOf (Some flow) status start (record { folder = mid.folder; stream = c })
       → ((have : HaveRun script workers start now waits seen) (ir : IsRunOf (plan_of script) script.nodes workers (k + 1) left (before script (k + 1)) flow now mid waits waits' lists end) → EndsHere have ir c due status)
       → ScriptEnds script workers start (record { folder = mid.folder; stream = c }) (seen ++ lists ∷ []) status
-  ends_here c due status ended told cause ends = record {
+  ends_here c due status ended appends told cause ends = record {
     begun = few_begun;
     due = due;
     runs = λ tells.
@@ -293,6 +295,7 @@ module _
           others = more_others have ir;
         };
     cause = subst (λ (f : Option FlowLine). IsCauseOf f status start (record { folder = mid.folder; stream = c })) (sym in_hand_here) cause;
+    appends = λ other name. appends other name ∙ under.none.appends name;
     still = λ none.
         let longer : length (seen ++ lists ∷ []) ≡ suc k = omega (arith, one_longer) in
         let kept = ran.still (of_flow_in_hand (λ (f : FlowLine). f.output ≡ None) script.flows k flow at (subst (λ (n : ℕ). All (λ f. f.output ≡ None) (take n script.flows)) longer none)) in

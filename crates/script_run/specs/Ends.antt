@@ -8,7 +8,7 @@ use Rattle.call_report.specs.declared.status.Status.{Status}
 use Rattle.call_report.specs.declared.status.Status.TheVariants.{Done, NoForm, WrongScript, ReadFault, WriteFault, WrongCapture, OutOfMemory, Limit}
 use Rattle.call_report.specs.Report.{Versions}
 use Rattle.call_report.specs.Event.{Event, packets_limit}
-use Rattle.call_report.specs.Outside.{Outside, NoneFailed, NoWriteFailed}
+use Rattle.call_report.specs.Outside.{Outside, NoneFailed, NoFileFailed, NoInputFailed, NoWriteFailed}
 use Rattle.call_report.specs.Output.{IsBegun, IsMade}
 use Rattle.call_report.specs.Printing.{Printed}
 use Rattle.flow_run.specs.Run.{FlowRun}
@@ -40,17 +40,23 @@ pub record OutputRose (flow : Option FlowLine) (before after : Outside) : Type 0
   pub makes : of.output ≡ Some name
   pub rose : Rose (before.folder.appends name) (after.folder.appends name)
 
--- What moved where the call ends with this status. A read or a making that failed decides only where no write and no append has failed. For want of memory
--- none of these has failed either, and nothing else, unless a read or a making failed.
+-- no read and no making has failed, unless one of the flow in hand
+abbrev pub HasInputs : Option FlowLine → Outside → Outside → Type 0
+HasInputs flow before after = NoInputFailed before after ⊎ InputRose flow before after
+
+-- What moved where the call ends with this status. A read or a making that failed decides only where no write and no append has failed, a write only where no
+-- append has. Where a write or an append decides, or memory ran out, no read and no making has failed but of the flow in hand. Where a capture decides, no call of
+-- the folder has failed.
 abbrev pub IsCauseOf : Option FlowLine → Status → Outside → Outside → Type 0
 IsCauseOf flow Done before after = NoneFailed before after
 IsCauseOf flow NoForm before after = ⊥
 IsCauseOf flow WrongScript before after = ⊥
 IsCauseOf flow ReadFault before after = NoWriteFailed before after × InputRose flow before after
-IsCauseOf flow WriteFault before after = Rose before.stream.faults after.stream.faults ⊎ OutputRose flow before after
-IsCauseOf flow WrongCapture before after = IsSome flow
-IsCauseOf flow OutOfMemory before after = NoWriteFailed before after × (NoneFailed before after ⊎ InputRose flow before after)
-IsCauseOf flow Limit before after = IsSome flow
+IsCauseOf flow WriteFault before after =
+    ((SameCounts before.folder.appends after.folder.appends × Rose before.stream.faults after.stream.faults) ⊎ OutputRose flow before after) × HasInputs flow before after
+IsCauseOf flow WrongCapture before after = IsSome flow × NoFileFailed before after
+IsCauseOf flow OutOfMemory before after = NoWriteFailed before after × HasInputs flow before after
+IsCauseOf flow Limit before after = IsSome flow × NoFileFailed before after
 
 -- The last flow ends with this event's status.
 pub record EndsBy (status : ℕ) (runs : List FlowRun) : Type 0 where
@@ -112,6 +118,8 @@ pub record ScriptEnds (script : Script) (workers : ℕ) (before after : Outside)
   pub due : Status
   pub runs : IsTrue before.folder.tells → HasRuns script workers before after seen due status
   pub cause : IsCauseOf (flow_in_hand script seen) status before after
+  -- no append has failed, unless one ends the flows
+  pub appends : due ≢ WriteFault → SameCounts before.folder.appends after.folder.appends
   -- flows without outputs make nothing and append nothing
   pub still : All (λ flow. flow.output ≡ None) (take (length seen) script.flows)
       → SameCounts before.folder.creates after.folder.creates × SameCounts before.folder.appends after.folder.appends

@@ -1,6 +1,6 @@
 -- What is told of a flow: each link is covered exactly where no reason is found, and then the last line says so.
 use Rattle.std.proofs.Common.{◌≡◌, ◌↔◌, ◌⊎◌, inl, inr, ℕ, ◌+◌, Bool, true, false, List, [], ◌∷◌, ◌++◌, length, Option, Some, None, refl, sym, ap, subst, ◌∙◌, arith, append_assoc, length-append}
-use Rattle.std.specs.Prelude.{codes, is_none, IsTrue, IfSome, IfNone}
+use Rattle.std.specs.Prelude.{codes, is_none, IfSome, IfNone}
 use Rattle.std.specs.List.{list_all}
 use Rattle.std.specs.Fmt.{decimal}
 use Rattle.std.proofs.lemmas.Bool.{and_from, and_parts, false≢true}
@@ -13,13 +13,13 @@ use Rattle.shared_tables.specs.Plan.{PlanState}
 use Rattle.flow_access.specs.Valid.{plan_of}
 use Rattle.call_report.specs.Lines.Agreement.{found_text, hops_line}
 use Rattle.call_report.specs.Lines.Parts.{line_of}
-use Rattle.call_report.specs.Report.{Report, late_report}
+use Rattle.call_report.specs.Report.{Report}
 use Rattle.script_input.specs.Flow.{flow_numbered, versions_for, AreVersionsOf}
 use Rattle.script_input.specs.Neighbours.{HopState, hop_under, EachTwo}
 use Rattle.script_input.specs.Answer.{HopsAnswer, no_flow, bad_versions, compared}
 use Rattle.static_law.specs.declared.uncovered.Uncovered.{Uncovered}
 use Rattle.static_law.specs.declared.uncovered.Uncovered.TheVariants.{Differ, NoRange, Entry}
-use Rattle.static_law.specs.Covered.{interface_out, interface_in, Covered, CoveredBetween, NeighboursCovered}
+use Rattle.static_law.specs.Covered.{interface_out, interface_in, Covered, NeighboursCovered}
 use Rattle.static_law.specs.Uncovered.{IsUncovered}
 use Rattle.static_law.specs.Lines.{told_line, link_line, coverage_line}
 use Rattle.static_law.specs.Cover.{IsLinkFound, links_text, cover_text}

@@ -1,11 +1,11 @@
 -- What a call has told that ends with status 0: the whole answer on the flow of the script that its file holds.
-use Rattle.std.proofs.Common.{◌≡◌, ◌⊎◌, inl, inr, ℕ, List, [], ◌++◌, Option, Some, None, Result, Ok, Err, refl, sym, ap, subst, ◌∙◌, arith}
+use Rattle.std.proofs.Common.{◌≡◌, ◌⊎◌, inl, inr, ℕ, List, [], ◌++◌, Option, Some, None, Result, Ok, Err, refl, ap, subst, ◌∙◌, arith}
 use Rattle.std.specs.Prelude.{IsTrue}
 use Rattle.std.proofs.lemmas.List.{append-nil}
 use Rattle.label_commands.specs.declared.script.Script.{Script}
 use Rattle.label_commands.specs.declared.stop.ScriptStop.{ScriptStop}
 use Rattle.label_commands.specs.declared.stop.ScriptStop.TheVariants as stop
-use Rattle.call_report.specs.CallEnds.{IsRefusal, CallEnds}
+use Rattle.call_report.specs.CallEnds.{IsRefusal, CallEnds, PrintsReport}
 use Rattle.call_report.specs.Outside.{Outside}
 use Rattle.call_report.specs.Lines.Script.{script_stop_line}
 use Rattle.call_report.specs.Report.{Report, report_text, late_report}
@@ -77,9 +77,13 @@ module _ (asked : CoverQuestion) (before after : Outside) where
 
   pub told_by : CallEnds cover_says (Some asked) before after 0 [] → IsTrue before.folder.tells → IsTrue before.stream.tells → TellsCoverage asked before after
   told_by ends folder stream =
-      let printed = (ends.prints folder).whole stream (inl refl) in
-      by_file (before.folder.held asked.file) printed.0 refl (by_due (ends.ends.due folder)) printed.1 printed.2
+      let printed = (ends.prints (λ reads. folder)).whole stream no_refusal in
+      by_file (before.folder.held asked.file) printed.0 refl (by_due (ends.ends.due folder)) printed.1 (all_of printed.0 printed.2)
     where
+      all_of : (report : Report) → PrintsReport report before after 0 → Wrote report
+      all_of report (inl all) = all.1
+      all_of report (inr line) = absurd (line.0 refl)
+
       by_due : ScriptStatus Answers asked.file (before.folder.held asked.file) 0 ⊎ IsRefusal 0 → ScriptStatus Answers asked.file (before.folder.held asked.file) 0
       by_due (inl is) = is
       by_due (inr refusal) = absurd (no_refusal refusal)

@@ -8,7 +8,7 @@ use Rattle.label_flow.specs.Pair.{PairState}
 use Rattle.static_law.specs.Covered.{NeighboursCovered}
 use Rattle.static_law.specs.Climbs.{Climbs}
 
--- each of the first packets that was judged climbs where each two neighbouring hops were covered
+-- each of the first packets that was judged climbs where every two neighbouring hops were covered
 abbrev pub HaveClimbed : PlanState → List NamedMeanings → List Hop → List PacketIn → List PairState → Type 0
 HaveClimbed plan readings hops packets [] = Unit {0}
 HaveClimbed plan readings hops [] (pair ∷ pairs) = ⊥

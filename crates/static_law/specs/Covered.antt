@@ -45,7 +45,7 @@ abbrev pub CoveredBetween : PlanState → List NamedMeanings → Hop → ℕ →
 CoveredBetween plan readings left v right w =
     Covered (hop_tables plan v left) (interface_out left) (hop_tables plan w right) (interface_in right) (reading_at readings left) (reading_at readings right)
 
--- and between each two neighbouring hops that judged
+-- and between every two neighbouring hops that judged
 abbrev pub NeighboursCovered : PlanState → List NamedMeanings → List Hop → List ℕ → Type 0
 NeighboursCovered plan readings [] versions = Unit {0}
 NeighboursCovered plan readings (hop ∷ []) versions = Unit {0}

@@ -7,7 +7,7 @@ use Rattle.call_report.specs.Lines.Parts.{line_of}
 use Rattle.script_input.specs.Flow.{flow_numbered, versions_for, AreVersionsOf}
 use Rattle.static_law.specs.Covered.{NeighboursCovered}
 
--- The flow of this number, under the versions that are named or else under those of the commands above it: each two neighbouring hops are covered.
+-- The flow of this number, under the versions that are named or else under those of the commands above it: every two neighbouring hops are covered.
 pub record IsCoveredFlow (script : Script) (number : ℕ) (named : Option (List ℕ)) : Type 0 where
   pub flow : FlowLine
   pub is : flow_numbered script number ≡ Some flow

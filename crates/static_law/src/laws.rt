@@ -41,7 +41,7 @@ pub fn covered_walks_climb()
         → Climbs plan readings hops packet.bytes versions end }
 {}
 
-/// So does each packet of a flow of a script that is read, under any order of publications and looks, where each two neighbouring hops were
+/// So does each packet of a flow of a script that is read, under any order of publications and looks, where every two neighbouring hops were
 /// covered under the versions that it was judged by.
 pub fn packets_of_scripts_climb()
     ensures { (edition : Edition) (own text : List ℕ) (script : Script) (packets : List PacketIn)
@@ -68,7 +68,7 @@ pub fn one_reason_is_first()
 {}
 
 /// The last line of what is told of a script's flow is `covered` exactly where the script has the flow, a packet of it can have the versions, and
-/// each two neighbouring hops are covered under them.
+/// every two neighbouring hops are covered under them.
 pub fn covered_is_told_exactly_where_each_link_is()
     ensures { (script : Script) (number : ℕ) (named : Option (List ℕ)) (status : ℕ)
         (report : Report)

@@ -24,7 +24,7 @@ use net_io::{Depot, Sink};
 use script_input::{Compares, HopAt, answer_hops, script_of};
 use std::alloc::Global;
 
-/// Reads the script that the words name whole, and tells of each two neighbouring hops of its flow whether the link between them is covered,
+/// Reads the script that the words name whole, and tells of every two neighbouring hops of its flow whether the link between them is covered,
 /// each with the tables of its version, and at the end whether all are. Where no versions are named, all are that of the commands above
 /// the flow.
 ///

@@ -27,7 +27,7 @@ found_text (Some d) = codes "disagree " ++ number_of_difference d ++ codes " " +
 unfoldable pub hops_line : ℕ → Option Disagree → List ℕ
 hops_line left found = line_of (codes "hop " ++ decimal left ++ codes " " ++ decimal (left + 1) ++ codes " " ++ found_text found)
 
--- whether each two neighbouring hops agree
+-- whether every two neighbouring hops agree
 unfoldable pub agreement_line : Bool → List ℕ
 agreement_line true = line_of (codes "agree")
 agreement_line false = line_of (codes "disagree")

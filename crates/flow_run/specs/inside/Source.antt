@@ -1,5 +1,5 @@
 -- A source of packets: what it has left of its capture, and what reads change.
-use Rattle.std.specs.Prelude.{ℕ, ◌≡◌, ◌≤◌, ◌⊎◌, ◌-◌, if◌then◌else◌, Bool, true, false, IsTrue, List, [], ◌++◌, length, take, drop, map, All, Option, Some, None, Ok}
+use Rattle.std.specs.Prelude.{ℕ, ◌≡◌, ◌≤◌, ◌⊎◌, ◌-◌, ◌+◌, if◌then◌else◌, Bool, true, false, IsTrue, List, [], ◌++◌, length, take, drop, map, All, Option, Some, None, Ok}
 use Rattle.net_io.specs.Depot.{DepotState, octets_of, SameHeld}
 use Rattle.net_io.specs.Faults.{Rose, SameCounts}
 use Rattle.pcap_frames.specs.declared.record.FrameHead.{FrameHead}
@@ -173,8 +173,13 @@ pub record IsAhead (source : Source) (next : List PacketIn) : Type 0 where
 abbrev pub HasMoved : Source → Source → DepotState → DepotState → Type 0
 HasMoved old new before after = ((old.behind ≡ None) × HasOnlyRead new.behind (file_name_of old.reader) before after) ⊎ ((new.behind ≡ old.behind) × (after ≡ before))
 
+-- as many more packets wait as were read: fetched and not accepted, or read ahead
+abbrev pub AreCounted : Source → Source → Type 0
+AreCounted old new = due_in new + length new.heads.items + old.read ≡ due_in old + length old.heads.items + new.read
+
 -- Packets were read ahead or fetched; the times of what is to come stay.
 pub record HasStepped (old new : Source) (before after : DepotState) : Type 0 where
   pub same : IsSame old new
   pub heads : IsTrue before.tells → heads_left new (file_of before old) ≡ heads_left old (file_of before old)
+  pub counted : AreCounted old new
   pub moved : HasMoved old new before after

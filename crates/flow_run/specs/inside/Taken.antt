@@ -12,6 +12,7 @@ use Rattle.capture_reader.specs.Reader.{file_name_of, format_of}
 use Rattle.capture_reader.specs.Written.{file_frames}
 use Rattle.label_flow.specs.Pair.{PairState}
 use Rattle.label_flow.specs.Schedule.{versions_in}
+use Rattle.call_report.specs.Event.{packets_limit}
 use Rattle.call_report.specs.Outside.{Outside, NoWriteFailed}
 use Rattle.call_report.specs.Printing.{Breaks, HandsOn}
 use Rattle.flow_run.specs.declared.end.FlowPlace.{FlowPlace}
@@ -22,7 +23,7 @@ use Rattle.flow_run.specs.Run.{is_denied, passed_in, denied_in, walked_lines}
 use Rattle.flow_run.specs.Ends.{IsHandedOn, IsCutOff}
 use Rattle.flow_run.specs.inside.Output.{IsAppended, IsThere, HasAppended}
 use Rattle.flow_run.specs.declared.source.Behind.TheVariants.{Failed}
-use Rattle.flow_run.specs.inside.Source.{IsSame, ReadsMove, heads_left, file_of}
+use Rattle.flow_run.specs.inside.Source.{IsSame, ReadsMove, due_in, heads_left, file_of}
 
 -- a flow at a moment: the folder and the stream, what waits for the stream and for the output, the versions that were kept, how many packets
 -- passed and were denied, and the last stop
@@ -83,13 +84,13 @@ kept_by (head ∷ heads) [] = []
 kept_by (head ∷ heads) (pair ∷ pairs) =
     if is_denied pair.walked.end then kept_by heads pairs else record { head = head; octets = pair.octets } ∷ kept_by heads pairs
 
--- the numbers of failed appends and prints: none has moved, unless it stopped for that
+-- the numbers of failed appends and prints: none has moved, unless it stopped for that, and where a print has failed no append has
 abbrev pub IsMoved : FlowLine → Option FlowStop → Outside → Outside → Type 0
 IsMoved flow None before after = NoWriteFailed before after
 IsMoved flow (Some the_stop.Read) before after = NoWriteFailed before after
 IsMoved flow (Some the_stop.Create) before after = ⊥
 IsMoved flow (Some the_stop.Append) before after = (name : List ℕ) × (flow.output ≡ Some name) × Rose (before.folder.appends name) (after.folder.appends name)
-IsMoved flow (Some the_stop.Print) before after = Rose before.stream.faults after.stream.faults
+IsMoved flow (Some the_stop.Print) before after = Rose before.stream.faults after.stream.faults × SameCounts before.folder.appends after.folder.appends
 IsMoved flow (Some the_stop.OutOfMemory) before after = NoWriteFailed before after
 
 abbrev pub outside_of : Moment → Outside
@@ -125,3 +126,6 @@ pub record IsGoing (flow : FlowLine) (now : Moment) : Type 0 where
   pub apart : flow.output ≢ Some flow.input
   pub present : IsThere flow.output now.folder
   pub counts : now.passed + now.denied ≡ length now.seen
+  -- no more packets were accepted or wait than were read, and no more may be read than one call reads
+  pub accepted : length now.seen + due_in now.source + length now.source.heads.items ≤ now.source.read
+  pub few : now.source.most ≤ packets_limit

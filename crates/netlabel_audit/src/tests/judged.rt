@@ -101,7 +101,7 @@ fn is_judged(
     line: &str,
     script: &str,
     report: &str,
-    change: Change,
+    change: (&str, &str, u32),
 ) -> bool {
     let (from, to, bad) = change;
     let report = changed(rt, alloc, report, from, to);
@@ -343,5 +343,46 @@ const SITE_CHANGES: [Change; 5] = [
 fn judges_captures_of_both_formats(rt: HostRuntime) {
     for change in SITE_CHANGES {
         assert!(rt; is_judged(&rt, rt.alloc(), "s r 3", SITE, SITE_REPORT, change));
+    }
+}
+
+/// A text in which each capture has the name of the one in pcapng with the same packets.
+fn in_pcapng(rt: &impl Abort, alloc: Global, text: &str) -> String {
+    let mut named = String::new(alloc);
+    let mut rest = text;
+    while let Some((front, behind)) = rest.split_once(".pcap") {
+        named.push_str(front).expect(rt, "there is memory");
+        named.push_str(".pcapng").expect(rt, "there is memory");
+        rest = behind;
+    }
+    named.push_str(rest).expect(rt, "there is memory");
+    named
+}
+
+#[test]
+fn judges_flows_over_captures_in_pcapng(rt: HostRuntime) {
+    let alloc = rt.alloc();
+    for (script, report, changes) in [
+        (LATE, LATE_REPORT, LATE_CHANGES.as_slice()),
+        (EMPTY, EMPTY_REPORT, EMPTY_CHANGES.as_slice()),
+    ] {
+        let script = in_pcapng(&rt, alloc, script);
+        let report = in_pcapng(&rt, alloc, report);
+        for (from, to, bad) in changes {
+            let from = in_pcapng(&rt, alloc, from);
+            let to = in_pcapng(&rt, alloc, to);
+            let change = (from.as_str(), to.as_str(), *bad);
+            assert!(rt;
+                is_judged(
+                    &rt,
+                    alloc,
+                    "s r 4",
+                    script.as_str(),
+                    report.as_str(),
+                    change
+                ),
+                "{from}"
+            );
+        }
     }
 }

@@ -20,7 +20,7 @@ use Rattle.capture_reader.specs.Written.{file_octets}
 use Rattle.capture_output.specs.Output.{HasAppended}
 use Rattle.call_report.specs.declared.status.Status.{Status}
 use Rattle.call_report.specs.declared.status.Status.TheVariants.{Done, ReadFault, WrongCapture, OutOfMemory, Limit}
-use Rattle.call_report.specs.CallEnds.{CallEnds}
+use Rattle.call_report.specs.CallEnds.{CallEnds, HasBegun}
 use Rattle.call_report.specs.Event.{packets_limit}
 use Rattle.call_report.specs.Lines.Capture.{capture_line}
 use Rattle.call_report.specs.Lines.Denial.{denial_text}
@@ -37,7 +37,7 @@ use Rattle.ripso_border_run.specs.declared.task.Task.{Task}
 use Rattle.ripso_border_run.specs.Frames.{AreMadeOf, written_frames, made_lines, count_passed, count_denied}
 use Rattle.ripso_border_run.specs.Lines.{Made, crossed_end_line}
 use Rattle.ripso_border_run.specs.Outcome.{Outcome, ByInput, IsOutcome}
-use Rattle.ripso_border_run.specs.Says.{border_says}
+use Rattle.ripso_border_run.specs.Says.{border_says, capture_stages}
 
 -- a verdict, where the packet's octets are lent
 abbrev pub made_of : Result (Unit {0}) Denial → List ℕ → Made
@@ -70,8 +70,9 @@ pub record IsUnmoved (old new : DepotState) : Type 0 where
   pub creates : SameCounts old.creates new.creates
   pub appends : SameCounts old.appends new.appends
 
--- A call has read its script, and found the definition: what its input comes to under it is what the call comes to.
+-- A call has read its script, and found the definition: its input may be read and its output made, and what the input comes to under it is what the call comes to.
 pub record IsPlanned (task : Task) (plan : DoiPlan) (before : Outside) : Type 0 where
+  pub begun : HasBegun (border_says (Some task)) before.folder [] (capture_stages task)
   pub leads : IsTrue before.folder.tells → (outcome : Outcome) → ByInput task plan (before.folder.held task.input) outcome → IsOutcome task before.folder.held outcome
   pub only : IsTrue before.folder.tells → (outcome : Outcome) → IsOutcome task before.folder.held outcome → ByInput task plan (before.folder.held task.input) outcome
 

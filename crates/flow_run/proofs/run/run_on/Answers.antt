@@ -1,12 +1,24 @@
-use Rattle.std.proofs.Common.{◌≡◌, List, Option, length, refl, sym, ap, subst, ◌∙◌, Some}
+use Rattle.std.proofs.Common.{◌≡◌, List, Option, length, refl, sym, ap, subst, ◌∙◌, arith, Some}
 use Rattle.packet_walk.specs.declared.packet.PacketIn.{PacketIn}
 use Rattle.shared_tables.specs.Plan.{PlanState}
 use Rattle.label_flow.specs.Feed.{AreBegun, AreWhole}
 use Rattle.flow_run.specs.inside.Feed.{last_moment}
 use Rattle.flow_run.specs.declared.end.FlowPlace.{FlowPlace}
-use Rattle.flow_run.proofs.Ahead.{left_unread}
+use Rattle.flow_run.proofs.Ahead.{left_unread, unread_ahead}
+use Rattle.flow_run.proofs.Steps.{going_fresh}
 use Rattle.flow_run.proofs.Flown.{round_walked, round_lawful, ok_none, steps_flown}
 use Rattle.flow_run.proofs.run.run_on.Goals as goal
+
+pub drive-driven-requires-clause-going : goal.drive-driven-requires-clause-going
+drive-driven-requires-clause-going g c κs within =
+    let new = c.requires.prepared.new in
+    let stands = c.requires.stands in
+    record {
+      ready = (new.fed, going_fresh _ _ _ new.fresh stands.most stands.apart c.requires.prepared.there new.seen new.passed new.denied, unread_ahead _ _ new.fresh.heads);
+      due = omega (arith, ap length new.fresh.fetched);
+      behind = new.fresh.behind;
+      stop = new.stop;
+    }
 
 pub returns-clause-same : goal.returns-clause-same
 returns-clause-same g c =

@@ -11,6 +11,7 @@ loop-alloc-init g c = record {
   got = got_nothing _ _ _ _ _ _ (record { name = refl; format = refl; most = refl }) (record { times = refl; at = refl }) refl refl (λ told. refl);
   behind = c.requires.begins;
   few = omega (arith, ap length c.requires.empty);
+  counted = refl;
   places = omega (arith, ap length c.requires.empty);
 }
 
@@ -27,5 +28,6 @@ loop-alloc-preserved g c =
       got = next_got _ _ _ _ _ _ was.reads was.got _ _ one.got;
       behind = none;
       few = omega (arith, (rw c.if-not-read_one.false at one.count), c.loop-alloc-test.true, c.len.ensures, c.most_at_once-most.ensures.few);
+      counted = omega (arith, was.counted, (rw c.if-not-read_one.false at one.count), (rw c.if-not-read_one.false at one.read));
       places = one.places;
     }

@@ -1,4 +1,4 @@
-use Rattle.std.proofs.Common.{◌≡◌, ◌≤◌, ◌-◌, IsTrue, length, None}
+use Rattle.std.proofs.Common.{◌≡◌, ◌≤◌, ◌-◌, ◌+◌, IsTrue, length, None}
 use Rattle.capture_reader.specs.Reader.{file_name_of, IsReadable}
 use Rattle.flow_run.specs.inside.Source.{IsAmid, HasGot, HasOnlyRead, read_into, file_of}
 use Rattle.flow_run.proofs.source.fill.Given as goal
@@ -19,5 +19,6 @@ invariant-loop-alloc g l =
       got : HasGot before.tells (file_of before l.fn.source) l.fn.source l.source (read_into l.fn.source l.fn.batch.items) (read_into l.source l.batch.items);
       behind : l.source.behind ≡ None;
       few : length l.source.heads.items ≤ 1024;
+      counted : length l.source.heads.items + l.fn.source.read ≡ length l.fn.source.heads.items + l.source.read;
       places : length l.source.heads.items ≤ length l.batch.items;
     }

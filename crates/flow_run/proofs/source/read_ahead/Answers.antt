@@ -15,4 +15,4 @@ pub returns-clause-left : goal.returns-clause-left
 returns-clause-left g c = left_ahead _ _ _ _ _ _ c.fill.ensures.reads c.fill.ensures.got
 
 pub returns-clause-stepped : goal.returns-clause-stepped
-returns-clause-stepped g c = stepped_ahead _ _ _ _ _ _ c.fill.ensures.reads c.fill.ensures.got (search (rules, c.if-is_some.false, c.is_some.ensures))
+returns-clause-stepped g c = stepped_ahead _ _ _ _ _ _ c.fill.ensures.reads c.fill.ensures.got (search (rules, c.if-is_some.false, c.is_some.ensures)) c.fill.ensures.counted

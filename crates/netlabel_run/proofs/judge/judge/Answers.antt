@@ -1,4 +1,4 @@
-use Rattle.std.proofs.Common.{◌≤◌, length, ap, refl, sym, subst, inl, arith, [], ◌∷◌, Some}
+use Rattle.std.proofs.Common.{◌≤◌, length, ap, refl, sym, subst, inl, inr, arith, [], ◌∷◌, Some}
 use Rattle.std.specs.Prelude.{Contains}
 use Rattle.std.proofs.lemmas.List.{append-nil}
 use Rattle.netlabel_run.specs.declared.command.Command.TheVariants.{Judge}
@@ -31,8 +31,8 @@ returns-in-Err-Failed g c =
     let clauses = rw c.in-Err-Failed.field-0-is at c.in-Err-Failed.ensures in
     ends_unread netlabel_says (Some (Judge c.args.doi c.args.level.now file)) before after (reading_stage file ∷ [])
     (knows_judge c.args.doi c.args.level.now file before after (only_read _ _ file before.folder after.folder c.in-Err-Failed.ensures.frame) refl)
-    [] (λ e. cc) (record { name = file; counted = inl refl; rose = clauses.frame.reads.cause refl }) refl (λ out. sym (append-nil before.stream.written)) (λ told. inl refl)
-    (λ told report has. subst (λ pauses. Contains pauses []) (sym (quiet c.args.doi c.args.level.now file before _ report has)) (0, omega arith, refl)) (λ quiet. refl)
+    [] (λ e. cc) (record { name = file; in_hand = refl; rose = clauses.frame.reads.cause refl }) refl (λ out. sym (append-nil before.stream.written)) (λ known. inl refl)
+    (λ known report has. subst (λ pauses. Contains pauses []) (sym (quiet c.args.doi c.args.level.now file before _ report has)) (0, omega arith, refl)) (inr refl)
 
 pub returns-in-Err-OutOfMemory : goal.returns-in-Err-OutOfMemory
 returns-in-Err-OutOfMemory g c =

@@ -1,9 +1,9 @@
-use Rattle.std.proofs.Common.{ℕ, List, refl, sym, ap, ◌∙◌}
+use Rattle.std.proofs.Common.{refl, sym, subst, ◌∙◌}
+use Rattle.net_io.specs.Depot.{DepotState}
 use Rattle.call_report.specs.Outside.{Outside}
-use Rattle.node_tables.specs.Tables.{TableState}
-use Rattle.ripso_border_run.specs.Definition.{first_definition, last_tables}
 use Rattle.ripso_border_run.specs.Lines.{name_twice_line, no_doi_line}
-use Rattle.ripso_border_run.proofs.Planning.{twice_is, undefined_is, ends_line, ends_memory}
+use Rattle.ripso_border_run.specs.inside.Course.{IsUnmoved}
+use Rattle.ripso_border_run.proofs.Planning.{definition_is, twice_is, undefined_is, planned, ends_line, ends_memory}
 use Rattle.ripso_border_run.proofs.top.cross_by.Goals as goal
 
 pub returns-then-twice : goal.returns-then-twice
@@ -26,8 +26,17 @@ returns-in-None g c before text holds is same stream =
     let start : Outside = record { folder = g.D.Depot.state c.args.depot.now; stream = g.S.Sink.state c.args.out.now } in
     let after : Outside = record { folder = g.D.Depot.state c.args.depot.now; stream = g.S.Sink.state c.end-in-None.new.out } in
     ends_line task before start after same stream refl no_doi_line c.end-in-None.result
-    (undefined_is task before text c.args.script.now holds is (sym c.is_named_twice-twice.ensures ∙ c.if-twice.false) (ap (λ (d : ℕ). first_definition (last_tables c.args.script.now) d) (sym (c.get-doi.ensures.number ∙ c.doi.ensures)) ∙ ap (λ (n : List TableState). first_definition n c.get-doi.result) (sym c.in-Ok.ensures) ∙ sym (rw c.in-None.is at c.first_definition.ensures)))
+    (undefined_is task before text c.args.script.now holds is (sym c.is_named_twice-twice.ensures ∙ c.if-twice.false)
+    (definition_is c.args.script.now task.doi c.in-Ok.ensures (c.get-doi.ensures.number ∙ c.doi.ensures) (rw c.in-None.is at c.first_definition.ensures)))
     (rw (c.new-in-None.ensures, c.no_doi.ensures) at c.end-in-None.ensures)
+
+pub returns-in-Ok-protect_read : goal.returns-in-Ok-protect_read
+returns-in-Ok-protect_read g c before text holds is same stream =
+    let task = c.args.task.now in
+    let once = sym c.is_named_twice-twice.ensures ∙ c.if-twice.false in
+    let defined = definition_is c.args.script.now task.doi c.in-Ok.ensures (c.get-doi.ensures.number ∙ c.doi.ensures) c.in-Some.ensures in
+    c.cross_capture.ensures before (planned task before text c.args.script.now holds is once _ defined)
+    (subst (λ (d : DepotState). IsUnmoved before.folder d) (sym c.protect_read.ensures) same) stream
 
 pub returns : goal.returns
 returns g c before text holds is same stream =

@@ -16,7 +16,5 @@ returns-in-Ok g c =
 
 pub returns-in-Err : goal.returns-in-Err
 returns-in-Err g c =
-    let before : Outside = record { folder = g.D.Depot.state c.args.depot.now; stream = g.S.Sink.state c.args.out.now } in
-    let after : Outside = record { folder = g.D.Depot.state c.script_of.new.depot; stream = g.S.Sink.state c.script_of.new.out } in
     let ended = rw c.as_str.ensures at c.in-Err.ensures.err in
-    ends_scriptless c.args.task.now before after ended.reads c.in-Err.status ended
+    ends_scriptless c.args.task.now _ _ ended.reads c.in-Err.status ended

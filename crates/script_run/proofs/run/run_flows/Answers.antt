@@ -19,6 +19,7 @@ loop-done-init g c =
     let script = c.args.script.now in
     record {
       within = omega arith;
+      few = omega arith;
       count = ap length c.new-seen.ensures.items;
       tables = c.requires.network;
       runs = λ start way.
@@ -56,6 +57,7 @@ run_flow-lists-requires-clause-stands g c =
       step_nodes = rw (place.names, place.steps) sound.step_nodes;
       hop_nodes = rw place.names (at_place (λ (f : FlowLine). All (λ (hop : Hop). node_of hop < length script.nodes) f.hops) script.flows k flow sound.hop_nodes at);
       beside = rw (place.steps, place.upto) (omega (arith, order.0, above), order.1);
+      most = rw place.most c.loop-done.invariant.few;
       apart = λ same. input_is_kept c.requires.sound.0 script.flows sound.apart k k flow flow at at same;
     }
 
@@ -95,6 +97,7 @@ loop-done-preserved g c =
     let longer : c.push_reserved.new.self.items ≡ c.loop-done.seen.items ++ c.run_flow-lists.result.0 ∷ [] = rw c.reserve.ensures.items at c.push_reserved.ensures.items in
     record {
       within = omega (arith, c.loop-done-test.true, ap length c.as_slice-flows.ensures);
+      few = rw c.saturating_sub-left.ensures (omega (arith, inv.few));
       count = ap length longer ∙ length-append c.loop-done.seen.items (c.run_flow-lists.result.0 ∷ []) ∙ ap (λ n. n + 1) inv.count;
       tables = network_next (plan_of script) script.nodes (k + 1) flow.before (before script (k + 1)) c.run_flow-lists.result.1 c.run_flow-lists.new.report.waiting.items (g.S.Sink.state c.run_flow-lists.new.out) (g.S.Sink.state c.end_turn.new.out) c.in-Ok.after ran.steps ends;
       runs = λ start way.

@@ -1,7 +1,15 @@
 use Rattle.std.proofs.Common.{rules, None, refl, inl, inr, ap, Some, arith}
 use Rattle.flow_run.specs.Run.{is_denied}
-use Rattle.flow_run.proofs.Steps.{taken_unkept, taken_more, ready_handed, head_first}
+use Rattle.flow_run.proofs.Steps.{taken_unkept, taken_more, ready_handed, room_accepted, head_first}
 use Rattle.flow_run.proofs.feed.RunFeedFeed.accept.Goals as goal
+
+pub keep_versions-requires : goal.keep_versions-requires
+keep_versions-requires g c = room_accepted _ _ c.requires.ready.0 c.requires.ready.1 c.requires.due
+
+pub count-requires : goal.count-requires
+count-requires g c =
+    let room = room_accepted _ _ c.requires.ready.0 c.requires.ready.1 c.requires.due in
+    omega (arith, c.requires.ready.1.counts, room)
 
 pub returns-in-Err-clause-cut : goal.returns-in-Err-clause-cut
 returns-in-Err-clause-cut g c was h t =
@@ -28,10 +36,10 @@ returns-in-Err-hand_on-clause-cut g c was h t =
 
 pub returns-in-Ok-hand_on-clause-ready : goal.returns-in-Ok-hand_on-clause-ready
 returns-in-Ok-hand_on-clause-ready g c =
-    ready_handed _ _ _ _ _ _ _ c.args.walked.now.versions (is_denied c.args.walked.now.end) c.requires.ready refl refl refl refl refl refl
+    ready_handed _ _ _ _ _ _ _ c.args.walked.now.versions (is_denied c.args.walked.now.end) c.requires.ready refl refl refl refl refl refl refl c.requires.due
     c.in-Ok.ensures.ok c.count.ensures.passed c.count.ensures.denied c.in-Ok-hand_on.ensures
 
 pub returns-in-Err-hand_on-clause-ready : goal.returns-in-Err-hand_on-clause-ready
 returns-in-Err-hand_on-clause-ready g c =
-    ready_handed _ _ _ _ _ _ _ c.args.walked.now.versions (is_denied c.args.walked.now.end) c.requires.ready refl refl refl refl refl refl
+    ready_handed _ _ _ _ _ _ _ c.args.walked.now.versions (is_denied c.args.walked.now.end) c.requires.ready refl refl refl refl refl refl refl c.requires.due
     c.in-Ok.ensures.ok c.count.ensures.passed c.count.ensures.denied c.in-Err-hand_on.ensures

@@ -1,4 +1,4 @@
-use Rattle.std.proofs.Common.{◌≡◌, ℕ, inl, inr, subst, arith}
+use Rattle.std.proofs.Common.{ℕ, inl, inr, subst, arith}
 use Rattle.std.specs.Prelude.{Contains, option_copied}
 use Rattle.std.proofs.lemmas.Bool.{cases_eq}
 use Rattle.static_law.proofs.Places.{none_contained, within, where_none}
