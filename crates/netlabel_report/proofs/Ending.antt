@@ -93,6 +93,7 @@ among_files (Some file) names name has = record { front = file ∷ has.front; be
 
 -- and the script precedes it
 after_script : (script : Option (List ℕ)) (names : List (List ℕ)) (name : List ℕ) (has : HasName names name) → length (files_of script []) ≤ length (among_files script names name has).front
+unfolding among_files
 after_script None names name has = omega arith
 after_script (Some file) names name has = omega arith
 
@@ -182,11 +183,11 @@ module _ (asked : ReportQuestion) (before after : Outside) (s : Standing) (waits
         event = (no_number flag 3 (λ e. omega (arith, e)) (λ e. omega (arith, e)), no_number flag 4 (λ e. omega (arith, e)) (λ e. omega (arith, e)), no_number flag 6 (λ e. omega (arith, e)) (λ e. omega (arith, e)));
         has = λ t. ap (course_status asked.tells) (is t);
         may = inl (may_be asked.tells (has_refused s.progress));
-        parts = λ knows. record {
+        parts = λ known. record {
           report = course_report asked.way (question_course asked before.folder.held);
           has = refl;
-          body = ap (λ (c : Course). (course_report asked.way c).body) (is (knows tt)) ∙ ap (λ ps. concat ps ++ closing) (append-nil told.pieces);
-          last = ap (λ (c : Course). (course_report asked.way c).last) (is (knows tt));
+          body = ap (λ (c : Course). (course_report asked.way c).body) (is (known tt)) ∙ ap (λ ps. concat ps ++ closing) (append-nil told.pieces);
+          last = ap (λ (c : Course). (course_report asked.way c).last) (is (known tt));
         };
         last = λ e. refl;
         whole = λ t. refl;
@@ -215,11 +216,11 @@ module _ (asked : ReportQuestion) (before after : Outside) (s : Standing) (waits
         event = (λ e. omega (arith, e), λ e. omega (arith, e), λ e. omega (arith, e));
         has = λ t. ap (course_status asked.tells) (is t);
         may = inl (inr (inl refl));
-        parts = λ knows. record {
+        parts = λ known. record {
           report = course_report asked.way (question_course asked before.folder.held);
           has = refl;
-          body = ap (λ (c : Course). (course_report asked.way c).body) (is (knows tt)) ∙ ap concat (append-nil told.pieces);
-          last = ap (λ (c : Course). (course_report asked.way c).last) (is (knows tt));
+          body = ap (λ (c : Course). (course_report asked.way c).body) (is (known tt)) ∙ ap concat (append-nil told.pieces);
+          last = ap (λ (c : Course). (course_report asked.way c).last) (is (known tt));
         };
         last = λ e. elim e [ inl zero ↦ absurd (omega (arith, zero)) | inr eight ↦ absurd (omega (arith, eight)) ];
         whole = λ t. refl;
@@ -227,7 +228,7 @@ module _ (asked : ReportQuestion) (before after : Outside) (s : Standing) (waits
       status (read.still (λ e. absurd cc)) p
 
   begun : (result : Result (Unit {0}) TellStop) (told : Told result) → KnowsReport (report_says (Some asked)) before.folder → Begins (report_says (Some asked)) before.folder.held (concat told.pieces)
-  begun result told knows = begins asked before after (concat told.pieces) (told_front asked.way (question_course asked before.folder.held) told.rest told.pieces (told.is (knows tt)))
+  begun result told known = begins asked before after (concat told.pieces) (told_front asked.way (question_course asked before.folder.held) told.rest told.pieces (told.is (known tt)))
 
   -- a report couldn't be read
   ends_unread : (status : Status) → Told (Err stop.ReadFault) → Read (Err stop.ReadFault) → Printed waits [] ReadFault status mid after.stream → Ended (status_number status)
@@ -241,7 +242,7 @@ module _ (asked : ReportQuestion) (before after : Outside) (s : Standing) (waits
       ends_stopped_unread report_says (Some asked) before after (stages_of asked before after count) (knows asked before after count read.only p.told) (concat told.pieces) (has_form asked before after)
       (begun (Err stop.ReadFault) told) status
       (record { name = cause.name; in_hand = ap (λ names. input_in_hand (map reading_stage names)) first ∙ last_in_hand place.front cause.name; rose = cause.rose })
-      (λ knows report has. subst (λ (r : Report). Contains r.pauses (concat told.pieces)) (sym has) (told_front asked.way (question_course asked before.folder.held) told.rest told.pieces (told.is (knows tt))).paused)
+      (λ known report has. subst (λ (r : Report). Contains r.pauses (concat told.pieces)) (sym has) (told_front asked.way (question_course asked before.folder.held) told.rest told.pieces (told.is (known tt))).paused)
       (omega (arith, after_script asked.script asked.names cause.name among, ap length first, length-append place.front (cause.name ∷ []), length-map (take count (files_of asked.script asked.names)) reading_stage)) p
 
   -- what was told couldn't be written

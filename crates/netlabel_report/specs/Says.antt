@@ -1,5 +1,5 @@
 -- What the program says of what was asked for.
-use Rattle.std.specs.Prelude.{◌≡◌, ◌⊎◌, ℕ, ◌+◌, ◌==◌, ◌&&◌, not, Bool, IsTrue, List, [], ◌∷◌, ◌++◌, length, take, map, Option, Some, None, Err, if◌then◌else◌}
+use Rattle.std.specs.Prelude.{◌≡◌, ◌⊎◌, ◌<◌, ℕ, ◌+◌, ◌==◌, ◌&&◌, not, Bool, IsTrue, List, [], ◌∷◌, ◌++◌, length, take, map, Option, Some, None, Err, if◌then◌else◌}
 use Rattle.std.specs.List.{concat, range_with_len}
 use Rattle.label_commands.specs.declared.stop.ScriptStop.{ScriptStop}
 use Rattle.script_input.specs.ScriptFile.{script_read, script_stop_status}
