@@ -350,7 +350,10 @@ fn judges_captures_of_both_formats(rt: HostRuntime) {
 fn in_pcapng(rt: &impl Abort, alloc: Global, text: &str) -> String {
     let mut named = String::new(alloc);
     let mut rest = text;
-    while let Some((front, behind)) = rest.split_once(".pcap") {
+    for _ in 0..text.len() {
+        let Some((front, behind)) = rest.split_once(".pcap") else {
+            break;
+        };
         named.push_str(front).expect(rt, "there is memory");
         named.push_str(".pcapng").expect(rt, "there is memory");
         rest = behind;
