@@ -780,7 +780,7 @@ fn writes_of_its_line<R: Threads + Wait + Sync + Abort>(
     alloc: Global,
     three: &Three,
 ) -> u32 {
-    let octets = three.length_of(3) - 1;
+    let octets = three.length_of(3).saturating_sub(1);
     let capture = octets_in(rt, alloc, three);
     let whole = cut_report(rt, alloc, three, octets);
     let whole = whole.as_str().strip_prefix("5\n").expect(rt, "a status");
