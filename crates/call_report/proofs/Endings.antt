@@ -105,7 +105,7 @@ pub record IsNumberOf (due status : Status) (number answer : ℕ) : Type 0 where
 pub own_number : (due status : Status) → IsNumberOf due status (status_number due) (status_number status)
 own_number due status = record { event = ap status_number; write = ap status_number; memory = ap status_number }
 
--- Why something was refused: with 3 a counted read or making has failed, and no write and no append; with 4 a write or an append; with 6 memory ran out.
+-- Why something was refused: with 3 a read or making of the stage in hand has failed, and no write and no append; with 4 a write or an append; with 6 memory ran out.
 pub record HasCause (says : Says) (before after : Outside) (stages : List Stage) (status : ℕ) : Type 0 where
   pub refused : IsRefusal status
   pub read_fault : status ≡ 3 → NoWriteFailed before after × (ReadRose stages before after ⊎ CreateRose stages before after)
@@ -142,20 +142,6 @@ whole_line body line old new all = record {
 
 pub part_of_line : (body line old new : List ℕ) → EndsInLine body line old new → WritesPrefix line (old ++ body) new
 part_of_line body line old new ends = record { count = ends.count; within = omega (arith, ends.within); written = ends.written ∙ sym (append_assoc old body (take ends.count line)) }
-
--- unless the outside refused something, the status is the one that was due, and all of the body was printed
-pub printed_body : (body last : List ℕ) (due status : Status) (a b : SinkState) → Printed body last due status a b → (IsRefusal (status_number status) → ⊥)
-    → (status ≡ due) × (IsTrue a.tells → WritesPrefix last (a.written ++ body) b.written)
-printed_body body last due status a b printed other = elim printed.how [
-  | inl all ↦ (all.0, λ out. whole_line body last a.written b.written (all.2 out))
-  | inr rest ↦ elim rest [
-    | inl memory ↦ absurd (other (inr (inr (ap status_number memory.0))))
-    | inr failed ↦ elim failed [
-      | inl broken ↦ absurd (other (inr (inl (ap status_number broken.0))))
-      | inr line ↦ (line.0, λ out. part_of_line body last a.written b.written (line.3 out))
-    ]
-  ]
-]
 
 -- the text of a report that begins so
 text_begins : (says : Says) (held : Folder) (text : List ℕ) (b : Begins says held text) → report_text b.report ≡ text ++ (b.rest ++ b.report.last)

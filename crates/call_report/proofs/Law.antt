@@ -18,7 +18,7 @@ use Rattle.call_report.specs.Lines.Reply.{reply_text, reply_line_at, replies_tex
 pub use Rattle.call_report.proofs.Beginnings.{a_whole_text_is_a_front, a_part_of_a_text_is_a_front, less_of_a_text_is_less_of_more}
 -- how a call ends, over all that any program says, which is of `Type 1`, so that no clause can state it
 pub use Rattle.call_report.proofs.Endings.{HasLeft, HasMade, Keeps, Knows, Begins, HasParts, IsDue, IsOfForm, asks, never_8, none_when_done, IsNumberOf, own_number, HasCause, IsPart, PrintsSome}
-pub use Rattle.call_report.proofs.Endings.{front_behind, part_of_line, printed_body, begun_part, ends_refused, ends_unprinted, ends_with_nothing, ends_short, ends_unwritten, ends_unread, ends_stopped_short, ends_stopped_unread, ends_printed_as, ends_printed}
+pub use Rattle.call_report.proofs.Endings.{front_behind, part_of_line, begun_part, ends_refused, ends_unprinted, ends_with_nothing, ends_short, ends_unwritten, ends_unread, ends_stopped_short, ends_stopped_unread, ends_printed_as, ends_printed}
 pub use Rattle.call_report.proofs.Endings.{only_read, makes_nothing, knows_reading, knows_file, ends_with_usage}
 
 -- ---- beginnings

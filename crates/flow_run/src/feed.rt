@@ -18,9 +18,6 @@ use label_flow::{Feed, PacketIn, Walked};
 use net_io::{Depot, IoFault, Sink};
 use std::alloc::Global;
 
-/// The most hops of a flow, and so the most versions that a walk has: its type keeps no more.
-const HOPS: usize = 16;
-
 /// Reads the packets of a flow, and gives what became of them to the report and the output.
 #[derive(Drop)]
 pub struct RunFeed<'d, 'o, 'r, 'f, D, S> {
@@ -48,11 +45,7 @@ fn keep_versions(seen: &mut FlowSeen, walked: &Walked) -> Result<(), FlowStop>
     ensures err { OnErr result (seen.new ≡ seen.old) }
     ensures stop { IfErr result (λ stop. stop ≡ NoMemoryStop) }
 {
-    let versions = walked.versions.as_slice();
-    if versions.len() > HOPS {
-        return Err(FlowStop::OutOfMemory);
-    }
-    match seen.push(versions) {
+    match seen.push(walked.versions.as_slice()) {
         Ok(()) => Ok(()),
         Err(_) => Err(FlowStop::OutOfMemory),
     }

@@ -53,9 +53,10 @@ impl Versions {
         }
     }
 
-    /// The versions, from the first hop's to the last one's.
+    /// The versions, from the first hop's to the last one's: at most 16.
     pub fn as_slice(&self) -> &[u32]
-        ensures { result.now ≡ self.now }
+        ensures versions { result.now ≡ self.now }
+        ensures few { length result.now ≤ 16 }
     {
         &self.places[..self.count]
     }

@@ -643,6 +643,16 @@ fn runs_a_cut_capture_up_to_its_end(rt: HostRuntime) {
     }
 }
 
+/// The octets of that capture with one of them changed.
+fn changed_octets(rt: &impl Abort, alloc: Global, three: &Three, change: &Change) -> Vec<u8> {
+    let (octet, value, _, _) = *change;
+    let mut capture = octets_in(rt, alloc, three);
+    if let Some(changed) = capture.get_mut(octet) {
+        *changed = value;
+    }
+    capture
+}
+
 /// Whether the fault of that capture with an octet changed is told behind the packets in front of it, which pass.
 fn runs_changed<R: Threads + Wait + Sync + Abort>(
     rt: &R,
@@ -650,11 +660,8 @@ fn runs_changed<R: Threads + Wait + Sync + Abort>(
     three: &Three,
     change: &Change,
 ) -> bool {
-    let (octet, value, packets, told) = *change;
-    let mut capture = octets_in(rt, alloc, three);
-    if let Some(changed) = capture.get_mut(octet) {
-        *changed = value;
-    }
+    let (octet, _, packets, told) = *change;
+    let capture = changed_octets(rt, alloc, three, change);
     let ran = passing(rt, alloc, &capture, 0, 0);
     let lines = delivered(packets);
     let wanted = format!(in alloc;
@@ -752,6 +759,44 @@ fn writes_that_fail<R: Threads + Wait + Sync + Abort>(rt: &R, alloc: Global, thr
         assert!(rt; number > 1 || ran.printed.is_empty());
     }
     0
+}
+
+/// How many writes fail in the line of a broken capture, which keep its status; one before that line is a write's own fault.
+fn writes_that_keep_5<R: Threads + Wait + Sync + Abort>(
+    rt: &R,
+    alloc: Global,
+    three: &Three,
+    change: &Change,
+) -> u32 {
+    let (_, _, _, told) = *change;
+    let capture = changed_octets(rt, alloc, three, change);
+    let whole = passing(rt, alloc, &capture, 0, 0);
+    let line = format!(in alloc; "capture 1 {told}\n").expect(rt, "there is memory");
+    let before = whole.printed.strip_suffix(line.as_str().as_bytes());
+    let before = before.expect(rt, "a line of the capture");
+    let mut kept = 0u32;
+    for number in 1..1000u32 {
+        let ran = passing(rt, alloc, &capture, 0, number);
+        assert!(rt; whole.printed.starts_with(&ran.printed), "at write {number}");
+        let status = if ran.printed.len() < before.len() { 4 } else { 5 };
+        assert_eq!(rt; ran.status, status, "at write {number}");
+        if ran.printed.len() == whole.printed.len() {
+            return kept;
+        }
+        if status == 5 {
+            kept = kept.saturating_add(1);
+        }
+    }
+    0
+}
+
+#[test]
+fn a_broken_capture_keeps_its_status_where_its_line_is_not_written(rt: HostRuntime) {
+    for three in BOTH {
+        for change in three.changes {
+            assert!(rt; writes_that_keep_5(&rt, rt.alloc(), &three, change) > 2);
+        }
+    }
 }
 
 #[test]
