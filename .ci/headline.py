@@ -3,8 +3,8 @@
     python3 .ci/headline.py [--write]
 
 Prints each of these lines that is false and each that the page lacks, and fails where there is one; `--write` puts the page right. In the table under
-the heading of a part, a row has the crates that it speaks of, what to look for in them, and how many definitions and lines they add. A crate that comes to a
-part gets a row of its own, in which somebody has to say what to look for.
+the heading of a part, a row has the crates or modules of crates that it speaks of, what to look for in them, and how many definitions and lines they add. One
+that comes to a part gets a row of its own, in which somebody has to say what to look for.
 """
 import collections
 import pathlib
@@ -60,29 +60,37 @@ def named_beside(types, words):
         yield line_of(f"words of the kit's `{crate}`", len(own))
 
 
-def by_crate(files):
-    crates = {}
+def home(file):
+    """The crate of a file, or its module with a folder of definitions of its own, and the file's name there."""
+    _crates, crate, part, *names = pathlib.PurePosixPath(file).with_suffix("").parts
+    if len(names) > 1 and (TOP / "crates" / crate / "src" / f"{names[0]}.rt").exists():
+        crate = f"{crate}/{names.pop(0)}"
+    return crate, "/".join(names if part == "specs" else [part, *names])
+
+
+def by_home(files):
+    homes = {}
     for file, definitions in files.items():
-        crates.setdefault(file.split("/")[1], {})[file] = definitions
-    return crates
+        homes.setdefault(home(file)[0], {})[file] = definitions
+    return homes
 
 
-def names_of(crate, files):
-    """The crate with its files, those of specs/ by their names alone."""
-    return f"`{crate}` {', '.join(file.split('/', 2)[2].replace('specs/', '', 1)[:-len('.antt')] for file in files)}"
+def names_of(name, files):
+    """The crate or module with its files."""
+    return f"`{name}` {', '.join(home(file)[1] for file in files)}"
 
 
 def part_rows(rows, files):
     """The rows of a part: of those there are, the crates that the part has and what is said of them, and one for each crate that has none."""
-    crates = by_crate(files)
-    left, said = list(crates), []
+    homes = by_home(files)
+    left, said = list(homes), []
     for named, text in ((cells_of(row)[0], cells_of(row)[1]) for row in rows):
         said.append(([name for name in left if f"`{name}`" in named], text))
         left = [name for name in left if name not in said[-1][0]]
     said += [([name], "") for name in left]
-    for names, text in sorted(filter(lambda row: row[0], said), key=lambda row: list(crates).index(row[0][0])):
-        definitions, _files, lines = trusted.counts(*(crates[name] for name in names))
-        yield line_of("; ".join(names_of(name, crates[name]) for name in names), text, definitions, lines)
+    for names, text in sorted(filter(lambda row: row[0], said), key=lambda row: list(homes).index(row[0][0])):
+        definitions, _files, lines = trusted.counts(*(homes[name] for name in names))
+        yield line_of("; ".join(names_of(name, homes[name]) for name in names), text, definitions, lines)
 
 
 def written(page, counts):

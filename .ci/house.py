@@ -148,8 +148,8 @@ class Module:
         return self.definitions.get(word) or self.constructors.get(word)
 
     def is_trusted(self):
-        """It is of specs/, and not of specs/inside/."""
-        return self.path[2:3] == ("specs",) and self.path[2:4] != ("specs", "inside")
+        """It is of specs/, and of no folder `inside` there."""
+        return self.path[2:3] == ("specs",) and "inside" not in self.path[3:]
 
 
 # --- source ---------------------------------------------------------------------------------------------------------

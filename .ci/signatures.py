@@ -6,7 +6,7 @@ COLUMNS = 100
 
 # Functions that programs outside of this repository call as they are, each with what its arguments are.
 FIXED = {
-    ("packet_walk", "walk"): "a viewer, a flow, a packet with its worker and number, room for what is sent, the gate and memory",
+    ("label_flow", "walk"): "a viewer, a flow, a packet with its worker and number, room for what is sent, the gate and memory",
     ("label_flow", "round"): "both sides of a board with the last version, a flow, its feed, the gate, memory and threads",
 }
 FUNCTION = re.compile(r'^[ \t]*(?:pub(?:\([^)]*\))? )?(?:const |extern "C" )?fn (\w+)', re.M)

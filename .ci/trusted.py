@@ -6,7 +6,7 @@
 Fails, with file, line and word,
 - where a cited definition stands in `specs/inside/` or in `proofs/`, and where one that no public clause cites stands in `specs/`;
 - where a proof, a definition or a clause cites another crate's `proofs` (but the terms of its laws, in `proofs.Law`,
-  and the shared lemmas of `octet_grammar`) or another crate's `specs.inside`;
+  and the shared lemmas of `octet_grammar` in `mls_label`) or another crate's `specs.inside`;
 - where a module `laws` isn't public, and where a name means two things in trusted text and `.ci/one-name.txt` doesn't agree to it.
 It prints the trusted lines of each crate. Declared types (`specs.declared`) are code. `--why WORD` tells who cites a word, `--cited`
 lists the trusted definitions. Findings and lines are those of the crates named, or of all; citations are followed through all.
@@ -27,7 +27,7 @@ import sys
 sys.dont_write_bytecode = True
 from house import ANTT_NOISE, RT_NOISE, Crate, line_at, tokens_of, without
 
-SHARED_LEMMAS = {"octet_grammar"}
+SHARED_LEMMAS = ("mls_label", "proofs.octet_grammar")
 # The commands in the order in which they are read best; one that isn't here comes last.
 READING = ["show", "judge", "check", "agree", "run", "make"]
 FRAME = "frame"
@@ -128,9 +128,10 @@ def forbidden(house, crate):
         if "out" in path.relative_to(crate.folder).parts:
             continue
         text = without(ANTT_NOISE if path.suffix == ".antt" else RT_NOISE, path.read_text(encoding="utf-8"))
-        for match in re.finditer(r"\bRattle\.(\w+)\.(proofs\b(?:\.\w+)?|specs\.inside\b[.\w]*)", text):
+        for match in re.finditer(r"\bRattle\.(\w+)\.(proofs\b(?:\.\w+)*|specs\.(?:\w+\.)*inside\b[.\w]*)", text):
             other, what = match.groups()
-            is_shared = what == "proofs.Law" or (what.startswith("proofs") and other in SHARED_LEMMAS)
+            is_law = re.fullmatch(r"proofs\.(\w+\.)?Law", what)
+            is_shared = is_law or (other == SHARED_LEMMAS[0] and what.startswith(SHARED_LEMMAS[1]))
             if other in house.crates.keys() - {crate.name} and not is_shared:
                 yield f"{path.relative_to(house.repo)}:{line_at(text, match.start())}: `{match[0].rstrip('.')}`: {crate.name} cites what {other} keeps to itself"
 

@@ -16,10 +16,11 @@ results = []
 # Three crates. What is found in them stands once for each finding, beside what is right and looks like it.
 TREE = {
     ".ci/one-name.txt": "# agreed\nIsAgreed two of them are one\n",
-    "crates.txt": "# crate: those below\nground:\noctet_grammar:\nupper: ground octet_grammar\n",
-    "crates/octet_grammar/src/lib.rt": "//! Lemmas alone.\n",
-    "crates/octet_grammar/proofs/Fronts.antt": "abbrev pub shared : ℕ\nshared = 0\n",
-    "crates/octet_grammar/specs/inside/Own.antt": "abbrev pub own : ℕ\nown = 0\n",
+    "crates.txt": "# crate: those below\nground:\nmls_label:\nupper: ground mls_label\n",
+    "crates/mls_label/src/lib.rt": "//! Lemmas alone.\n\npub mod octet_grammar;\n",
+    "crates/mls_label/src/octet_grammar.rt": "//! Octets.\n",
+    "crates/mls_label/proofs/octet_grammar/Fronts.antt": "abbrev pub shared : ℕ\nshared = 0\n",
+    "crates/mls_label/specs/octet_grammar/inside/Own.antt": "abbrev pub own : ℕ\nown = 0\n",
     "crates/ground/src/lib.rt": """//! Reads.
 mod label;
 mod laws;
@@ -195,7 +196,7 @@ is_private = ⊥
     "crates/upper/src/laws.rt": "pub fn law()\n    ensures { Rattle.upper.specs.Answer.IsShared 0 }\n{\n}\n",
     "crates/upper/src/top.rt": """ghost use Rattle.upper.specs.declared.command.Command.{Command as Asked};
 ghost use Rattle.upper.specs.Answer.{IsAnswer};
-ghost use Rattle.octet_grammar.specs.inside.Own.{own};
+ghost use Rattle.mls_label.specs.octet_grammar.inside.Own.{own};
 
 pub fn answer() -> u8
     requires { ⊤ }
@@ -272,7 +273,7 @@ shown file result = ⊥
     "crates/upper/proofs/Uses.antt": """-- Rattle.ground.proofs.Lemma is named in a comment
 use Rattle.ground.proofs.Lemma.{is_proved}
 use Rattle.ground.proofs.Law.{law}
-use Rattle.octet_grammar.proofs.Fronts.{shared}
+use Rattle.mls_label.proofs.octet_grammar.Fronts.{shared}
 use Rattle.upper.proofs.Own.{other}
 """,
 }
@@ -286,10 +287,10 @@ FINDINGS = [
     "crates/ground/proofs/Lemma.antt:1: `is_proved`: stands inside, and is cited by IsText, crates/ground/src/reading.rt:6 (read, ensures ok)",
     "crates/upper/proofs/Uses.antt:2: `Rattle.ground.proofs.Lemma`: upper cites what ground keeps to itself",
     "crates/upper/specs/Answer.antt:8: `Rattle.ground.specs.inside.Hidden`: upper cites what ground keeps to itself",
-    "crates/upper/src/top.rt:3: `Rattle.octet_grammar.specs.inside.Own`: upper cites what octet_grammar keeps to itself",
+    "crates/upper/src/top.rt:3: `Rattle.mls_label.specs.octet_grammar.inside.Own`: upper cites what mls_label keeps to itself",
     "`IsShared` means 2 things: crates/upper/specs/Answer.antt:11, crates/ground/specs/Text.antt:19",
 ]
-COUNTS = {"ground": "28 6 13", "octet_grammar": "0 0 0", "upper": "34 5 13", "all": "62 11 26"}
+COUNTS = {"ground": "28 6 13", "mls_label": "0 0 0", "upper": "34 5 13", "all": "62 11 26"}
 CITED = {
     "ground/proofs/Lemma.antt": "1 is_proved",
     "ground/specs/Label.antt": "2 LabelValue 5 IsLevel 8 has_rank 12 SinkState 17 Takes",
@@ -494,7 +495,7 @@ def test_findings(repo):
     counts, _, found = printed.partition("\n\n")
     tell("each finding once", (status, found.splitlines()), (1, FINDINGS))
     tell("trusted lines", {name: " ".join(row) for name, *row in map(str.split, counts.splitlines()[1:])}, COUNTS)
-    tell("findings of one crate", called(repo, "octet_grammar")[1].splitlines()[-1], "trusted text stands apart")
+    tell("findings of one crate", called(repo, "mls_label")[1].splitlines()[-1], "trusted text stands apart")
     cited = [line.removeprefix("crates/") for line in called(repo, "--cited")[1].split("crate ")[0].splitlines()]
     wanted = [f"{file}:{line}: {name}" for file, words in CITED.items() for line, name in zip(words.split()[::2], words.split()[1::2])]
     tell("cited definitions", cited, wanted)

@@ -3,15 +3,15 @@
 USES are the lines that the functions of BOARDS need beside the program's own (PacketIn of label_flow), PROOFS the files of their proofs.
 """
 
-CRATES = "mls_label address_text script_lines flow_lines node_tables shared_tables packet_walk label_flow"
+CRATES = "mls_label domain_map script_lines label_commands node_tables shared_tables label_flow"
 
 USES = """ghost use Rattle.std.specs.Prelude.{◌≡◌, ◌<◌, ◌≤◌, ◌^◌, length, true, All, IfSome};
 ghost use Rattle.std.specs.Arc.{arc_value};
-ghost use Rattle.flow_lines.specs.Hop.{node_of};
+ghost use Rattle.label_commands.specs.flow_lines.Hop.{node_of};
 ghost use Rattle.shared_tables.specs.Plan.{network_after};
 
-use address_text::read_name;
-use flow_lines::{FlowLine, Flows, NodeNames, read_flow};
+use domain_map::read_name;
+use label_commands::{FlowLine, Flows, NodeNames, read_flow};
 use node_tables::Network;
 use script_lines::{Step, command_of, read_said, words_into};
 use shared_tables::{Board, Plan, Publisher, Viewer};
@@ -174,7 +174,7 @@ returns-in-Ok c =
     search (rules, ap (λ n. replicate n fresh) (sym c.requires) ∙ sym (nodes_begin_fresh p.nodes p.steps))
 """,
     "flow_of/Answers.antt": """use Rattle.std.proofs.Common.{rules, ◌≡◌, length}
-use Rattle.flow_lines.proofs.Law.{hops_are_of_named_nodes}
+use Rattle.label_commands.proofs.flow_lines.Law.{hops_are_of_named_nodes}
 use Rattle.bench_program.proofs.flow_of.Goals as goal
 
 pub returns : goal.returns

@@ -61,7 +61,7 @@ HEAD = """//! Judges the packets of a file by the tables of a node again and aga
 
 ghost use Rattle.std.specs.Prelude.{◌<◌};
 
-use address_text::{Name, read_name};
+use domain_map::{Name, read_name};
 USES
 use label_receive::Room;
 use mls_label::Label;
@@ -252,7 +252,7 @@ fn send_shown(rt: &HostRuntime, tables: &Tables, names: &Names, octets: &[u8]) -
 """),
 }
 
-CRATES = "mls_label mls_range address_text script_lines node_tables label_receive label_send"
+CRATES = "mls_label mls_range domain_map script_lines node_tables label_receive label_send"
 
 
 def source(rules):

@@ -22,7 +22,7 @@ PROGRAM = ("""//! Two rounds, with checks of what they answer.
 #![tactic(auto)]
 
 USES
-use address_text::Address;
+use domain_map::Address;
 use label_flow::{End, Feed, Octets, OpenGate, PacketIn, RoundStop, Walked, round};
 use node_tables::Reply;
 use std::io;

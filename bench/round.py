@@ -28,7 +28,7 @@ use label_flow::{End, Feed, Octets, OpenGate, PacketIn, Walked, round};
 use label_gateway::forward_into;
 use label_receive::{Room, receive_into};
 use node_tables::Tables;
-use packet_walk::{WalkRoom, WalkedSlot, Worker, walk_into};
+use label_flow::{WalkRoom, WalkedSlot, Worker, walk_into};
 use std::str::from_utf8;
 use std::time::Instant;
 use std::{env, fs, io};

@@ -146,7 +146,7 @@ def main():
         top.mkdir(exist_ok=True)
         program = top / "script/crates" / scratch.CRATE / "out" / scratch.CRATE
         if not program.exists():
-            program = scratch.built(scratch.copied(top / "script"), READ, "label_commands doi_table flow_lines")
+            program = scratch.built(scratch.copied(top / "script"), READ, "label_commands doi_table")
         print(f"the least of {asked.runs} runs; {scratch.load()}")
         print(f"{'':<34}{'said':>8}{'one call':>12}{'kernel':>12}{'passed':>12}{'a further call':>16}{'memory':>12}")
         for name, text_of in KINDS.items():

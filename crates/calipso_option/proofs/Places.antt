@@ -2,15 +2,15 @@
 use Rattle.std.proofs.Common.{◌≡◌, ℕ, ◌+◌, ◌-◌, ◌/◌, ◌<◌, ◌≤◌, List, [], ◌∷◌, ◌++◌, length, get_or, drop, refl, sym, subst, arith, length-append}
 use Rattle.std.specs.Int.{w32, from_be_bytes}
 use Rattle.std.proofs.lemmas.List.{append-nil}
-use Rattle.octet_grammar.specs.declared.fault.WireFault.{WireFault}
-use Rattle.octet_grammar.specs.Octets.{IsOctets}
-use Rattle.octet_grammar.specs.Front.{IsFront}
-use Rattle.octet_grammar.specs.Fault.{FailsFront}
-use Rattle.octet_grammar.specs.Place.{EndsAt}
-use Rattle.octet_grammar.specs.Numbers.{u32_at}
-use Rattle.octet_grammar.proofs.Octets.{octets-drop}
-use Rattle.octet_grammar.proofs.Fronts.{front_of_member}
-use Rattle.octet_grammar.proofs.Layouts.{ArePassed, passed_join, passed_first, passed_octets, octets_passed, firsts, firsts_rest, Passes, HasPlaces, HasNonzero, passed_ends}
+use Rattle.mls_label.specs.declared.octet_grammar.fault.WireFault.{WireFault}
+use Rattle.mls_label.specs.octet_grammar.Octets.{IsOctets}
+use Rattle.mls_label.specs.octet_grammar.Front.{IsFront}
+use Rattle.mls_label.specs.octet_grammar.Fault.{FailsFront}
+use Rattle.mls_label.specs.octet_grammar.Place.{EndsAt}
+use Rattle.mls_label.specs.octet_grammar.Numbers.{u32_at}
+use Rattle.mls_label.proofs.octet_grammar.Octets.{octets-drop}
+use Rattle.mls_label.proofs.octet_grammar.Fronts.{front_of_member}
+use Rattle.mls_label.proofs.octet_grammar.Layouts.{ArePassed, passed_join, passed_first, passed_octets, octets_passed, firsts, firsts_rest, Passes, HasPlaces, HasNonzero, passed_ends}
 use Rattle.calipso_option.specs.declared.calipso.Calipso.{Calipso}
 use Rattle.calipso_option.specs.Calipso.{IsCalipsoShape}
 use Rattle.calipso_option.specs.inside.Layout.{IsLength, checksum_at}

@@ -4,14 +4,14 @@ use Rattle.std.specs.Prelude.{slice_index}
 use Rattle.std.specs.Int.{w16, w32, to_be_bytes, to_le_bytes, from_le_bytes}
 use Rattle.std.proofs.lemmas.Nat.{from_be_bytes-to_be_bytes_4, from_le_bytes-to_le_bytes_2}
 use Rattle.std.proofs.lemmas.List.{length-take, get_or-take, get_or_append_left}
-use Rattle.octet_grammar.specs.Octets.{IsOctets}
-use Rattle.octet_grammar.specs.Front.{IsPrefixFree, ReadsFront}
-use Rattle.octet_grammar.specs.Numbers.{u32_at}
-use Rattle.octet_grammar.proofs.Numbers.{u32_octets, u32_small}
-use Rattle.octet_grammar.proofs.Octets.{octets-cons, octets-take}
-use Rattle.octet_grammar.proofs.Fronts.{free_by_length}
-use Rattle.octet_grammar.proofs.Layouts.{firsts_rest}
-use Rattle.category_bitmap.specs.Bitmap.{bitmap_cats}
+use Rattle.mls_label.specs.octet_grammar.Octets.{IsOctets}
+use Rattle.mls_label.specs.octet_grammar.Front.{IsPrefixFree, ReadsFront}
+use Rattle.mls_label.specs.octet_grammar.Numbers.{u32_at}
+use Rattle.mls_label.proofs.octet_grammar.Numbers.{u32_octets, u32_small}
+use Rattle.mls_label.proofs.octet_grammar.Octets.{octets-cons, octets-take}
+use Rattle.mls_label.proofs.octet_grammar.Fronts.{free_by_length}
+use Rattle.mls_label.proofs.octet_grammar.Layouts.{firsts_rest}
+use Rattle.mls_label.specs.category_bitmap.Bitmap.{bitmap_cats}
 use Rattle.calipso_option.specs.declared.calipso.Calipso.{Calipso}
 use Rattle.calipso_option.specs.Calipso.{option_octets, IsCalipsoShape, IsCalipso}
 use Rattle.calipso_option.specs.declared.fault.CalipsoFault.{CalipsoFault}

@@ -1,8 +1,8 @@
 -- How many words a set needs.
 use Rattle.std.proofs.Common.{◌≡◌, ℕ, ◌+◌, ◌/◌, ◌≤◌, List, [], ◌∷◌, refl, arith}
 use Rattle.mls_label.specs.declared.label.Label.{Label}
-use Rattle.category_bitmap.specs.Bitmap.{octets_needed}
-use Rattle.category_bitmap.proofs.Law.{octets_suffice_for_low_categories}
+use Rattle.mls_label.specs.category_bitmap.Bitmap.{octets_needed}
+use Rattle.mls_label.proofs.category_bitmap.Law.{octets_suffice_for_low_categories}
 use Rattle.calipso_option.specs.Text.{IsExpressible, words_needed}
 
 -- words of four octets

@@ -3,8 +3,8 @@ use Rattle.std.proofs.Common.{ℕ, ◌*◌, ◌^◌, ◌<◌, refl, sym, arith}
 use Rattle.mls_label.specs.declared.label.Label.{Label}
 use Rattle.mls_label.specs.Cats.{IsCats}
 use Rattle.std.proofs.lemmas.List.FromFn.{length-map-range_with_len}
-use Rattle.category_bitmap.specs.Bitmap.{bitmap_of, octet_of}
-use Rattle.category_bitmap.proofs.Law.{written_bitmap_reads_back, written_bitmaps_hold_octets}
+use Rattle.mls_label.specs.category_bitmap.Bitmap.{bitmap_of, octet_of}
+use Rattle.mls_label.proofs.category_bitmap.Law.{written_bitmap_reads_back, written_bitmaps_hold_octets}
 use Rattle.calipso_option.specs.Crc.{crc_of}
 use Rattle.calipso_option.specs.Calipso.{IsCalipsoShape, IsCalipso}
 use Rattle.calipso_option.specs.Text.{IsExpressible, words_needed, text_with, calipso_text}

@@ -1,7 +1,7 @@
 -- What each fault says of the octets.
 use Rattle.std.specs.Prelude.{ℕ, ◌≡◌, List, take}
-use Rattle.octet_grammar.specs.Front.{ReadsFront}
-use Rattle.octet_grammar.specs.Fault.{FailsFront}
+use Rattle.mls_label.specs.octet_grammar.Front.{ReadsFront}
+use Rattle.mls_label.specs.octet_grammar.Fault.{FailsFront}
 use Rattle.calipso_option.specs.declared.calipso.Calipso.{Calipso}
 use Rattle.calipso_option.specs.declared.fault.CalipsoFault.{CalipsoFault}
 use Rattle.calipso_option.specs.declared.fault.CalipsoFault.TheVariants.{Wire, BadChecksum}

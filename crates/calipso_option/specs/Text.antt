@@ -2,7 +2,7 @@
 use Rattle.std.specs.Prelude.{ℕ, ◌+◌, ◌*◌, ◌/◌, ◌≤◌, max, List, [], ◌∷◌, IsTrue}
 use Rattle.mls_label.specs.declared.label.Label.{Label}
 use Rattle.mls_label.specs.Cats.{has}
-use Rattle.category_bitmap.specs.Bitmap.{bitmap_of}
+use Rattle.mls_label.specs.category_bitmap.Bitmap.{bitmap_of}
 use Rattle.calipso_option.specs.declared.bounds.TheConstants.{HIGHEST_CATEGORY}
 use Rattle.calipso_option.specs.Crc.{crc_of}
 use Rattle.calipso_option.specs.Calipso.{option_octets}

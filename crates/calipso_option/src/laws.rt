@@ -1,7 +1,7 @@
 //! Laws over the definitions of options.
 
 ghost use Rattle.std.specs.Prelude.{◌≡◌, ◌<◌, ◌≤◌, ◌+◌, ◌^◌, ℕ, List, length, slice_index};
-ghost use Rattle.octet_grammar.specs.Front.{IsPrefixFree};
+ghost use Rattle.mls_label.specs.octet_grammar.Front.{IsPrefixFree};
 ghost use Rattle.mls_label.specs.declared.label.Label.{Label};
 ghost use Rattle.mls_label.specs.Cats.{IsCats};
 ghost use Rattle.calipso_option.specs.declared.calipso.Calipso.{Calipso};

@@ -1,13 +1,12 @@
 //! The places of an option's octets.
 
 ghost use Rattle.std.specs.Prelude.{IfOk, IfErr, IsTrue, ◌↔◌};
-ghost use Rattle.octet_grammar.specs.Fault.{FailsFront};
+ghost use Rattle.mls_label.specs.octet_grammar.Fault.{FailsFront};
 ghost use Rattle.calipso_option.specs.Calipso.{IsCalipsoShape};
 ghost use Rattle.calipso_option.specs.inside.Layout.{IsLaidOut, IsLength};
 
 use crate::bounds::{MOST_WORDS, OPTION_TYPE};
-use mls_label::WireFault;
-use octet_grammar::{ended, nonzero_at, octet_at, unfit};
+use mls_label::{WireFault, ended, nonzero_at, octet_at, unfit};
 
 /// The octets of the option at the front, each of which fits its place; the checksum isn't tested.
 pub(crate) fn read_layout(bytes: &[u8]) -> Result<usize, WireFault>

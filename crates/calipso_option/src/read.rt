@@ -1,7 +1,7 @@
 //! Whole options.
 
 ghost use Rattle.std.specs.Prelude.{◌≡◌, ◌≤◌, IfOk, IfErr, OnOk, length};
-ghost use Rattle.octet_grammar.specs.Front.{ReadsFront};
+ghost use Rattle.mls_label.specs.octet_grammar.Front.{ReadsFront};
 ghost use Rattle.calipso_option.specs.Calipso.{IsCalipso, IsCalipsoShape, checksum_of};
 ghost use Rattle.calipso_option.specs.Fault.{IsFaulty};
 ghost use Rattle.calipso_option.specs.inside.Layout.{IsLaidOut, checksum_at, IsFalseChecksum};
@@ -9,9 +9,7 @@ ghost use Rattle.calipso_option.specs.inside.Layout.{IsLaidOut, checksum_at, IsF
 use crate::crc::option_checksum;
 use crate::layout::read_layout;
 use crate::{Calipso, CalipsoFault};
-use category_bitmap::read_bitmap;
-use mls_label::Label;
-use octet_grammar::u32_at;
+use mls_label::{Label, read_bitmap, u32_at};
 
 /// What an option says beside its label, and how many octets it has.
 #[derive(Clone, Copy, Debug)]

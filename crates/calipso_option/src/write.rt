@@ -6,8 +6,7 @@ ghost use Rattle.calipso_option.specs.Text.{IsExpressible, calipso_text, text_wi
 use crate::bounds::{MOST_OCTETS, MOST_WORDS, OPTION_TYPE};
 use crate::crc16;
 use arrayvec::ArrayVec;
-use category_bitmap::{octets_of, write_bitmap};
-use mls_label::Label;
+use mls_label::{Label, octets_of, write_bitmap};
 
 /// Whether an option can express a label: no category is above 1951, the last one of 61 words.
 pub fn can_express(label: &Label) -> bool

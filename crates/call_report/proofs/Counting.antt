@@ -5,7 +5,7 @@ use Rattle.std.proofs.Math.Seq.{get_or-append_seam, set-append_seam, take-append
 use Rattle.std.proofs.lemmas.Bool.{cases_lt}
 use Rattle.std.proofs.lemmas.List.{length-append, drop_all}
 use Rattle.std.proofs.lemmas.Fmt.{decimal_digit, decimal_step}
-use Rattle.octet_grammar.proofs.Digits.{drop-set}
+use Rattle.mls_label.proofs.octet_grammar.Digits.{drop-set}
 
 -- digits are those in front and a last one
 record EndsIn (digits : List ℕ) (last : ℕ) (front : List ℕ) (digit : ℕ) : Type 0 where

@@ -5,7 +5,7 @@ use Rattle.ip_headers.specs.Packet.{ParsedPacket}
 use Rattle.packet_label.specs.declared.fault.CarryFault.{CarryFault}
 use Rattle.packet_label.specs.declared.packet.Wire.{Wire}
 use Rattle.packet_label.specs.Written.{IsReadAs}
-use Rattle.packet_walk.specs.declared.packet.PacketIn.{PacketIn}
+use Rattle.captures.specs.declared.packet_in.PacketIn.{PacketIn}
 use Rattle.call_report.specs.Lines.Packet.{packet_text, IsShown}
 
 abbrev IsShownBy : Bool → List ℕ → List ℕ → Type 0

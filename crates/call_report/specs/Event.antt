@@ -1,9 +1,9 @@
 -- Events that end a call before its input's end.
 use Rattle.std.specs.Prelude.{ℕ, nat_lt, if◌then◌else◌, List, length, Option, Some}
 use Rattle.std.specs.Option.{option_map}
-use Rattle.capture_reader.specs.declared.fault.FileFault.{FileFault}
-use Rattle.capture_reader.specs.Frame.{CapturedFrame}
-use Rattle.capture_reader.specs.CaptureFile.{CaptureFile}
+use Rattle.captures.specs.declared.fault.FileFault.{FileFault}
+use Rattle.captures.specs.Frame.{CapturedFrame}
+use Rattle.captures.specs.CaptureFile.{CaptureFile}
 use Rattle.call_report.specs.Lines.Fixed.{packets_limit_line}
 use Rattle.call_report.specs.Lines.Capture.{capture_line}
 

@@ -9,3 +9,6 @@ pub mod Printing
 pub mod Says
 pub mod CallEnds
 pub mod inside
+pub mod report_file
+pub mod report_lines
+pub mod script_input

@@ -5,9 +5,8 @@ ghost use Rattle.call_report.specs.Lines.Agreement.{proto_name, level_or_categor
 ghost use Rattle.call_report.specs.inside.Extends.{Extends};
 
 use crate::whole::all_or_nothing;
-use mls_label::{OutOfMemory, Proto};
-use node_agreement::Disagree;
-use octet_grammar::write_decimal;
+use label_flow::Disagree;
+use mls_label::{OutOfMemory, Proto, write_decimal};
 
 /// Appends the line that tells what the hop of this number, counted from 1, and the next one come to: that they agree, or their first
 /// difference. After an error `line` is as it was.

@@ -4,8 +4,7 @@ ghost use Rattle.std.specs.Prelude.{◌≡◌, ℕ, ◌+◌, ◌<◌, ◌^◌, �
 ghost use Rattle.std.specs.Fmt.{decimal};
 ghost use Rattle.call_report.specs.inside.Kept.{packet_beginning, flow_beginning, IsBeginning};
 
-use mls_label::OutOfMemory;
-use octet_grammar::write_decimal;
+use mls_label::{OutOfMemory, write_decimal};
 use std::alloc::Global;
 use std::marker::Model;
 

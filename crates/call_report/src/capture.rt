@@ -7,9 +7,8 @@ ghost use Rattle.call_report.specs.inside.Extends.{Extends};
 
 use crate::parts::append_octet;
 use crate::whole::all_or_nothing;
-use capture_reader::FileFault;
-use mls_label::OutOfMemory;
-use octet_grammar::write_decimal;
+use captures::FileFault;
+use mls_label::{OutOfMemory, write_decimal};
 use pcap_frames::CaptureKind;
 use pcapng_frames::NgKind;
 

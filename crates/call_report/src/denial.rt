@@ -7,9 +7,8 @@ ghost use Rattle.call_report.specs.inside.Extends.{Extends};
 
 use crate::parts::append_octet;
 use crate::whole::all_or_nothing;
-use mls_label::{Label, OutOfMemory};
+use mls_label::{Label, OutOfMemory, write_decimal};
 use mls_range::write_label;
-use octet_grammar::write_decimal;
 use packet_label::{Denial, cause_name};
 use std::alloc::AllocError;
 
@@ -69,7 +68,7 @@ pub(crate) fn append_denied(denial: &Denial, line: &mut Vec<u8>) -> Result<(), O
 }
 
 /// Appends that a packet is denied, and the number of the reason, with a blank behind it: all at once, since it has two digits at the most.
-#[tactic(auto, using(std::proofs::lemmas::Fmt::decimal_digit, octet_grammar::proofs::Digits::two_digits))]
+#[tactic(auto, using(std::proofs::lemmas::Fmt::decimal_digit, mls_label::proofs::octet_grammar::Digits::two_digits))]
 fn append_number(number: u8, line: &mut Vec<u8>) -> Result<(), AllocError>
     requires { number < 100 }
     ensures ok { OnOk result

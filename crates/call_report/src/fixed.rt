@@ -19,6 +19,9 @@ pub fn packet_limit() -> &'static [u8]
     b"limit packet 65575\n"
 }
 
+/// The most packets that one call reads or makes.
+pub const PACKETS_LIMIT: u64 = 1_048_576;
+
 /// There are more packets than one call reads.
 #[tactic(auto, unfolding(crate::specs::Lines::Fixed::packets_limit_line))]
 pub fn packets_limit() -> &'static [u8]

@@ -2,19 +2,18 @@
 
 ghost use Rattle.std.specs.Prelude.{◌≡◌, ◌++◌, codes, OnOk, OnErr};
 ghost use Rattle.std.specs.Fmt.{decimal};
-ghost use Rattle.flow_lines.specs.Hop.{node_of};
+ghost use Rattle.label_commands.specs.flow_lines.Hop.{node_of};
 ghost use Rattle.call_report.specs.Lines.Flow.{flow_line, carrier_text, hop_node, versions_text, end_text, flow_end_line};
 ghost use Rattle.call_report.specs.inside.Versions.{versions_behind};
 ghost use Rattle.call_report.specs.inside.Extends.{Extends};
 
 use crate::denial::{append_delivered, append_denied};
 use crate::whole::all_or_nothing;
-use address_text::{Name, write_address};
-use flow_lines::{FileName, Hop};
-use mls_label::OutOfMemory;
-use octet_grammar::write_decimal;
+use domain_map::{Name, write_address};
+use label_commands::{FileName, Hop};
+use label_flow::End;
+use mls_label::{OutOfMemory, write_decimal};
 use packet_label::Carrier;
-use packet_walk::End;
 
 /// Appends the line with which the flow of this number begins, with the capture that it reads. After an error `line` is as it was.
 pub fn write_flow(flow: u64, input: &FileName, line: &mut Vec<u8>) -> Result<(), OutOfMemory>

@@ -20,16 +20,25 @@ mod packet;
 mod parts;
 mod reply;
 mod report;
+pub mod report_file;
+pub mod report_lines;
 mod script;
+pub mod script_input;
 mod seen;
 mod status;
 mod walked;
 mod whole;
 
+pub use crate::report_file::{Met, ReportFile, ends_of_lines};
+pub use crate::report_lines::{
+    Field, Fixed, Form, Kind, Slot, Word, first_word, is_field, parts_at, read_line, told_word,
+    whole_number,
+};
+pub use crate::script_input::{Compares, HopAt, answer_hops, script_of, script_with_text};
 pub use agreement::{agree_or_disagree, bad_versions, no_flow, write_hops};
 pub use capture::write_capture;
 pub use denial::write_verdict;
-pub use fixed::{done, packet_limit, packets_limit, usage};
+pub use fixed::{PACKETS_LIMIT, done, packet_limit, packets_limit, usage};
 pub use flow::{write_flow, write_flow_end};
 pub use made::write_made;
 pub use mls_label::OutOfMemory;

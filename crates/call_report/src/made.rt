@@ -5,8 +5,7 @@ ghost use Rattle.call_report.specs.Lines.Made.{made_line};
 ghost use Rattle.call_report.specs.inside.Extends.{Extends};
 
 use crate::whole::all_or_nothing;
-use mls_label::OutOfMemory;
-use octet_grammar::write_decimal;
+use mls_label::{OutOfMemory, write_decimal};
 
 /// Appends the line that tells how many packets were made, and how many of them were delivered and denied. After an error `line` is as
 /// it was.

@@ -12,11 +12,10 @@ ghost use Rattle.call_report.specs.inside.Extends.{Extends};
 
 use crate::parts::append_octet;
 use crate::whole::all_or_nothing;
-use mls_label::{Label, OutOfMemory, Tag};
+use label_flow::PacketIn;
+use mls_label::{Label, OutOfMemory, Tag, write_decimal};
 use mls_range::write_label;
-use octet_grammar::write_decimal;
 use packet_label::{CarryFault, Mark, carried_into};
-use packet_walk::PacketIn;
 
 /// Appends the line of a packet by its number: what it carries, or that it is a frame without a packet of IP. The label is lent.
 /// After an error `line` is as it was.

@@ -7,10 +7,9 @@ ghost use Rattle.call_report.specs.Lines.Reply.{listed_lines, answer_text, reply
 ghost use Rattle.call_report.specs.inside.Extends.{Extends};
 
 use crate::whole::all_or_nothing;
-use address_text::Name;
-use mls_label::OutOfMemory;
+use domain_map::Name;
+use mls_label::{OutOfMemory, write_decimal};
 use node_tables::{ListText, Reply};
-use octet_grammar::write_decimal;
 
 /// Appends the reply to the step of this number, counted from 1, at the node of this name: a line, and the lines of a listing.
 /// After an error `out` is as it was.

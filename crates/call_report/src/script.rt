@@ -7,8 +7,7 @@ ghost use Rattle.call_report.specs.inside.Extends.{Extends};
 use crate::parts::append_octet;
 use crate::whole::all_or_nothing;
 use label_commands::{LimitName, ScriptFault, ScriptKind, ScriptStop};
-use mls_label::OutOfMemory;
-use octet_grammar::write_decimal;
+use mls_label::{OutOfMemory, write_decimal};
 
 /// Appends the line that tells why a text is no script; nothing for want of memory. After an error `line` is as it was.
 pub fn write_script_stop(stop: ScriptStop, line: &mut Vec<u8>) -> Result<(), OutOfMemory>

@@ -8,10 +8,10 @@ use crate::beginning::Beginning;
 use crate::ending::Ending;
 use crate::flow::append_end;
 use crate::whole::all_or_nothing;
-use address_text::Name;
-use flow_lines::Hop;
+use domain_map::Name;
+use label_commands::Hop;
+use label_flow::{End, Walked};
 use mls_label::OutOfMemory;
-use packet_walk::{End, Walked};
 use std::alloc::Global;
 
 /// Writes the lines of packets, and keeps what a line shares with the next one: its beginning, whose number is counted up, and its

@@ -2,8 +2,10 @@
 #![tactic(auto)]
 
 #[cfg(test)]
-mod pcap;
+mod of_captures;
 #[cfg(test)]
-mod pcapng;
+mod of_file_window;
 #[cfg(test)]
-mod windows;
+mod of_pcap_frames;
+#[cfg(test)]
+mod of_pcapng_frames;

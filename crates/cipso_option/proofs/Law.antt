@@ -1,7 +1,7 @@
 -- The laws of src/laws.rt under their names, for the crates above.
 use Rattle.std.proofs.Common.{◌≡◌, ℕ, ◌^◌, ◌<◌, ◌≤◌, List, length, refl}
 use Rattle.std.specs.Prelude.{slice_index}
-use Rattle.octet_grammar.specs.Front.{IsPrefixFree}
+use Rattle.mls_label.specs.octet_grammar.Front.{IsPrefixFree}
 use Rattle.mls_label.specs.declared.label.Tag.{Tag}
 use Rattle.mls_label.specs.declared.label.Label.{Label}
 use Rattle.mls_label.specs.Cats.{IsCats}

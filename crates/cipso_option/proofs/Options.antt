@@ -1,17 +1,17 @@
 -- Options as they are read: the octets that were read, and the tag within its option.
 use Rattle.std.proofs.Common.{◌≡◌, ℕ, ◌+◌, ◌-◌, ◌≤◌, List, [], ◌∷◌, ◌++◌, length, get_or, take, drop, sym, ap, subst, ◌∙◌, arith, length-drop}
 use Rattle.std.proofs.lemmas.List.{get_or-drop, length-take}
-use Rattle.octet_grammar.specs.declared.fault.WireFault.{WireFault}
-use Rattle.octet_grammar.specs.Octets.{IsOctets}
-use Rattle.octet_grammar.specs.Front.{IsFront, ReadsFront}
-use Rattle.octet_grammar.specs.Fault.{FailsFront}
-use Rattle.octet_grammar.specs.Numbers.{u32_at}
-use Rattle.octet_grammar.specs.Place.{moved_by}
-use Rattle.octet_grammar.proofs.Fronts.{at_agree, front_agree}
-use Rattle.octet_grammar.proofs.Faults.{IsWithin, reads_under}
-use Rattle.octet_grammar.proofs.Places.{part_fails}
-use Rattle.octet_grammar.proofs.Numbers.{u32_octets, u32_small}
-use Rattle.octet_grammar.proofs.Layouts.{ArePassed, firsts, firsts_are, firsts_rest}
+use Rattle.mls_label.specs.declared.octet_grammar.fault.WireFault.{WireFault}
+use Rattle.mls_label.specs.octet_grammar.Octets.{IsOctets}
+use Rattle.mls_label.specs.octet_grammar.Front.{IsFront, ReadsFront}
+use Rattle.mls_label.specs.octet_grammar.Fault.{FailsFront}
+use Rattle.mls_label.specs.octet_grammar.Numbers.{u32_at}
+use Rattle.mls_label.specs.octet_grammar.Place.{moved_by}
+use Rattle.mls_label.proofs.octet_grammar.Fronts.{at_agree, front_agree}
+use Rattle.mls_label.proofs.octet_grammar.Faults.{IsWithin, reads_under}
+use Rattle.mls_label.proofs.octet_grammar.Places.{part_fails}
+use Rattle.mls_label.proofs.octet_grammar.Numbers.{u32_octets, u32_small}
+use Rattle.mls_label.proofs.octet_grammar.Layouts.{ArePassed, firsts, firsts_are, firsts_rest}
 use Rattle.mls_label.specs.declared.label.Tag.{Tag}
 use Rattle.mls_label.specs.declared.label.Label.{Label}
 use Rattle.cipso_tags.specs.Tag.{tag_type, IsTag, HasLength}

@@ -2,11 +2,11 @@
 use Rattle.std.proofs.Common.{◌≡◌, ℕ, ◌+◌, ◌-◌, ◌<◌, ◌≤◌, List, [], ◌∷◌, ◌++◌, length, get_or, drop, refl, sym, ap, subst, ◌∙◌, arith}
 use Rattle.std.specs.Int.{w32, to_be_bytes, from_be_bytes}
 use Rattle.std.proofs.lemmas.List.{append-nil, get_or_append_left}
-use Rattle.octet_grammar.specs.Front.{IsFront, IsPrefixFree}
-use Rattle.octet_grammar.specs.Numbers.{u32_at}
-use Rattle.octet_grammar.proofs.Numbers.{four_octets, u32_written}
-use Rattle.octet_grammar.proofs.Fronts.{free_by_length}
-use Rattle.octet_grammar.proofs.Layouts.{ArePassed, firsts, Passes, HasPlaces, HasNonzero, table_places}
+use Rattle.mls_label.specs.octet_grammar.Front.{IsFront, IsPrefixFree}
+use Rattle.mls_label.specs.octet_grammar.Numbers.{u32_at}
+use Rattle.mls_label.proofs.octet_grammar.Numbers.{four_octets, u32_written}
+use Rattle.mls_label.proofs.octet_grammar.Fronts.{free_by_length}
+use Rattle.mls_label.proofs.octet_grammar.Layouts.{ArePassed, firsts, Passes, HasPlaces, HasNonzero, table_places}
 use Rattle.mls_label.specs.declared.label.Tag.{Tag}
 use Rattle.mls_label.specs.declared.label.Tag.TheVariants.{One}
 use Rattle.cipso_tags.specs.Tag.{tag_type, IsTag, HasLength}

@@ -1,15 +1,14 @@
 //! The first eight octets of an option: its type and length, the DOI, the type and length of its tag.
 
 ghost use Rattle.std.specs.Prelude.{◌≡◌, ◌≤◌, ◌↔◌, IsTrue, IfOk, IfErr, OnOk};
-ghost use Rattle.octet_grammar.specs.Fault.{FailsFront};
-ghost use Rattle.octet_grammar.specs.Numbers.{u32_at};
+ghost use Rattle.mls_label.specs.octet_grammar.Fault.{FailsFront};
+ghost use Rattle.mls_label.specs.octet_grammar.Numbers.{u32_at};
 ghost use Rattle.cipso_option.specs.Cipso.{IsCipso};
 ghost use Rattle.cipso_option.specs.inside.Head.{IsStart, IsNamed, HasTagHead};
 
 use crate::bounds::{FEWEST_OCTETS, HEAD_OCTETS, MOST_OCTETS, OPTION_TYPE};
 use cipso_tags::{has_length, tag_of_type};
-use mls_label::WireFault;
-use octet_grammar::{nonzero_at, octet_at, unfit};
+use mls_label::{WireFault, nonzero_at, octet_at, unfit};
 
 /// Reads the option's type and its length, which is from 10 to 40.
 pub(crate) fn read_start(bytes: &[u8]) -> Result<(), WireFault>

@@ -1,16 +1,15 @@
 //! Whole options.
 
 ghost use Rattle.std.specs.Prelude.{IfOk, IfErr};
-ghost use Rattle.octet_grammar.specs.Front.{ReadsFront};
-ghost use Rattle.octet_grammar.specs.Fault.{FailsFront};
+ghost use Rattle.mls_label.specs.octet_grammar.Front.{ReadsFront};
+ghost use Rattle.mls_label.specs.octet_grammar.Fault.{FailsFront};
 ghost use Rattle.cipso_option.specs.Cipso.{IsCipso};
 
 use crate::Cipso;
 use crate::bounds::HEAD_OCTETS;
 use crate::head::{read_doi, read_start, read_tag_head};
 use cipso_tags::read_tag_into;
-use mls_label::{Label, Tag, WireFault};
-use octet_grammar::moved;
+use mls_label::{Label, Tag, WireFault, moved};
 
 /// What an option says beside its label, and how many octets it has.
 #[derive(Clone, Copy, Debug)]

@@ -1,14 +1,14 @@
 -- Bitmaps as bodies: the octets may only end early.
 use Rattle.std.proofs.Common.{◌≡◌, ℕ, ◌-◌, ◌<◌, ◌≤◌, List, ◌++◌, length, replicate, refl, sym, ◌∙◌, arith, length-append}
 use Rattle.std.proofs.lemmas.List.{take_all, length-replicate}
-use Rattle.octet_grammar.specs.declared.fault.WireKind.TheVariants.{End}
-use Rattle.octet_grammar.specs.Octets.{IsOctets}
-use Rattle.octet_grammar.specs.Front.{IsFront, IsPrefixFree}
-use Rattle.octet_grammar.specs.Fault.{FailsFront}
-use Rattle.octet_grammar.proofs.Fronts.{free_by_length}
-use Rattle.octet_grammar.proofs.Octets.{octets-append, octets-zeros}
-use Rattle.octet_grammar.proofs.Places.{next_fails}
-use Rattle.category_bitmap.specs.Bitmap.{bitmap_cats}
+use Rattle.mls_label.specs.declared.octet_grammar.fault.WireKind.TheVariants.{End}
+use Rattle.mls_label.specs.octet_grammar.Octets.{IsOctets}
+use Rattle.mls_label.specs.octet_grammar.Front.{IsFront, IsPrefixFree}
+use Rattle.mls_label.specs.octet_grammar.Fault.{FailsFront}
+use Rattle.mls_label.proofs.octet_grammar.Fronts.{free_by_length}
+use Rattle.mls_label.proofs.octet_grammar.Octets.{octets-append, octets-zeros}
+use Rattle.mls_label.proofs.octet_grammar.Places.{next_fails}
+use Rattle.mls_label.specs.category_bitmap.Bitmap.{bitmap_cats}
 use Rattle.cipso_tags.specs.Body.{IsBitmap}
 use Rattle.cipso_tags.specs.inside.Header.{IsSized}
 

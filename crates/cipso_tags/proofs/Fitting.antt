@@ -7,7 +7,7 @@ use Rattle.mls_label.specs.declared.label.Tag.{Tag}
 use Rattle.mls_label.specs.declared.label.Tag.TheVariants.{One, Two, Five}
 use Rattle.mls_label.specs.declared.label.Label.{Label}
 use Rattle.mls_label.specs.Runs.{runs_of}
-use Rattle.category_bitmap.specs.Bitmap.{octets_needed, octet_of}
+use Rattle.mls_label.specs.category_bitmap.Bitmap.{octets_needed, octet_of}
 use Rattle.cipso_tags.specs.Text.{Fits, body_text, ends_down, range_numbers}
 use Rattle.cipso_tags.proofs.Words.{length-words}
 use Rattle.cipso_tags.proofs.Runs.{length-ends_down}

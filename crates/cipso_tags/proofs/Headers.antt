@@ -1,14 +1,14 @@
 -- The header of a tag and the body within its tag: no tag begins another, and the places of faults.
 use Rattle.std.proofs.Common.{◌≡◌, ℕ, ◌+◌, ◌-◌, ◌<◌, List, [], ◌∷◌, ◌++◌, length, get_or, drop, refl, sym, ap, subst, ◌∙◌, arith}
 use Rattle.std.proofs.lemmas.List.{get_or_append_left}
-use Rattle.octet_grammar.specs.declared.fault.WireFault.{WireFault}
-use Rattle.octet_grammar.specs.Front.{IsFront, IsPrefixFree, ReadsFront}
-use Rattle.octet_grammar.specs.Fault.{FailsFront}
-use Rattle.octet_grammar.specs.Place.{moved_by}
-use Rattle.octet_grammar.proofs.Faults.{IsWithin, reads_under}
-use Rattle.octet_grammar.proofs.Fronts.{free_by_length}
-use Rattle.octet_grammar.proofs.Layouts.{ArePassed, firsts, Passes, HasPlaces, table_places}
-use Rattle.octet_grammar.proofs.Places.{part_fails}
+use Rattle.mls_label.specs.declared.octet_grammar.fault.WireFault.{WireFault}
+use Rattle.mls_label.specs.octet_grammar.Front.{IsFront, IsPrefixFree, ReadsFront}
+use Rattle.mls_label.specs.octet_grammar.Fault.{FailsFront}
+use Rattle.mls_label.specs.octet_grammar.Place.{moved_by}
+use Rattle.mls_label.proofs.octet_grammar.Faults.{IsWithin, reads_under}
+use Rattle.mls_label.proofs.octet_grammar.Fronts.{free_by_length}
+use Rattle.mls_label.proofs.octet_grammar.Layouts.{ArePassed, firsts, Passes, HasPlaces, table_places}
+use Rattle.mls_label.proofs.octet_grammar.Places.{part_fails}
 use Rattle.mls_label.specs.declared.label.Tag.{Tag}
 use Rattle.mls_label.specs.declared.label.Tag.TheVariants.{One, Two, Five}
 use Rattle.mls_label.specs.declared.label.Label.{Label}

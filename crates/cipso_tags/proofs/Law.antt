@@ -1,6 +1,6 @@
 -- The laws of src/laws.rt under their names, for the crates above.
 use Rattle.std.proofs.Common.{◌≡◌, ℕ, ◌+◌, ◌-◌, ◌<◌, ◌≤◌, subst, arith}
-use Rattle.octet_grammar.specs.Front.{IsPrefixFree}
+use Rattle.mls_label.specs.octet_grammar.Front.{IsPrefixFree}
 use Rattle.mls_label.specs.declared.label.Tag.{Tag}
 use Rattle.mls_label.specs.declared.label.Tag.TheVariants.{One}
 use Rattle.mls_label.specs.declared.label.Label.{Label}

@@ -10,8 +10,8 @@ use Rattle.mls_label.specs.declared.label.Label.{Label}
 use Rattle.mls_label.specs.Cats.{has, Ascends, IsCats, is_within}
 use Rattle.mls_label.specs.Runs.{join_front, runs_of}
 use Rattle.mls_label.proofs.Law.{sets_are_what_they_have, runs_have_their_numbers, runs_have_what_each_has}
-use Rattle.category_bitmap.specs.Bitmap.{octets_needed, octet_of}
-use Rattle.category_bitmap.proofs.Law.{written_bitmap_reads_back, written_bitmaps_hold_octets}
+use Rattle.mls_label.specs.category_bitmap.Bitmap.{octets_needed, octet_of}
+use Rattle.mls_label.proofs.category_bitmap.Law.{written_bitmap_reads_back, written_bitmaps_hold_octets}
 use Rattle.cipso_tags.specs.Body.{Descends, covers, IsBody}
 use Rattle.cipso_tags.specs.Tag.{IsTag}
 use Rattle.cipso_tags.specs.Text.{ends_down, range_numbers, body_text, tag_text, Fits}

@@ -2,12 +2,12 @@
 use Rattle.std.proofs.Common.{◌≡◌, ℕ, ◌+◌, ◌*◌, ◌<◌, ◌≤◌, List, [], ◌∷◌, ◌++◌, length, take, refl, sym, ap, subst, ◌∙◌, append_assoc, arith, length-append}
 use Rattle.std.specs.Prelude.{slice_index}
 use Rattle.std.specs.Int.{w16, to_be_bytes}
-use Rattle.octet_grammar.specs.declared.fault.WireFault.{WireFault}
-use Rattle.octet_grammar.specs.Front.{IsFront, IsPrefixFree, ReadsFront}
-use Rattle.octet_grammar.specs.Fault.{FailsFront}
-use Rattle.octet_grammar.specs.Place.{FaultsInNumber, IsBetween}
-use Rattle.octet_grammar.proofs.Fronts.{free_by_length}
-use Rattle.octet_grammar.proofs.Places.{NumberNext, HasNumber, number_fails}
+use Rattle.mls_label.specs.declared.octet_grammar.fault.WireFault.{WireFault}
+use Rattle.mls_label.specs.octet_grammar.Front.{IsFront, IsPrefixFree, ReadsFront}
+use Rattle.mls_label.specs.octet_grammar.Fault.{FailsFront}
+use Rattle.mls_label.specs.octet_grammar.Place.{FaultsInNumber, IsBetween}
+use Rattle.mls_label.proofs.octet_grammar.Fronts.{free_by_length}
+use Rattle.mls_label.proofs.octet_grammar.Places.{NumberNext, HasNumber, number_fails}
 use Rattle.cipso_tags.specs.Body.{words, IsNumbers}
 use Rattle.cipso_tags.specs.inside.Header.{IsSized}
 use Rattle.cipso_tags.proofs.Words.{AreSmall, small_left, small_right, length-words, words-append, cut, words_same}

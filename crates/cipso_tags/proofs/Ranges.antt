@@ -2,16 +2,16 @@
 use Rattle.std.proofs.Common.{◌≡◌, ℕ, zero, suc, ◌+◌, ◌-◌, ◌*◌, ◌/◌, ◌%◌, ◌<◌, ◌≤◌, min, Bool, true, nat_lt, take, MatchBool, ◌||◌, false, List, [], ◌∷◌, ◌++◌, length, refl, sym, ap, subst, ◌∙◌, append_assoc, arith, length-append}
 use Rattle.std.proofs.Math.Bool.{or_assoc, or-false}
 use Rattle.std.proofs.lemmas.Bool.{ltb-true, ltb-false}
-use Rattle.octet_grammar.specs.Octets.{IsOctets}
+use Rattle.mls_label.specs.octet_grammar.Octets.{IsOctets}
 use Rattle.mls_label.specs.Cats.{has, cats_where, is_within}
 use Rattle.mls_label.proofs.Law.{sets_are_what_they_have, equal_tests_give_equal_sets, sets_of_a_test_have_what_passes}
-use Rattle.octet_grammar.specs.Numbers.{u16_at}
-use Rattle.octet_grammar.specs.Place.{IsNumberAt, FaultsInNumber}
+use Rattle.mls_label.specs.octet_grammar.Numbers.{u16_at}
+use Rattle.mls_label.specs.octet_grammar.Place.{IsNumberAt, FaultsInNumber}
 use Rattle.cipso_tags.specs.Body.{words, Descends, covers}
 use Rattle.cipso_tags.proofs.Words.{AreSmall, take_number}
-use Rattle.octet_grammar.specs.declared.fault.WireFault.{WireFault}
-use Rattle.octet_grammar.specs.Front.{ReadsFront}
-use Rattle.octet_grammar.specs.Fault.{FailsFront}
+use Rattle.mls_label.specs.declared.octet_grammar.fault.WireFault.{WireFault}
+use Rattle.mls_label.specs.octet_grammar.Front.{ReadsFront}
+use Rattle.mls_label.specs.octet_grammar.Fault.{FailsFront}
 use Rattle.cipso_tags.proofs.Numbers.{NumbersOf, IsStep, IsAfter, after_start, step_fails, numbers_read}
 
 descends_small : (upper : ℕ) (ns : List ℕ) → upper ≤ 65536 → Descends upper ns → AreSmall ns

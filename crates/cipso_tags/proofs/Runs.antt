@@ -9,7 +9,7 @@ use Rattle.std.proofs.lemmas.List.{append-nil, length-drop, drop_all}
 use Rattle.std.proofs.lemmas.List.FromFn.{length-range_with_len}
 use Rattle.mls_label.specs.Runs.{runs_of, numbers_of}
 use Rattle.mls_label.proofs.Law.{runs_have_their_numbers}
-use Rattle.octet_grammar.proofs.Octets.{range_more}
+use Rattle.mls_label.proofs.octet_grammar.Octets.{range_more}
 use Rattle.cipso_tags.specs.Body.{words}
 use Rattle.cipso_tags.specs.Text.{ends_down, range_numbers}
 use Rattle.cipso_tags.proofs.Words.{length-words, words-append}

@@ -3,13 +3,13 @@ use Rattle.std.proofs.Common.{◌≡◌, ℕ, ◌+◌, ◌-◌, ◌*◌, ◌/◌
 use Rattle.std.specs.List.{range_with_len}
 use Rattle.std.proofs.lemmas.List.{length-replicate}
 use Rattle.std.proofs.lemmas.List.FromFn.{length-range_with_len}
-use Rattle.octet_grammar.proofs.Octets.{octets-zeros}
+use Rattle.mls_label.proofs.octet_grammar.Octets.{octets-zeros}
 use Rattle.mls_label.specs.declared.label.Tag.{Tag}
 use Rattle.mls_label.specs.declared.label.Tag.TheVariants.{One, Two, Five}
 use Rattle.mls_label.specs.declared.label.Label.{Label}
 use Rattle.mls_label.specs.Cats.{cats_where}
 use Rattle.mls_label.proofs.Law.{ranges_ascend}
-use Rattle.category_bitmap.specs.Bitmap.{bitmap_cats}
+use Rattle.mls_label.specs.category_bitmap.Bitmap.{bitmap_cats}
 use Rattle.cipso_tags.specs.Body.{words, covers, IsBody}
 use Rattle.cipso_tags.specs.Tag.{tag_type, IsTag, HasLength}
 use Rattle.cipso_tags.specs.inside.Header.{header_of, IsSize}

@@ -3,9 +3,9 @@ use Rattle.std.proofs.Common.{◌≡◌, ℕ, ◌+◌, ◌*◌, ◌/◌, ◌%◌
 use Rattle.std.specs.Int.{w16, to_be_bytes}
 use Rattle.std.proofs.lemmas.List.{append-nil, nil_from_length}
 use Rattle.std.proofs.lemmas.List.Concat.{flat_map-append}
-use Rattle.octet_grammar.specs.Octets.{IsOctets}
-use Rattle.octet_grammar.specs.Numbers.{u16_at}
-use Rattle.octet_grammar.proofs.Numbers.{u16_more}
+use Rattle.mls_label.specs.octet_grammar.Octets.{IsOctets}
+use Rattle.mls_label.specs.octet_grammar.Numbers.{u16_at}
+use Rattle.mls_label.proofs.octet_grammar.Numbers.{u16_more}
 use Rattle.cipso_tags.specs.Body.{words}
 
 pub length-words : (ns : List ℕ) → length (words ns) ≡ 2 * length ns

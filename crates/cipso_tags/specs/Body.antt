@@ -2,11 +2,11 @@
 use Rattle.std.specs.Prelude.{ℕ, ◌≡◌, ◌*◌, ◌<◌, ◌≤◌, Bool, false, ◌||◌, List, [], ◌∷◌, length}
 use Rattle.std.specs.List.{flat_map}
 use Rattle.std.specs.Int.{w16, to_be_bytes}
-use Rattle.octet_grammar.specs.Octets.{IsOctets}
+use Rattle.mls_label.specs.octet_grammar.Octets.{IsOctets}
 use Rattle.mls_label.specs.declared.label.Tag.{Tag}
 use Rattle.mls_label.specs.declared.label.Tag.TheVariants.{One, Two, Five}
 use Rattle.mls_label.specs.Cats.{IsCats, cats_where, is_within}
-use Rattle.category_bitmap.specs.Bitmap.{bitmap_cats}
+use Rattle.mls_label.specs.category_bitmap.Bitmap.{bitmap_cats}
 use Rattle.cipso_tags.specs.declared.bounds.TheConstants.{MOST_OCTETS, MOST_CATEGORIES, MOST_RANGES}
 
 -- numbers of two octets each, in network order

@@ -5,7 +5,7 @@ use Rattle.mls_label.specs.declared.label.Tag.{Tag}
 use Rattle.mls_label.specs.declared.label.Tag.TheVariants.{One, Two, Five}
 use Rattle.mls_label.specs.declared.label.Label.{Label}
 use Rattle.mls_label.specs.Runs.{runs_of}
-use Rattle.category_bitmap.specs.Bitmap.{octets_needed, bitmap_of}
+use Rattle.mls_label.specs.category_bitmap.Bitmap.{octets_needed, bitmap_of}
 use Rattle.cipso_tags.specs.declared.bounds.TheConstants.{HEADER_OCTETS, HIGHEST_IN_BITMAP, MOST_CATEGORIES, MOST_RANGES}
 use Rattle.cipso_tags.specs.Body.{words}
 use Rattle.cipso_tags.specs.Tag.{tag_type}

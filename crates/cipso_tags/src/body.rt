@@ -1,17 +1,15 @@
 //! The body of a tag, as long as its header says.
 
 ghost use Rattle.std.specs.Prelude.{◌≡◌, ◌+◌, ◌*◌, ◌≤◌, IsTrue, MatchBool, length, IfOk, IfErr, OnOk};
-ghost use Rattle.octet_grammar.specs.Front.{ReadsFront};
-ghost use Rattle.octet_grammar.specs.Fault.{FailsFront};
+ghost use Rattle.mls_label.specs.octet_grammar.Front.{ReadsFront};
+ghost use Rattle.mls_label.specs.octet_grammar.Fault.{FailsFront};
 ghost use Rattle.mls_label.specs.declared.label.Tag.TheVariants.{One, Two, Five};
 ghost use Rattle.cipso_tags.specs.Body.{IsBody};
-ghost use Rattle.octet_grammar.specs.Place.{FaultsInNumber, IsNumberAt};
+ghost use Rattle.mls_label.specs.octet_grammar.Place.{FaultsInNumber, IsNumberAt};
 ghost use Rattle.cipso_tags.specs.inside.Header.{IsSize, IsSized};
 
-use crate::bounds::{HIGHEST_CATEGORY, MOST_CATEGORIES, MOST_OCTETS, MOST_RANGES};
-use category_bitmap::read_bitmap;
-use mls_label::{CatSet, Tag, WireFault};
-use octet_grammar::{ended, number_in};
+use crate::bounds::{MOST_CATEGORIES, MOST_OCTETS, MOST_RANGES};
+use mls_label::{CatSet, HIGHEST_CATEGORY, Tag, WireFault, ended, number_in, read_bitmap};
 
 /// Reads the categories that the first `size` octets carry, in place of those that the set has.
 pub(crate) fn read_body(

@@ -17,6 +17,3 @@ pub const MOST_CATEGORIES: usize = 15;
 
 /// The ranges of the longest tag of ranges, with two numbers of two octets each.
 pub const MOST_RANGES: usize = 7;
-
-/// The highest category that there is.
-pub const HIGHEST_CATEGORY: u16 = 65534;

@@ -1,14 +1,13 @@
 //! The first four octets of a tag: type, length, alignment, level.
 
 ghost use Rattle.std.specs.Prelude.{◌≡◌, ◌↔◌, IsTrue, MatchOption, IfOk, IfErr};
-ghost use Rattle.octet_grammar.specs.Fault.{FailsFront};
+ghost use Rattle.mls_label.specs.octet_grammar.Fault.{FailsFront};
 ghost use Rattle.mls_label.specs.declared.label.Tag.{Tag};
 ghost use Rattle.cipso_tags.specs.Tag.{tag_type, IsTag, HasLength};
 ghost use Rattle.cipso_tags.specs.inside.Header.{BeginsWith, IsSize};
 
 use crate::bounds::{HEADER_OCTETS, MOST_CATEGORIES, MOST_OCTETS, MOST_RANGES};
-use mls_label::{Tag, WireFault};
-use octet_grammar::{octet_at, unfit};
+use mls_label::{Tag, WireFault, octet_at, unfit};
 
 /// What stands before a tag's body.
 #[derive(Clone, Copy)]

@@ -1,7 +1,7 @@
 //! Laws over the definitions of tags.
 
 ghost use Rattle.std.specs.Prelude.{ℕ, ◌≡◌, ◌<◌, ◌≤◌};
-ghost use Rattle.octet_grammar.specs.Front.{IsPrefixFree};
+ghost use Rattle.mls_label.specs.octet_grammar.Front.{IsPrefixFree};
 ghost use Rattle.mls_label.specs.declared.label.Tag.{Tag};
 ghost use Rattle.mls_label.specs.declared.label.Tag.TheVariants.{One};
 ghost use Rattle.mls_label.specs.declared.label.Label.{Label};

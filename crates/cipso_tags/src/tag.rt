@@ -1,15 +1,14 @@
 //! Whole tags.
 
 ghost use Rattle.std.specs.Prelude.{IfOk, IfErr};
-ghost use Rattle.octet_grammar.specs.Front.{ReadsFront};
-ghost use Rattle.octet_grammar.specs.Fault.{FailsFront};
+ghost use Rattle.mls_label.specs.octet_grammar.Front.{ReadsFront};
+ghost use Rattle.mls_label.specs.octet_grammar.Fault.{FailsFront};
 ghost use Rattle.cipso_tags.specs.Tag.{IsTag};
 
 use crate::body::read_body;
 use crate::bounds::HEADER_OCTETS;
 use crate::header::read_header;
-use mls_label::{Label, Tag, WireFault};
-use octet_grammar::moved;
+use mls_label::{Label, Tag, WireFault, moved};
 
 /// The tag at the front of the octets, its label, and how many octets it has (FIPS 188; CIPSO draft 2.2, section 3.4).
 /// A fault stands at the first octet that no tag with the octets before it has there.

@@ -8,8 +8,7 @@ ghost use Rattle.cipso_tags.specs.Text.{Fits, body_text, tag_text};
 use crate::append::{append_enumeration, append_ranges};
 use crate::bounds::{MOST_CATEGORIES, MOST_OCTETS, MOST_RANGES, TAG_OCTETS};
 use arrayvec::ArrayVec;
-use category_bitmap::{octets_of, write_bitmap};
-use mls_label::{Label, Tag};
+use mls_label::{Label, Tag, octets_of, write_bitmap};
 
 /// Whether a tag can express a label: type 1 where no category is above 239, type 2 where there are at most 15
 /// categories, type 5 where there are at most 7 maximal runs.

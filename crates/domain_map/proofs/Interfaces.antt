@@ -6,8 +6,8 @@ use Rattle.std.proofs.lemmas.Option.{none-some, same_Some, slice_get_within}
 use Rattle.std.proofs.lemmas.Slice.Eq.{bytes_eq-Decides}
 use Rattle.mls_label.specs.declared.label.Label.{Label}
 use Rattle.mls_label.specs.Label.{Dominates}
-use Rattle.address_text.specs.declared.address.Address.{Address}
-use Rattle.address_text.specs.Prefix.{AddressBlock, same_block, holds}
+use Rattle.domain_map.specs.declared.address_text.address.Address.{Address}
+use Rattle.domain_map.specs.address_text.Prefix.{AddressBlock, same_block, holds}
 use Rattle.domain_map.specs.declared.order.Ranked.{Ranked}
 use Rattle.domain_map.specs.declared.static_map.StaticEntry.{StaticEntry}
 use Rattle.domain_map.specs.declared.fault.StaticFault.TheVariants as Fault

@@ -1,8 +1,8 @@
 -- The laws of src/laws.rt under their names, for the crates above.
 use Rattle.std.proofs.Common.{◌≡◌, ◌↔◌, ℕ, List, Contains, Some, IsTrue, slice_get}
 use Rattle.mls_label.specs.declared.label.Label.{Label}
-use Rattle.address_text.specs.declared.address.Address.{Address}
-use Rattle.address_text.specs.Prefix.{holds}
+use Rattle.domain_map.specs.declared.address_text.address.Address.{Address}
+use Rattle.domain_map.specs.address_text.Prefix.{holds}
 use Rattle.domain_map.specs.declared.static_map.StaticEntry.{StaticEntry}
 use Rattle.domain_map.specs.Domains.{Domain, same_domain}
 use Rattle.domain_map.specs.Statics.{Statics, entries_of, entries_for, find_static_of}

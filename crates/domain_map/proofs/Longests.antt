@@ -7,10 +7,10 @@ use Rattle.std.proofs.lemmas.Option.{slice_get-map, slice_get_within, none-some,
 use Rattle.std.proofs.lemmas.List.{length-append, length-map, map-append}
 use Rattle.std.proofs.lemmas.List.Edits.{length-remove}
 use Rattle.std.proofs.lemmas.Slice.Eq.{bytes_eq-Decides}
-use Rattle.address_text.specs.declared.address.Address.{Address}
-use Rattle.address_text.specs.declared.address.Address.TheVariants.{V4, V6}
-use Rattle.address_text.specs.Address.{same_address}
-use Rattle.address_text.specs.Prefix.{AddressBlock, same_block, holds, masked}
+use Rattle.domain_map.specs.declared.address_text.address.Address.{Address}
+use Rattle.domain_map.specs.declared.address_text.address.Address.TheVariants.{V4, V6}
+use Rattle.domain_map.specs.address_text.Address.{same_address}
+use Rattle.domain_map.specs.address_text.Prefix.{AddressBlock, same_block, holds, masked}
 use Rattle.domain_map.specs.declared.order.Ranked.{Ranked}
 use Rattle.domain_map.specs.Longest.{longest, most_bits}
 use Rattle.domain_map.specs.inside.Order.{Descends, Tells, times, IsOrder, ranked_in, without}

@@ -6,7 +6,7 @@ use Rattle.std.specs.Map.{lookup, remove_entry}
 use Rattle.std.proofs.lemmas.Bool.{ltb-true, ltb-false, cond-true, cond-false, lt-ltb, le-ltb, true≢false}
 use Rattle.std.proofs.lemmas.Option.{slice_get_past}
 use Rattle.std.proofs.NetLemmas.Options.{cond_some}
-use Rattle.address_text.specs.Prefix.{AddressBlock, same_block}
+use Rattle.domain_map.specs.address_text.Prefix.{AddressBlock, same_block}
 use Rattle.domain_map.specs.declared.protocol.Protocol.{Protocol}
 use Rattle.domain_map.specs.declared.fault.MapFault.TheVariants as Fault
 use Rattle.domain_map.specs.Addresses.{Addresses, with_address}

@@ -1,7 +1,7 @@
 -- The addresses of an entry of a map, in order of insertion.
 use Rattle.std.specs.Prelude.{◌≡◌, List, [], ◌∷◌, ◌++◌, length, Result, Ok, Err, is_some, nat_lt, if◌then◌else◌}
 use Rattle.std.specs.Map.{lookup}
-use Rattle.address_text.specs.Prefix.{AddressBlock, same_block}
+use Rattle.domain_map.specs.address_text.Prefix.{AddressBlock, same_block}
 use Rattle.domain_map.specs.declared.protocol.Protocol.{Protocol}
 use Rattle.domain_map.specs.declared.fault.MapFault.{MapFault}
 use Rattle.domain_map.specs.declared.fault.MapFault.TheVariants as Fault

@@ -4,3 +4,4 @@ pub mod Addresses
 pub mod Domains
 pub mod Statics
 pub mod inside
+pub mod address_text

@@ -1,7 +1,7 @@
 -- The longest prefix that holds an address.
 use Rattle.std.specs.Prelude.{ℕ, ◌&&◌, nat_eq, max, List, Option, fold, map, filter, find}
-use Rattle.address_text.specs.declared.address.Address.{Address}
-use Rattle.address_text.specs.Prefix.{AddressBlock, holds}
+use Rattle.domain_map.specs.declared.address_text.address.Address.{Address}
+use Rattle.domain_map.specs.address_text.Prefix.{AddressBlock, holds}
 
 module _ {X : Type 0} (prefix_of : X → AddressBlock) (address : Address) where
   -- the most bits that a prefix has which holds the address

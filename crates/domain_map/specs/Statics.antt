@@ -3,8 +3,8 @@
 use Rattle.std.specs.Prelude.{◌≡◌, ℕ, ◌&&◌, List, [], ◌∷◌, ◌++◌, length, Option, Some, None, Result, Ok, Err, option_map, is_some, nat_lt, filter, map, zip, remove, if◌then◌else◌}
 use Rattle.std.specs.List.{list_any, position, range_with_len}
 use Rattle.mls_label.specs.declared.label.Label.{Label}
-use Rattle.address_text.specs.declared.address.Address.{Address}
-use Rattle.address_text.specs.Prefix.{AddressBlock, same_block}
+use Rattle.domain_map.specs.declared.address_text.address.Address.{Address}
+use Rattle.domain_map.specs.address_text.Prefix.{AddressBlock, same_block}
 use Rattle.domain_map.specs.declared.static_map.StaticEntry.{StaticEntry}
 use Rattle.domain_map.specs.declared.fault.StaticFault.{StaticFault}
 use Rattle.domain_map.specs.declared.fault.StaticFault.TheVariants as Fault

@@ -2,7 +2,7 @@
 
 ghost use Rattle.std.specs.Prelude.{◌≡◌, ◌<◌, ◌≤◌, [], ◌∷◌, ◌++◌, length, None, Ok, Some, IfOk, IfErr, OnOk, OnErr, find, map, option_map, remove, slice_get};
 ghost use Rattle.std.specs.List.{list_any, position};
-ghost use Rattle.address_text.specs.Prefix.{same_block, holds};
+ghost use Rattle.domain_map.specs.address_text.Prefix.{same_block, holds};
 ghost use Rattle.domain_map.specs.declared.order.Ranked.{Ranked};
 ghost use Rattle.domain_map.specs.Longest.{longest};
 ghost use Rattle.domain_map.specs.Protocol.{has_doi};
@@ -10,10 +10,10 @@ ghost use Rattle.domain_map.specs.Addresses.{with_address, IsRefusedBy};
 ghost use Rattle.domain_map.specs.inside.Order.{Tells};
 ghost use Rattle.domain_map.specs.inside.Ranking.{IsRanked, passes_at};
 
+use crate::address_text::{Address, Prefix};
 use crate::fault::MapFault;
 use crate::order::{Ranked, forget, rank_in};
 use crate::protocol::Protocol;
-use address_text::{Address, Prefix};
 use mls_label::{OutOfMemory, Proto};
 use std::alloc::Global;
 use std::marker::Model;
@@ -30,7 +30,7 @@ pub struct AddressList {
 
 impl Model for AddressList {
     ghost use Rattle.std.specs.Prelude.{List};
-    ghost use Rattle.address_text.specs.Prefix.{AddressBlock};
+    ghost use Rattle.domain_map.specs.address_text.Prefix.{AddressBlock};
     ghost use Rattle.domain_map.specs.declared.protocol.Protocol.{Protocol};
 
     ghost Value = { List (AddressBlock × Protocol) };

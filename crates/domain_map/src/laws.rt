@@ -2,8 +2,8 @@
 
 ghost use Rattle.std.specs.Prelude.{◌≡◌, ◌↔◌, ℕ, List, Contains, Some, IsTrue, slice_get};
 ghost use Rattle.mls_label.specs.declared.label.Label.{Label};
-ghost use Rattle.address_text.specs.declared.address.Address.{Address};
-ghost use Rattle.address_text.specs.Prefix.{holds};
+ghost use Rattle.domain_map.specs.declared.address_text.address.Address.{Address};
+ghost use Rattle.domain_map.specs.address_text.Prefix.{holds};
 ghost use Rattle.domain_map.specs.declared.static_map.StaticEntry.{StaticEntry};
 ghost use Rattle.domain_map.specs.Domains.{Domain, same_domain};
 ghost use Rattle.domain_map.specs.Statics.{Statics, entries_of, entries_for, find_static_of};

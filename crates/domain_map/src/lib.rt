@@ -4,6 +4,7 @@
 #![tactic(auto)]
 
 mod address_list;
+pub mod address_text;
 mod fault;
 pub mod laws;
 mod map;
@@ -13,7 +14,7 @@ mod protocol;
 mod rule;
 mod static_map;
 
-pub use address_text::{
+pub use crate::address_text::{
     Address, Name, Prefix, read_address, read_name, read_prefix, write_address, write_prefix,
 };
 pub use fault::{MapFault, StaticFault, Unknown};

@@ -6,11 +6,11 @@ ghost use Rattle.std.specs.Map.{keys_of};
 ghost use Rattle.domain_map.specs.Addresses.{IsRefusedBy};
 ghost use Rattle.domain_map.specs.Domains.{Domain, same_domain, added, deleted, find_of, names_doi_of, lines_of};
 
+use crate::address_text::{Address, Name, Prefix};
 use crate::fault::{MapFault, Unknown};
 use crate::named::value_or_default;
 use crate::protocol::Protocol;
 use crate::rule::Rule;
-use address_text::{Address, Name, Prefix};
 use indexmap::IndexMap;
 use mls_label::{OutOfMemory, Proto};
 use std::alloc::Global;

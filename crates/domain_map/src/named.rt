@@ -5,8 +5,8 @@ ghost use Rattle.std.specs.Option.{option_or};
 ghost use Rattle.std.specs.Map.{lookup};
 ghost use Rattle.domain_map.specs.Domains.{same_domain};
 
+use crate::address_text::Name;
 use crate::map::{entry_at, key_of};
-use address_text::Name;
 use indexmap::IndexMap;
 
 /// So many entries are gone over, which costs less than a hash.

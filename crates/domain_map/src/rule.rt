@@ -8,9 +8,9 @@ ghost use Rattle.domain_map.specs.Addresses.{IsRefusedBy};
 ghost use Rattle.domain_map.specs.inside.Fewer.{LeavesOf};
 
 use crate::address_list::AddressList;
+use crate::address_text::{Address, Prefix};
 use crate::fault::MapFault;
 use crate::protocol::Protocol;
-use address_text::{Address, Prefix};
 use mls_label::{OutOfMemory, Proto};
 use std::alloc::Global;
 

@@ -3,7 +3,7 @@
 ghost use Rattle.std.specs.Prelude.{◌≡◌, ◌<◌, ◌≤◌, [], ◌∷◌, ◌++◌, length, None, Ok, Some, IfOk, IfErr, IfSome, OnOk, OnErr, MatchOption, find, filter, map, remove, option_copied, option_map, slice_get, nat_eq, ◌&&◌};
 ghost use Rattle.std.specs.List.{list_any, position};
 ghost use Rattle.mls_label.specs.Label.{Dominates};
-ghost use Rattle.address_text.specs.Prefix.{holds, same_block};
+ghost use Rattle.domain_map.specs.address_text.Prefix.{holds, same_block};
 ghost use Rattle.domain_map.specs.declared.order.Ranked.{Ranked};
 ghost use Rattle.domain_map.specs.Domains.{same_domain};
 ghost use Rattle.domain_map.specs.Statics.{Statics, IsStaticRefusal, static_place, static_added, static_deleted, find_static_of, counting, candidates};
@@ -12,11 +12,11 @@ ghost use Rattle.domain_map.specs.inside.Order.{Tells};
 ghost use Rattle.domain_map.specs.inside.Ranking.{IsRanked, passes_at};
 ghost use Rattle.domain_map.specs.inside.Ordered.{static_key, static_bits};
 
+use crate::address_text::{Address, Name, Prefix};
 use crate::fault::{StaticFault, Unknown};
 use crate::map::key_of;
 use crate::named::is_named;
 use crate::order::{Ranked, forget, rank_in};
-use address_text::{Address, Name, Prefix};
 use mls_label::{KeptLabel, Label, OutOfMemory};
 use std::alloc::Global;
 use std::marker::Model;

@@ -2,12 +2,14 @@
 #![tactic(auto)]
 
 #[cfg(test)]
-mod captures;
+mod of_label_flow;
 #[cfg(test)]
-mod making;
+mod of_made_capture;
 #[cfg(test)]
-mod published;
+mod of_made_run;
 #[cfg(test)]
-mod rounds;
+mod of_node_agreement;
 #[cfg(test)]
-mod walks;
+mod of_packet_walk;
+#[cfg(test)]
+mod of_shared_tables;

@@ -2,12 +2,12 @@
 #![tactic(auto)]
 
 #[cfg(test)]
-mod headers;
+mod of_ip_headers;
 #[cfg(test)]
-mod label_texts;
+mod of_mls_label;
 #[cfg(test)]
-mod labels;
+mod of_mls_range;
 #[cfg(test)]
-mod octets;
+mod of_net_io;
 #[cfg(test)]
-mod outside;
+mod of_octet_grammar;

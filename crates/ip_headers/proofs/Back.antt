@@ -8,9 +8,9 @@ use Rattle.std.proofs.lemmas.List.{append-nil, length-replicate, map-append}
 use Rattle.std.proofs.lemmas.List.Elements.{All-nil, All-cons, All-append, All-head, All-tail, filter-append}
 use Rattle.ip_headers.specs.declared.version.Version.{Version}
 use Rattle.ip_headers.specs.declared.version.Version.TheVariants.{V4, V6}
-use Rattle.octet_grammar.specs.Octets.{IsOctets}
+use Rattle.mls_label.specs.octet_grammar.Octets.{IsOctets}
 use Rattle.ip_headers.specs.Options.{Placed, IsOption, ends_list, options_from, type_octet, is_label, is_jumbo, is_other, aligned, labels_of, others_of}
-use Rattle.octet_grammar.proofs.Octets.{octets-append, octets-cons, octets-zeros}
+use Rattle.mls_label.proofs.octet_grammar.Octets.{octets-append, octets-cons, octets-zeros}
 use Rattle.ip_headers.specs.Packet.{Headers}
 use Rattle.ip_headers.specs.Reading.{first_place, fixed_fault, head_of, payload_of, options_of, jumbo_fault, second_fault, parsed, packet_of}
 use Rattle.ip_headers.specs.Written.{alignment, gap_to, padding, packed, unit_of, filled, label_octets, kept_options, option_area, in_turn, others_at, IsLabelOption, IsKept, IsParsed}

@@ -1,7 +1,7 @@
 -- The laws.
 use Rattle.std.proofs.Common.{◌≡◌, ℕ, ◌-◌, ◌+◌, ◌%◌, ◌<◌, ◌≤◌, Bool, true, false, cond, eqb, List, ◌++◌, length, All, sum, fold, Option, None, Ok, refl}
 use Rattle.std.specs.Prelude.{IfErr, IfSome}
-use Rattle.octet_grammar.specs.Octets.{IsOctets}
+use Rattle.mls_label.specs.octet_grammar.Octets.{IsOctets}
 use Rattle.ip_headers.specs.declared.version.Version.{Version}
 use Rattle.ip_headers.specs.declared.version.Version.TheVariants.{V4, V6}
 use Rattle.ip_headers.specs.Sum.{ones_add}

@@ -4,8 +4,8 @@ use Rattle.std.specs.List.{concat}
 use Rattle.std.proofs.lemmas.Bool.Decides.{nat_tests}
 use Rattle.std.proofs.lemmas.List.{take_at, drop_at}
 use Rattle.std.proofs.lemmas.List.Elements.{All-nil, All-cons, All-head, All-tail}
-use Rattle.octet_grammar.specs.Octets.{IsOctets}
-use Rattle.octet_grammar.proofs.Octets.{octets-take, octets-drop}
+use Rattle.mls_label.specs.octet_grammar.Octets.{IsOctets}
+use Rattle.mls_label.proofs.octet_grammar.Octets.{octets-take, octets-drop}
 use Rattle.ip_headers.specs.declared.version.Version.{Version}
 use Rattle.ip_headers.specs.declared.fault.HeadFault.{HeadFault}
 use Rattle.ip_headers.specs.declared.fault.HeadKind.TheVariants.{OptionList}

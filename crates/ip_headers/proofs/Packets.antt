@@ -4,9 +4,9 @@ use Rattle.std.specs.Prelude.{slice_get, slice_index, slice_range, IfErr, IfSome
 use Rattle.std.specs.Option.{option_map, option_or}
 use Rattle.std.proofs.lemmas.Bool.{ltb-false, ltb-true, eqb-true}
 use Rattle.std.proofs.lemmas.List.Elements.{All-nil, All-cons, All-head, All-tail, All-filter, filter_passes}
-use Rattle.octet_grammar.specs.Octets.{IsOctets}
-use Rattle.octet_grammar.proofs.Octets.{octets-take, octets-drop}
-use Rattle.octet_grammar.proofs.Numbers.{u16_small}
+use Rattle.mls_label.specs.octet_grammar.Octets.{IsOctets}
+use Rattle.mls_label.proofs.octet_grammar.Octets.{octets-take, octets-drop}
+use Rattle.mls_label.proofs.octet_grammar.Numbers.{u16_small}
 use Rattle.ip_headers.specs.declared.version.Version.{Version}
 use Rattle.ip_headers.specs.declared.version.Version.TheVariants.{V4, V6}
 use Rattle.ip_headers.specs.declared.fault.HeadFault.{HeadFault}

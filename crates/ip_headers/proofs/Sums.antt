@@ -5,8 +5,8 @@ use Rattle.std.specs.Int.{w16, w32, w64, from_bool, from_be_bytes}
 use Rattle.std.proofs.lemmas.Bool.Decides.{nat_tests}
 use Rattle.std.proofs.lemmas.List.Elements.{All-nil, All-cons, All-head, All-tail}
 use Rattle.std.proofs.lemmas.List.Sums.{sum_by-cons}
-use Rattle.octet_grammar.specs.Octets.{IsOctets}
-use Rattle.octet_grammar.proofs.Octets.{octets-drop}
+use Rattle.mls_label.specs.octet_grammar.Octets.{IsOctets}
+use Rattle.mls_label.proofs.octet_grammar.Octets.{octets-drop}
 use Rattle.ip_headers.specs.Sum.{ones_add, words_of, ones_sum}
 use Rattle.ip_headers.specs.inside.Modulo.{modulo}
 

@@ -4,7 +4,7 @@ use Rattle.ip_headers.specs.declared.version.Version.TheVariants.{V4}
 use Rattle.ip_headers.specs.declared.fault.HeadFault.{HeadFault}
 use Rattle.ip_headers.specs.declared.fault.HeadKind.{HeadKind}
 use Rattle.ip_headers.specs.declared.fault.HeadKind.TheVariants.{Short, Version, HeaderLength, TotalLength, Checksum}
-use Rattle.octet_grammar.specs.Numbers.{u16_at}
+use Rattle.mls_label.specs.octet_grammar.Numbers.{u16_at}
 use Rattle.ip_headers.specs.Sum.{ones_sum}
 use Rattle.ip_headers.specs.Options.{Placed}
 use Rattle.ip_headers.specs.Packet.{Headers}

@@ -4,7 +4,7 @@ use Rattle.std.specs.Prelude.{ℕ, ◌+◌, ◌-◌, ◌*◌, ◌/◌, ◌%◌, 
 use Rattle.ip_headers.specs.declared.version.Version.TheVariants.{V6}
 use Rattle.ip_headers.specs.declared.fault.HeadFault.{HeadFault}
 use Rattle.ip_headers.specs.declared.fault.HeadKind.TheVariants.{Short, Version, HeaderLength, TotalLength}
-use Rattle.octet_grammar.specs.Numbers.{u16_at}
+use Rattle.mls_label.specs.octet_grammar.Numbers.{u16_at}
 use Rattle.ip_headers.specs.Options.{Placed}
 use Rattle.ip_headers.specs.Packet.{Headers}
 use Rattle.ip_headers.specs.Header4.{version_number, fault_at}

@@ -1,7 +1,7 @@
 //! Laws: what is true of the definitions alone. Each is a function with nothing to do, whose clause is the law.
 
 ghost use Rattle.std.specs.Prelude.{◌≡◌, ℕ, ◌+◌, ◌-◌, ◌%◌, ◌<◌, ◌≤◌, ◌==◌, List, length, fold, sum, All, Option, None, IfSome, IfErr, Ok, if◌then◌else◌};
-ghost use Rattle.octet_grammar.specs.Octets.{IsOctets};
+ghost use Rattle.mls_label.specs.octet_grammar.Octets.{IsOctets};
 ghost use Rattle.ip_headers.specs.declared.version.Version.{Version};
 ghost use Rattle.ip_headers.specs.Sum.{ones_add};
 ghost use Rattle.ip_headers.specs.Packet.{Headers};

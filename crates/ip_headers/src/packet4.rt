@@ -30,7 +30,7 @@ use crate::sum::ones_sum;
 use crate::version::Version;
 use crate::writing4::write4_with;
 use arrayvec::ArrayVec;
-use octet_grammar::u16_at;
+use mls_label::u16_at;
 use std::marker::Model;
 
 /// A packet of IPv4, borrowed from its octets. Contracts see what it says: a `ParsedPacket`, whose label option is octets.

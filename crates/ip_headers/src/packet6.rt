@@ -27,7 +27,7 @@ use crate::rebuild::Rebuild;
 use crate::version::Version;
 use crate::walk::option_octets;
 use crate::writing6::write6_with;
-use octet_grammar::u16_at;
+use mls_label::u16_at;
 use std::marker::Model;
 
 /// A packet of IPv6, borrowed from its octets. Contracts see what it says: a `ParsedPacket`, whose label option is octets.

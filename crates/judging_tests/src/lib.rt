@@ -2,8 +2,10 @@
 #![tactic(auto)]
 
 #[cfg(test)]
-mod forwarding;
+mod of_label_gateway;
 #[cfg(test)]
-mod receiving;
+mod of_label_receive;
 #[cfg(test)]
-mod sending;
+mod of_label_send;
+#[cfg(test)]
+mod of_ripso_border;

@@ -2,11 +2,11 @@
 use Rattle.std.proofs.Common.{◌≡◌, ◌≤◌, ℕ, zero, suc, ◌+◌, ◌-◌, Bool, true, List, [], ◌∷◌, length, drop, Option, Some, refl, ap, ◌∙◌, subst, arith, le_trans}
 use Rattle.std.specs.Prelude.{slice_get}
 use Rattle.std.proofs.lemmas.Option.{none-some, same_Some}
-use Rattle.flow_lines.specs.declared.flow.FlowLine.{FlowLine}
+use Rattle.label_commands.specs.declared.flow_lines.flow.FlowLine.{FlowLine}
 use Rattle.label_commands.specs.declared.script.Script.{Script}
 use Rattle.call_report.specs.Event.{packets_limit}
 use Rattle.call_report.specs.Report.{Folder}
-use Rattle.flow_run.specs.Input.{flow_input}
+use Rattle.script_run.specs.flow_run.Input.{flow_input}
 use Rattle.script_run.specs.Runs.{FlowsStatus, StatusOr}
 use Rattle.label_audit.specs.declared.place.Place.{Place}
 use Rattle.label_audit.specs.inside.Grammar.{FlowsFrom}

@@ -4,12 +4,12 @@ use Rattle.std.specs.Prelude.{Contains, slice_get}
 use Rattle.std.specs.Option.{option_map_or}
 use Rattle.std.proofs.lemmas.Option.{none-some, same_Some, slice_get_read}
 use Rattle.net_io.specs.Depot.{DepotState, octets_of}
-use Rattle.flow_lines.specs.declared.flow.FlowLine.{FlowLine}
-use Rattle.capture_reader.specs.declared.fault.FileFault.{FileFault}
-use Rattle.capture_reader.specs.declared.reader.AnyFrames.{AnyFrames}
-use Rattle.capture_reader.specs.CaptureFile.{CaptureFile, capture_file}
-use Rattle.capture_reader.specs.Frame.{packet_in}
-use Rattle.capture_reader.specs.Reader.{FramesLeft, file_name_of, left_of, begun_file}
+use Rattle.label_commands.specs.declared.flow_lines.flow.FlowLine.{FlowLine}
+use Rattle.captures.specs.declared.fault.FileFault.{FileFault}
+use Rattle.captures.specs.declared.reader.AnyFrames.{AnyFrames}
+use Rattle.captures.specs.CaptureFile.{CaptureFile, capture_file}
+use Rattle.captures.specs.Frame.{packet_in}
+use Rattle.captures.specs.Reader.{FramesLeft, file_name_of, left_of, begun_file}
 use Rattle.label_audit.specs.inside.Flow.{left_by, HasBegunReading, packets_of}
 use Rattle.label_audit.proofs.Among.{is_behind}
 

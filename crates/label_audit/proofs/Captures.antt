@@ -2,9 +2,9 @@
 use Rattle.std.proofs.Common.{◌≡◌, ap}
 use Rattle.std.specs.Prelude.{IsTrue}
 use Rattle.net_io.specs.Depot.{DepotState, octets_of}
-use Rattle.capture_reader.specs.declared.reader.AnyFrames.{AnyFrames}
-use Rattle.capture_reader.specs.Reader.{file_name_of, left_of, IsReadable}
-use Rattle.capture_reader.proofs.Law.{a_reader_goes_on_in_a_kept_file}
+use Rattle.captures.specs.declared.reader.AnyFrames.{AnyFrames}
+use Rattle.captures.specs.Reader.{file_name_of, left_of, IsReadable}
+use Rattle.captures.proofs.Law.{a_reader_goes_on_in_a_kept_file}
 use Rattle.label_audit.specs.inside.Flow.{left_by}
 use Rattle.label_audit.proofs.Frames.{Unmoved}
 

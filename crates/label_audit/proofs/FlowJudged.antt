@@ -4,17 +4,17 @@ use Rattle.std.specs.Prelude.{All, slice_get, option_map, unwrap_or}
 use Rattle.std.specs.Option.{option_map_or}
 use Rattle.std.proofs.lemmas.List.{length-map}
 use Rattle.net_io.specs.Depot.{SameHeld}
-use Rattle.flow_lines.specs.declared.flow.FlowLine.{FlowLine}
+use Rattle.label_commands.specs.declared.flow_lines.flow.FlowLine.{FlowLine}
 use Rattle.label_commands.specs.declared.script.Script.{Script}
 use Rattle.label_commands.specs.Script.{before}
-use Rattle.packet_walk.specs.declared.packet.PacketIn.{PacketIn}
-use Rattle.packet_walk.specs.Stepping.{TablesAt}
-use Rattle.capture_reader.specs.CaptureFile.{CaptureFile, capture_file}
-use Rattle.capture_reader.specs.Frame.{packet_in}
+use Rattle.captures.specs.declared.packet_in.PacketIn.{PacketIn}
+use Rattle.label_flow.specs.packet_walk.Stepping.{TablesAt}
+use Rattle.captures.specs.CaptureFile.{CaptureFile, capture_file}
+use Rattle.captures.specs.Frame.{packet_in}
 use Rattle.call_report.specs.Report.{Folder}
 use Rattle.call_report.specs.Lines.Flow.{flow_line}
 use Rattle.call_report.specs.Lines.Reply.{replies_text}
-use Rattle.flow_run.specs.Input.{flow_input}
+use Rattle.script_run.specs.flow_run.Input.{flow_input}
 use Rattle.script_run.specs.Runs.{FlowsStatus}
 use Rattle.label_audit.specs.declared.flow.Counted.{Counted}
 use Rattle.label_audit.specs.declared.place.Place.{Place}

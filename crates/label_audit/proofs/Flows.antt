@@ -7,20 +7,20 @@ use Rattle.std.proofs.lemmas.Bool.Decides.{nat_tests}
 use Rattle.std.proofs.lemmas.List.{length-take, length-map}
 use Rattle.std.proofs.lemmas.List.Elements.{All-nil, All-cons, All-head, All-tail}
 use Rattle.std.proofs.lemmas.Slice.Zip.{AllZip-long}
-use Rattle.flow_lines.specs.declared.flow.FlowLine.{FlowLine}
+use Rattle.label_commands.specs.declared.flow_lines.flow.FlowLine.{FlowLine}
 use Rattle.label_commands.specs.declared.script.Script.{Script}
 use Rattle.label_commands.specs.Script.{before}
-use Rattle.packet_walk.specs.declared.packet.PacketIn.{PacketIn}
+use Rattle.captures.specs.declared.packet_in.PacketIn.{PacketIn}
 use Rattle.label_flow.specs.Pair.{PairState}
 use Rattle.label_flow.specs.Schedule.{AreLawful, IsSeen, versions_in}
-use Rattle.capture_reader.specs.Frame.{packet_in}
+use Rattle.captures.specs.Frame.{packet_in}
 use Rattle.call_report.specs.Event.{Event}
 use Rattle.call_report.specs.Report.{Folder, Versions}
 use Rattle.call_report.specs.Lines.Fixed.{done_line}
 use Rattle.call_report.specs.Lines.Flow.{flow_line}
-use Rattle.flow_access.specs.Valid.{plan_of}
-use Rattle.flow_run.specs.Input.{FlowInput, flow_input, packets_in}
-use Rattle.flow_run.specs.Run.{FlowRun, IsRun, denied_in, goes_on, is_judged, passed_in, run_end, walked_lines}
+use Rattle.label_flow.specs.flow_access.Valid.{plan_of}
+use Rattle.script_run.specs.flow_run.Input.{FlowInput, flow_input, packets_in}
+use Rattle.script_run.specs.flow_run.Run.{FlowRun, IsRun, denied_in, goes_on, is_judged, passed_in, run_end, walked_lines}
 use Rattle.script_run.specs.Runs.{AreRuns, FlowsStatus, IsLawfulRun}
 use Rattle.script_run.specs.Report.{replies_behind, turn_text}
 use Rattle.label_audit.specs.inside.Awaited.{Awaited}

@@ -5,7 +5,7 @@ use Rattle.net_io.specs.declared.fault.IoFault.{IoFault}
 use Rattle.net_io.specs.declared.fault.IoFault.TheVariants.{Failed, OutOfMemory}
 use Rattle.net_io.specs.Depot.{DepotState, SameHeld, OnlyReads, octets_of}
 use Rattle.net_io.specs.Faults.{SameCounts}
-use Rattle.report_file.specs.File.{ReportPart, KeepsPart}
+use Rattle.call_report.specs.report_file.File.{ReportPart, KeepsPart}
 use Rattle.label_audit.specs.Reads.{OnlyReadsAmong}
 use Rattle.label_audit.specs.inside.Reading.{file_of, HasRead}
 use Rattle.label_audit.proofs.Among.{is_first, is_behind, nothing_read, one_among, among_on, among_as, among_err}

@@ -3,7 +3,7 @@ use Rattle.std.proofs.Common.{◌≡◌, ◌≤◌, ◌⊎◌, inl, inr, ℕ, ze
 use Rattle.std.specs.Prelude.{◌==◌}
 use Rattle.std.proofs.lemmas.List.Sums.{sum_by-cons}
 use Rattle.std.proofs.lemmas.Bool.Decides.{nat_tests}
-use Rattle.report_file.specs.Meeting.{lines_in}
+use Rattle.call_report.specs.report_file.Meeting.{lines_in}
 
 -- a text of whole lines
 abbrev pub Whole : List ℕ → Type 0

@@ -2,14 +2,14 @@
 use Rattle.std.proofs.Common.{◌≡◌, ◌≢◌, ◌<◌, ℕ, ◌+◌, ◌%◌, Bool, true, false, List, ◌∷◌, drop, get_or, length, Some, refl, sym, ap, ◌∙◌, subst, max}
 use Rattle.std.specs.Prelude.{All, slice_get, if◌then◌else◌}
 use Rattle.std.proofs.lemmas.Option.{slice_get_read}
-use Rattle.address_text.specs.Name.{IsNameText}
-use Rattle.flow_lines.specs.declared.flow.FlowLine.{FlowLine}
+use Rattle.domain_map.specs.address_text.Name.{IsNameText}
+use Rattle.label_commands.specs.declared.flow_lines.flow.FlowLine.{FlowLine}
 use Rattle.label_commands.specs.declared.script.Script.{Script}
 use Rattle.label_commands.specs.Script.{before}
-use Rattle.packet_walk.specs.declared.packet.PacketIn.{PacketIn}
-use Rattle.packet_walk.specs.Stepping.{TablesAt}
+use Rattle.captures.specs.declared.packet_in.PacketIn.{PacketIn}
+use Rattle.label_flow.specs.packet_walk.Stepping.{TablesAt}
 use Rattle.call_report.specs.Report.{Folder}
-use Rattle.flow_access.specs.Valid.{plan_of}
+use Rattle.label_flow.specs.flow_access.Valid.{plan_of}
 use Rattle.label_audit.specs.declared.flow.Counted.{Counted}
 use Rattle.label_audit.specs.declared.place.Place.{Place}
 use Rattle.label_audit.specs.declared.walker.PacketPlace.{PacketPlace}

@@ -1,16 +1,16 @@
 -- The parts of a report that are judged one after the other.
 use Rattle.std.proofs.Common.{◌≡◌, ◌<◌, ◌≤◌, ℕ, zero, suc, ◌+◌, ◌-◌, Bool, true, false, List, [], ◌∷◌, map, length, drop, refl, sym, ap, subst, arith}
 use Rattle.std.specs.Prelude.{All}
-use Rattle.flow_lines.specs.declared.flow.FlowLine.{FlowLine}
+use Rattle.label_commands.specs.declared.flow_lines.flow.FlowLine.{FlowLine}
 use Rattle.label_commands.specs.declared.script.Script.{Script}
 use Rattle.label_commands.specs.Script.{before}
-use Rattle.packet_walk.specs.declared.packet.PacketIn.{PacketIn}
-use Rattle.packet_walk.specs.Stepping.{TablesAt}
-use Rattle.capture_reader.specs.Frame.{CapturedFrame, packet_in}
+use Rattle.captures.specs.declared.packet_in.PacketIn.{PacketIn}
+use Rattle.label_flow.specs.packet_walk.Stepping.{TablesAt}
+use Rattle.captures.specs.Frame.{CapturedFrame, packet_in}
 use Rattle.call_report.specs.Report.{Folder}
 use Rattle.call_report.specs.Lines.Flow.{flow_line}
-use Rattle.flow_run.specs.Input.{FlowInput, flow_input, packets_in}
-use Rattle.report_file.specs.Meeting.{lines_in}
+use Rattle.script_run.specs.flow_run.Input.{FlowInput, flow_input, packets_in}
+use Rattle.call_report.specs.report_file.Meeting.{lines_in}
 use Rattle.label_audit.specs.declared.flow.Counted.{Counted}
 use Rattle.label_audit.specs.declared.place.Place.{Place}
 use Rattle.label_audit.specs.inside.Awaited.{Awaited, BadBehind, ComesTo}

@@ -4,14 +4,14 @@ pub use Rattle.label_audit.proofs.Among.{is_first, is_behind, one_among, more_am
 use Rattle.std.proofs.Common.{◌≡◌, ◌≤◌, ℕ, List, ◌∷◌, [], ◌++◌, ap, ◌∙◌, arith, append_assoc, inl, inr}
 use Rattle.std.specs.Prelude.{All}
 use Rattle.std.proofs.lemmas.Bool.{cases_lt}
-use Rattle.address_text.specs.Name.{IsNameText}
-use Rattle.flow_lines.specs.declared.hop.Hop.{Hop}
+use Rattle.domain_map.specs.address_text.Name.{IsNameText}
+use Rattle.label_commands.specs.declared.flow_lines.hop.Hop.{Hop}
 use Rattle.label_commands.specs.declared.script.Script.{Script}
-use Rattle.packet_walk.specs.declared.walked.Walked.{Walked}
+use Rattle.label_flow.specs.declared.packet_walk.walked.Walked.{Walked}
 use Rattle.call_report.specs.Report.{Folder}
 use Rattle.call_report.specs.Lines.Flow.{versions_text, walked_line}
-use Rattle.report_file.specs.Meeting.{lines_in}
-use Rattle.report_file.specs.Versions.{EndsWithVersions}
+use Rattle.call_report.specs.report_file.Meeting.{lines_in}
+use Rattle.call_report.specs.report_file.Versions.{EndsWithVersions}
 use Rattle.label_audit.specs.Good.{IsReport, IsGood, IsFirstBad}
 use Rattle.label_audit.proofs.Fronts.{cut}
 use Rattle.label_audit.proofs.PacketLines.{in_line}

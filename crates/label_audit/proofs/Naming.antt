@@ -4,16 +4,16 @@ use Rattle.std.specs.Prelude.{All, ◌^◌, MatchBool, slice_get}
 use Rattle.std.proofs.lemmas.Bool.{false≢true}
 use Rattle.std.proofs.lemmas.List.{append-nil, take_all}
 use Rattle.std.proofs.lemmas.List.Elements.{All-nil, All-cons}
-use Rattle.address_text.specs.Name.{IsNameText}
-use Rattle.flow_lines.specs.declared.hop.Hop.{Hop}
+use Rattle.domain_map.specs.address_text.Name.{IsNameText}
+use Rattle.label_commands.specs.declared.flow_lines.hop.Hop.{Hop}
 use Rattle.shared_tables.specs.Plan.{PlanState}
-use Rattle.packet_walk.specs.declared.packet.PacketIn.{PacketIn}
-use Rattle.packet_walk.specs.declared.walked.End.{End}
-use Rattle.packet_walk.specs.Walk.{Coming, HopVerdict, denied, goes_on, arrives, from_hop, Follows, IsWalk, IsWalkOf, Rises}
-use Rattle.packet_walk.proofs.Law.{walks_end_in_one_way, walks_are_cut_in_one_way, versions_rise_between_wider_bounds}
+use Rattle.captures.specs.declared.packet_in.PacketIn.{PacketIn}
+use Rattle.label_flow.specs.declared.packet_walk.walked.End.{End}
+use Rattle.label_flow.specs.packet_walk.Walk.{Coming, HopVerdict, denied, goes_on, arrives, from_hop, Follows, IsWalk, IsWalkOf, Rises}
+use Rattle.label_flow.proofs.packet_walk.Law.{walks_end_in_one_way, walks_are_cut_in_one_way, versions_rise_between_wider_bounds}
 use Rattle.label_flow.specs.Pair.{PairState}
-use Rattle.report_file.specs.Versions.{EndsWithVersions, AreVersions}
-use Rattle.report_file.specs.Meeting.{DiffersBehind}
+use Rattle.call_report.specs.report_file.Versions.{EndsWithVersions, AreVersions}
+use Rattle.call_report.specs.report_file.Meeting.{DiffersBehind}
 use Rattle.label_audit.specs.declared.walker.PacketPlace.{PacketPlace}
 use Rattle.label_audit.specs.inside.Grammar.{last_met}
 use Rattle.label_audit.specs.inside.Packet.{line_at, WrittenWalk, IsNoWalk, Fits}

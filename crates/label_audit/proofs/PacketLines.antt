@@ -9,10 +9,10 @@ use Rattle.std.proofs.lemmas.List.Elements.{All-head, All-tail}
 use Rattle.mls_label.specs.declared.label.Label.{Label}
 use Rattle.mls_label.specs.Runs.{runs_of}
 use Rattle.mls_range.specs.LabelText.{label_text, terms_text, term_text, terms_of_run}
-use Rattle.address_text.specs.declared.address.Address.{Address}
-use Rattle.address_text.specs.declared.address.Address.TheVariants.{V4, V6}
-use Rattle.address_text.specs.Address.{address_text}
-use Rattle.address_text.specs.Name.{is_name_octet, IsNameText}
+use Rattle.domain_map.specs.declared.address_text.address.Address.{Address}
+use Rattle.domain_map.specs.declared.address_text.address.Address.TheVariants.{V4, V6}
+use Rattle.domain_map.specs.address_text.Address.{address_text}
+use Rattle.domain_map.specs.address_text.Name.{is_name_octet, IsNameText}
 use Rattle.std.specs.Net.Addr.{segments_of}
 use Rattle.ip_headers.specs.declared.cause.Cause.{Cause}
 use Rattle.ip_headers.specs.declared.cause.Cause.TheVariants.{Protocol, Fragment, Options, Segment, NoChecksum}
@@ -21,11 +21,11 @@ use Rattle.packet_label.specs.declared.denial.Carrier.TheVariants.{Unlabelled as
 use Rattle.packet_label.specs.declared.denial.Denial.{Denial}
 use Rattle.packet_label.specs.declared.denial.Denial.TheVariants.{BadHeader, BadOption, Unlabelled, NoStatic, UnknownDoi, TagNotAllowed, LevelUnmapped, CategoryUnmapped, OutsideRange, NoReceiver, MapRefuses, NotDominated, NoMap, AlreadyLabelled, Inexpressible, NoRoom, TooLong, Expired, WrongVersion, NoPair, NotCrossable, NotIp, BelowRange}
 use Rattle.packet_label.specs.Denial.{number_of, name_of, cause_name}
-use Rattle.flow_lines.specs.declared.hop.Hop.{Hop}
-use Rattle.flow_lines.specs.Hop.{node_of}
-use Rattle.packet_walk.specs.declared.walked.End.{End}
-use Rattle.packet_walk.specs.declared.walked.End.TheVariants.{Delivered, Sent, Denied}
-use Rattle.packet_walk.specs.declared.walked.Walked.{Walked}
+use Rattle.label_commands.specs.declared.flow_lines.hop.Hop.{Hop}
+use Rattle.label_commands.specs.flow_lines.Hop.{node_of}
+use Rattle.label_flow.specs.declared.packet_walk.walked.End.{End}
+use Rattle.label_flow.specs.declared.packet_walk.walked.End.TheVariants.{Delivered, Sent, Denied}
+use Rattle.label_flow.specs.declared.packet_walk.walked.Walked.{Walked}
 use Rattle.call_report.specs.Lines.Parts.{name_at}
 use Rattle.call_report.specs.Lines.Denial.{detail_of, denial_text, delivered_text}
 use Rattle.call_report.specs.Lines.Flow.{carrier_text, hop_node, versions_text, end_text, walked_line}

@@ -1,11 +1,11 @@
 -- The line of a packet that stands there.
 use Rattle.std.proofs.Common.{◌≡◌, ◌<◌, ◌≤◌, ℕ, ◌+◌, Bool, List, ◌++◌, length, drop, sym, ap, ◌∙◌, subst}
 use Rattle.std.specs.Prelude.{All, ◌^◌}
-use Rattle.address_text.specs.Name.{IsNameText}
+use Rattle.domain_map.specs.address_text.Name.{IsNameText}
 use Rattle.shared_tables.specs.Plan.{PlanState}
-use Rattle.packet_walk.specs.declared.packet.PacketIn.{PacketIn}
-use Rattle.packet_walk.specs.Walk.{Rises}
-use Rattle.report_file.specs.Meeting.{lines_in}
+use Rattle.captures.specs.declared.packet_in.PacketIn.{PacketIn}
+use Rattle.label_flow.specs.packet_walk.Walk.{Rises}
+use Rattle.call_report.specs.report_file.Meeting.{lines_in}
 use Rattle.label_audit.specs.declared.place.Place.{Place}
 use Rattle.label_audit.specs.declared.walker.PacketPlace.{PacketPlace}
 use Rattle.label_audit.specs.inside.Grammar.{last_met}

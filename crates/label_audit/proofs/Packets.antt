@@ -1,12 +1,12 @@
 -- What is printed of a flow's packets, and which packets have been judged so.
 use Rattle.std.proofs.Common.{◌≡◌, ◌<◌, ◌≤◌, ◌⊎◌, inl, inr, ℕ, ◌+◌, ◌%◌, Bool, false, List, [], ◌∷◌, ◌++◌, length, take, refl, sym, ap, ◌∙◌, arith, append_assoc}
 use Rattle.std.specs.List.{AllZip}
-use Rattle.packet_walk.specs.declared.packet.PacketIn.{PacketIn}
-use Rattle.packet_walk.specs.Walk.{IsWalkOf}
+use Rattle.captures.specs.declared.packet_in.PacketIn.{PacketIn}
+use Rattle.label_flow.specs.packet_walk.Walk.{IsWalkOf}
 use Rattle.label_flow.specs.Pair.{PairState}
 use Rattle.label_flow.specs.Schedule.{versions_in}
 use Rattle.call_report.specs.Lines.Flow.{walked_line}
-use Rattle.flow_run.specs.Run.{denied_in, passed_in, walked_lines}
+use Rattle.script_run.specs.flow_run.Run.{denied_in, passed_in, walked_lines}
 use Rattle.label_audit.specs.inside.Awaited.{Awaited}
 use Rattle.label_audit.specs.inside.Grammar.{PacketsFrom, Site, counted_more, last_met, meets_now}
 use Rattle.label_audit.specs.declared.flow.Counted.{Counted}

@@ -2,11 +2,11 @@
 use Rattle.std.proofs.Common.{◌≡◌, ◌<◌, ℕ, zero, suc, ◌+◌, Bool, true, List, [], ◌∷◌, map, length, Some, refl, sym, ap, subst, arith}
 use Rattle.std.specs.Prelude.{slice_get, Contains}
 use Rattle.std.proofs.lemmas.List.{length-map}
-use Rattle.flow_lines.specs.declared.flow.FlowLine.{FlowLine}
+use Rattle.label_commands.specs.declared.flow_lines.flow.FlowLine.{FlowLine}
 use Rattle.label_commands.specs.declared.script.Script.{Script}
-use Rattle.packet_walk.specs.declared.packet.PacketIn.{PacketIn}
-use Rattle.packet_walk.specs.Stepping.{TablesAt}
-use Rattle.capture_reader.specs.Frame.{CapturedFrame, packet_in}
+use Rattle.captures.specs.declared.packet_in.PacketIn.{PacketIn}
+use Rattle.label_flow.specs.packet_walk.Stepping.{TablesAt}
+use Rattle.captures.specs.Frame.{CapturedFrame, packet_in}
 use Rattle.call_report.specs.Report.{Folder}
 use Rattle.label_audit.specs.declared.flow.Counted.{Counted}
 use Rattle.label_audit.specs.declared.place.Place.{Place}

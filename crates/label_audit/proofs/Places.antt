@@ -3,7 +3,7 @@ use Rattle.std.proofs.Common.{◌≡◌, ◌<◌, ◌≤◌, ℕ, ◌+◌, Bool,
 use Rattle.std.specs.Prelude.{◌==◌, ◌^◌}
 use Rattle.std.proofs.Math.Seq.{drop-append_seam}
 use Rattle.std.proofs.lemmas.List.{length-append, length-drop, drop-drop}
-use Rattle.report_file.specs.Meeting.{lines_in, DiffersBehind}
+use Rattle.call_report.specs.report_file.Meeting.{lines_in, DiffersBehind}
 use Rattle.label_audit.specs.declared.place.Place.{Place}
 use Rattle.label_audit.specs.inside.Reading.{StandsIn, IsExpected}
 use Rattle.label_audit.proofs.Fronts.{lines-cons}

@@ -3,7 +3,7 @@ use Rattle.std.proofs.Common.{◌≡◌, ◌≢◌, ◌<◌, ◌≤◌, ◌⊎�
 use Rattle.std.specs.Prelude.{slice_get}
 use Rattle.std.proofs.lemmas.Bool.{cases_lt, false≢true}
 use Rattle.std.proofs.lemmas.List.{append-nil}
-use Rattle.report_file.specs.Meeting.{DiffersBehind, lines_in}
+use Rattle.call_report.specs.report_file.Meeting.{DiffersBehind, lines_in}
 use Rattle.label_audit.specs.inside.Awaited.{Awaited, BadBehind, BadFrom, ComesTo, GoodFrom}
 use Rattle.label_audit.proofs.Fronts.{Whole, cut, lines-cons}
 

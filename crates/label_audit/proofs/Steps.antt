@@ -1,15 +1,15 @@
 -- The pieces of a report, one after the other.
 use Rattle.std.proofs.Common.{◌≡◌, ◌<◌, ◌⊎◌, inl, inr, ℕ, ◌+◌, ◌%◌, Bool, true, false, cond, nat_eq, List, [], ◌∷◌, ◌++◌, refl, sym, ap, ◌∙◌, subst, arith}
-use Rattle.flow_lines.specs.declared.flow.FlowLine.{FlowLine}
+use Rattle.label_commands.specs.declared.flow_lines.flow.FlowLine.{FlowLine}
 use Rattle.label_commands.specs.declared.script.Script.{Script}
-use Rattle.packet_walk.specs.declared.packet.PacketIn.{PacketIn}
-use Rattle.packet_walk.specs.declared.walked.Walked.{Walked}
-use Rattle.packet_walk.specs.Walk.{IsWalkOf, Rises}
+use Rattle.captures.specs.declared.packet_in.PacketIn.{PacketIn}
+use Rattle.label_flow.specs.declared.packet_walk.walked.Walked.{Walked}
+use Rattle.label_flow.specs.packet_walk.Walk.{IsWalkOf, Rises}
 use Rattle.label_flow.specs.Pair.{PairState}
 use Rattle.call_report.specs.Report.{Folder}
 use Rattle.call_report.specs.Lines.Flow.{walked_line}
 use Rattle.call_report.specs.Lines.Fixed.{done_line}
-use Rattle.report_file.specs.Meeting.{DiffersBehind, lines_in}
+use Rattle.call_report.specs.report_file.Meeting.{DiffersBehind, lines_in}
 use Rattle.label_audit.specs.inside.Awaited.{Awaited, BadBehind, ComesTo}
 use Rattle.label_audit.specs.inside.Grammar.{FlowsFrom, PacketsFrom, Site, Then, counted_more, last_met, meets_now}
 use Rattle.label_audit.specs.declared.flow.Counted.{Counted}

@@ -3,14 +3,14 @@ use Rattle.std.proofs.Common.{◌≡◌, ◌<◌, ℕ, ◌+◌, ◌-◌, Bool, t
 use Rattle.std.specs.Prelude.{All, IsTrue, is_some, if◌then◌else◌}
 use Rattle.std.specs.Option.{option_map_or}
 use Rattle.std.proofs.lemmas.List.{append-nil, length-map}
-use Rattle.flow_lines.specs.declared.flow.FlowLine.{FlowLine}
+use Rattle.label_commands.specs.declared.flow_lines.flow.FlowLine.{FlowLine}
 use Rattle.label_commands.specs.declared.script.Script.{Script}
 use Rattle.label_flow.specs.Pair.{PairState}
 use Rattle.call_report.specs.Event.{Event, packets_limit}
 use Rattle.call_report.specs.Report.{Folder, Versions, report_text}
-use Rattle.flow_access.specs.Valid.{plan_of}
-use Rattle.flow_run.specs.Input.{FlowInput, flow_input}
-use Rattle.flow_run.specs.Run.{FlowRun, goes_on, is_judged}
+use Rattle.label_flow.specs.flow_access.Valid.{plan_of}
+use Rattle.script_run.specs.flow_run.Input.{FlowInput, flow_input}
+use Rattle.script_run.specs.flow_run.Run.{FlowRun, goes_on, is_judged}
 use Rattle.script_run.specs.Runs.{AreRuns, FlowsStatus, IsLawfulRun, is_done, last_event}
 use Rattle.script_run.specs.Report.{first_replies, runs_report}
 use Rattle.label_audit.specs.Good.{IsFirstBad, IsLawfullyPrinted, IsReport}

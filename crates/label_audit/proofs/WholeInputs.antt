@@ -4,13 +4,13 @@ use Rattle.std.specs.Prelude.{nat_lt, is_some, if◌then◌else◌}
 use Rattle.std.specs.Option.{option_map}
 use Rattle.std.proofs.lemmas.Bool.{ltb-false}
 use Rattle.std.proofs.lemmas.List.{take_all}
-use Rattle.capture_reader.specs.CaptureFile.{CaptureFile, capture_file}
-use Rattle.capture_reader.specs.declared.fault.FileFault.{FileFault}
-use Rattle.capture_reader.specs.declared.format.CaptureFormat.{CaptureFormat}
+use Rattle.captures.specs.CaptureFile.{CaptureFile, capture_file}
+use Rattle.captures.specs.declared.fault.FileFault.{FileFault}
+use Rattle.captures.specs.declared.format.CaptureFormat.{CaptureFormat}
 use Rattle.call_report.specs.Event.{Event}
 use Rattle.call_report.specs.Lines.Fixed.{packets_limit_line}
 use Rattle.call_report.specs.Lines.Capture.{capture_line}
-use Rattle.flow_run.specs.Input.{FlowInput, flow_input, input_by}
+use Rattle.script_run.specs.flow_run.Input.{FlowInput, flow_input, input_by}
 use Rattle.script_run.specs.Runs.{StatusOr}
 
 pub record WholeInput (number most : ℕ) (held : Option (List ℕ)) (behind : Type 0) : Type 0 where

@@ -4,17 +4,17 @@ use Rattle.std.specs.Prelude.{slice_get, option_map, unwrap_or, nat_lt}
 use Rattle.std.proofs.lemmas.List.{append-nil, length-drop}
 use Rattle.std.proofs.lemmas.Bool.{ltb-true, ltb-false}
 use Rattle.net_io.specs.Depot.{SameHeld}
-use Rattle.flow_lines.specs.declared.flow.FlowLine.{FlowLine}
+use Rattle.label_commands.specs.declared.flow_lines.flow.FlowLine.{FlowLine}
 use Rattle.label_commands.specs.declared.script.Script.{Script}
 use Rattle.label_commands.specs.Script.{before}
 use Rattle.label_commands.specs.Sound.{IsSoundScript}
-use Rattle.packet_walk.specs.declared.packet.PacketIn.{PacketIn}
-use Rattle.capture_reader.specs.declared.format.CaptureFormat.{CaptureFormat}
+use Rattle.captures.specs.declared.packet_in.PacketIn.{PacketIn}
+use Rattle.captures.specs.declared.format.CaptureFormat.{CaptureFormat}
 use Rattle.call_report.specs.Event.{Event, packets_limit}
 use Rattle.call_report.specs.Report.{Folder}
 use Rattle.call_report.specs.Lines.Fixed.{done_line}
 use Rattle.call_report.specs.Lines.Reply.{replies_text}
-use Rattle.flow_run.specs.Input.{flow_input, packets_in}
+use Rattle.script_run.specs.flow_run.Input.{flow_input, packets_in}
 use Rattle.script_run.specs.Runs.{FlowsStatus, StatusOr}
 use Rattle.label_audit.specs.Good.{IsReport, IsFirstBad}
 use Rattle.label_audit.specs.declared.flow.Counted.{Counted}

@@ -2,20 +2,20 @@
 use Rattle.std.proofs.Common.{◌≡◌, ◌<◌, inl, inr, ℕ, zero, suc, ◌+◌, Bool, true, false, cond, List, [], ◌∷◌, ◌++◌, codes, decimal, length, Option, Some, None, refl, sym, ap, ◌∙◌, subst, arith, append_assoc}
 use Rattle.std.specs.Prelude.{All, ◌==◌, ◌||◌, slice_get}
 use Rattle.std.specs.Option.{option_map_or}
-use Rattle.address_text.specs.Name.{IsNameText}
+use Rattle.domain_map.specs.address_text.Name.{IsNameText}
 use Rattle.script_lines.specs.declared.command.Step.{Step}
 use Rattle.node_tables.specs.declared.reply.Reply.{Reply}
 use Rattle.node_tables.specs.declared.reply.Reply.TheVariants.{Done, Listed, Refused}
 use Rattle.node_tables.specs.Refusal.{refusal_name}
 use Rattle.node_tables.specs.Steps.{reply_at}
-use Rattle.flow_lines.specs.declared.hop.Hop.{Hop}
-use Rattle.packet_walk.specs.declared.walked.Walked.{Walked}
+use Rattle.label_commands.specs.declared.flow_lines.hop.Hop.{Hop}
+use Rattle.label_flow.specs.declared.packet_walk.walked.Walked.{Walked}
 use Rattle.call_report.specs.Lines.Parts.{line_of, name_at}
 use Rattle.call_report.specs.Lines.Flow.{flow_line, flow_end_line, walked_line, versions_text}
 use Rattle.call_report.specs.Lines.Fixed.{done_line}
 use Rattle.call_report.specs.Lines.Reply.{listed_lines, answer_text, reply_text, reply_line_at, replies_text}
 use Rattle.call_report.proofs.Law.{no_steps_have_no_replies, replies_come_one_by_one}
-use Rattle.report_file.specs.Meeting.{lines_in}
+use Rattle.call_report.specs.report_file.Meeting.{lines_in}
 use Rattle.label_audit.proofs.Fronts.{Whole, one_at, lines-cons}
 use Rattle.label_audit.proofs.Reading.{OneLine, lines-append, whole_both}
 use Rattle.label_audit.proofs.NoEnd.{has_end}

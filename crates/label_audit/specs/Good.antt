@@ -4,9 +4,9 @@ use Rattle.label_commands.specs.declared.script.Script.{Script}
 use Rattle.call_report.specs.Lines.Parts.{line_of}
 use Rattle.call_report.specs.Report.{Folder, Versions, report_text}
 use Rattle.call_report.specs.Event.{packets_limit}
-use Rattle.report_file.specs.Meeting.{lines_in}
-use Rattle.flow_access.specs.Valid.{plan_of}
-use Rattle.flow_run.specs.Run.{FlowRun}
+use Rattle.call_report.specs.report_file.Meeting.{lines_in}
+use Rattle.label_flow.specs.flow_access.Valid.{plan_of}
+use Rattle.script_run.specs.flow_run.Run.{FlowRun}
 use Rattle.script_run.specs.Runs.{AreRuns, IsLawfulRun, is_done}
 use Rattle.script_run.specs.Report.{runs_report}
 

@@ -1,20 +1,20 @@
 //! The lines of a flow.
 
 ghost use Rattle.std.specs.Prelude.{◌≡◌, ◌+◌, ◌<◌, ◌≤◌, ◌^◌, ℕ, List, [], ◌∷◌, All, Contains, IsTrue, IfOk, IfSome, None, Some, OnOk, length, map, max, replicate, slice_get, ◌%◌, if◌then◌else◌};
-ghost use Rattle.address_text.specs.Name.{IsNameText};
+ghost use Rattle.domain_map.specs.address_text.Name.{IsNameText};
 ghost use Rattle.net_io.specs.Depot.{SameHeld, OnlyReads};
 ghost use Rattle.label_commands.specs.Script.{before};
 ghost use Rattle.label_commands.specs.Sound.{IsSoundScript};
 ghost use Rattle.node_tables.specs.Steps.{tables_after};
-ghost use Rattle.packet_walk.specs.declared.packet.PacketIn.{PacketIn as PacketValue};
-ghost use Rattle.capture_reader.specs.Frame.{packet_in};
-ghost use Rattle.capture_reader.specs.Reader.{file_name_of, IsReadable, begun_file};
-ghost use Rattle.capture_reader.specs.CaptureFile.{capture_file};
-ghost use Rattle.flow_lines.specs.declared.flow.FlowLine.{FlowLine as LineValue};
+ghost use Rattle.captures.specs.declared.packet_in.PacketIn.{PacketIn as PacketValue};
+ghost use Rattle.captures.specs.Frame.{packet_in};
+ghost use Rattle.captures.specs.Reader.{file_name_of, IsReadable, begun_file};
+ghost use Rattle.captures.specs.CaptureFile.{capture_file};
+ghost use Rattle.label_commands.specs.declared.flow_lines.flow.FlowLine.{FlowLine as LineValue};
 ghost use Rattle.call_report.specs.Report.{Folder};
 ghost use Rattle.call_report.specs.Event.{packets_limit};
-ghost use Rattle.report_file.specs.File.{KeepsPart};
-ghost use Rattle.flow_access.specs.Valid.{plan_of};
+ghost use Rattle.call_report.specs.report_file.File.{KeepsPart};
+ghost use Rattle.label_flow.specs.flow_access.Valid.{plan_of};
 ghost use Rattle.script_run.specs.Runs.{FlowsStatus};
 ghost use Rattle.label_audit.specs.inside.Grammar.{FlowsFrom, nothing_counted, end_text_of};
 ghost use Rattle.call_report.specs.Lines.Flow.{flow_line};
@@ -24,19 +24,14 @@ ghost use Rattle.label_audit.specs.inside.Flow.{Ready, packets_to_come, none_to_
 use crate::place::{Place, differ, expect};
 use crate::replies::{Replies, expect_replies};
 use crate::walker::{PacketPlace, Walker, judge_packet};
-use address_text::Name;
-use call_report::{write_flow, write_flow_end};
-use capture_reader::{CaptureReader, ReadStop};
-use flow_lines::{FileName, FlowLine};
-use label_commands::Script;
+use call_report::{PACKETS_LIMIT, ReportFile, write_flow, write_flow_end};
+use captures::{CaptureReader, ReadStop};
+use domain_map::Name;
+use label_commands::{FileName, FlowLine, Script};
+use label_flow::{Octets, PacketIn, StepTables};
 use mls_label::OutOfMemory;
 use net_io::{Depot, IoFault};
-use packet_walk::{Octets, PacketIn, StepTables};
-use report_file::ReportFile;
 use std::alloc::Global;
-
-/// The most packets that one call reads.
-const PACKETS_LIMIT: u64 = 1_048_576;
 
 /// How many packets of a flow were judged.
 #[derive(Clone, Copy, Debug, PartialEq, Eq)]
@@ -76,17 +71,6 @@ pub(crate) fn know_names(names: &[Name])
     }
 }
 
-/// How many steps stand above a flow, counted from 0; behind the last flow, all.
-pub(crate) fn steps_above(script: &Script, flow: usize) -> u32
-    requires { length script.now.steps < 2 ^ 32 }
-    ensures { result ≡ before script.now flow }
-{
-    match script.flows.as_slice().get(flow) {
-        Some(line) => line.before,
-        None => script.steps.as_slice().len() as u32,
-    }
-}
-
 /// How many flows there are.
 fn flows_in(script: &Script) -> usize
     ensures { result ≡ length script.now.flows }
@@ -100,7 +84,7 @@ fn steps_behind(script: &Script, flow: usize) -> u32
     requires flow { flow < 2 ^ 32 }
     ensures { result ≡ before script.now (flow + 1) }
 {
-    steps_above(script, flow + 1)
+    script.steps_above(flow + 1)
 }
 
 /// The least version of the next packet of a worker: the flow begins with no older one, and the worker doesn't go back.

@@ -5,7 +5,7 @@ ghost use Rattle.net_io.specs.Depot.{octets_of};
 ghost use Rattle.label_commands.specs.Sound.{IsSoundScript};
 ghost use Rattle.call_report.specs.Event.{packets_limit};
 ghost use Rattle.call_report.specs.Lines.Fixed.{done_line};
-ghost use Rattle.report_file.specs.File.{KeepsPart};
+ghost use Rattle.call_report.specs.report_file.File.{KeepsPart};
 ghost use Rattle.script_run.specs.Runs.{FlowsStatus};
 ghost use Rattle.label_audit.specs.Audited.{IsAudited};
 ghost use Rattle.label_audit.specs.Reads.{OnlyReadsAmong};
@@ -14,13 +14,12 @@ ghost use Rattle.label_audit.specs.inside.Reading.{HasRead, StandsIn, IsExpected
 ghost use Rattle.label_audit.specs.inside.Flow.{ended_awaited, inputs_of};
 
 use crate::audited::Audited;
-use crate::flow::{Judge, judge_flows, know_names, steps_above};
+use crate::flow::{Judge, judge_flows, know_names};
 use crate::place::{Place, differ, expect};
 use crate::replies::{Replies, expect_replies};
-use call_report::done;
+use call_report::{ReportFile, done};
 use label_commands::Script;
 use net_io::{Depot, IoFault};
-use report_file::ReportFile;
 use std::alloc::Global;
 
 /// Whether a run's last line stands at the place, which goes behind it then.
@@ -64,7 +63,7 @@ fn judge_lines<D: Depot>(
 {
     know_names(script.nodes.as_slice());
     let mut replies = Replies::none(alloc, script)?;
-    let upto = steps_above(script, 0);
+    let upto = script.steps_above(0);
     if !expect_replies(depot, report, at, script, upto, &mut replies)? {
         return Ok(false);
     }

@@ -1,14 +1,14 @@
 //! What the definitions are worth, whatever the code does.
 
 ghost use Rattle.std.specs.Prelude.{◌≡◌, ◌≤◌, ◌++◌, ℕ, List, All};
-ghost use Rattle.address_text.specs.Name.{IsNameText};
-ghost use Rattle.flow_lines.specs.declared.hop.Hop.{Hop};
+ghost use Rattle.domain_map.specs.address_text.Name.{IsNameText};
+ghost use Rattle.label_commands.specs.declared.flow_lines.hop.Hop.{Hop};
 ghost use Rattle.label_commands.specs.declared.script.Script.{Script};
-ghost use Rattle.packet_walk.specs.declared.walked.Walked.{Walked};
+ghost use Rattle.label_flow.specs.declared.packet_walk.walked.Walked.{Walked};
 ghost use Rattle.call_report.specs.Report.{Folder};
 ghost use Rattle.call_report.specs.Lines.Flow.{walked_line};
-ghost use Rattle.report_file.specs.Meeting.{lines_in};
-ghost use Rattle.report_file.specs.Versions.{EndsWithVersions};
+ghost use Rattle.call_report.specs.report_file.Meeting.{lines_in};
+ghost use Rattle.call_report.specs.report_file.Versions.{EndsWithVersions};
 ghost use Rattle.label_audit.specs.Good.{IsReport, IsGood, IsFirstBad};
 
 /// A report has at most one line that is the first which isn't good.

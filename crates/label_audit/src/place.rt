@@ -2,12 +2,12 @@
 
 ghost use Rattle.std.specs.Prelude.{◌≡◌, ◌+◌, ◌<◌, ◌^◌, ℕ, List, IsTrue, IfOk, length};
 ghost use Rattle.net_io.specs.Depot.{octets_of};
-ghost use Rattle.report_file.specs.File.{KeepsPart};
-ghost use Rattle.report_file.specs.Meeting.{lines_in};
+ghost use Rattle.call_report.specs.report_file.File.{KeepsPart};
+ghost use Rattle.call_report.specs.report_file.Meeting.{lines_in};
 ghost use Rattle.label_audit.specs.inside.Reading.{HasRead, StandsIn, IsExpected, file_of, front_place};
 
+use call_report::{Met, ReportFile, ends_of_lines};
 use net_io::{Depot, IoFault};
-use report_file::{Met, ReportFile, ends_of_lines};
 
 /// A place in a report: an octet, counted from 0, and how many lines end in front of it. Where the report isn't what it should be, the
 /// number of the line that isn't.

@@ -4,16 +4,15 @@ ghost use Rattle.std.specs.Prelude.{◌≡◌, ◌+◌, ◌-◌, ◌<◌, ◌≤
 ghost use Rattle.script_lines.specs.declared.command.Step.{Step as StepValue};
 ghost use Rattle.node_tables.specs.Steps.{tables_after};
 ghost use Rattle.call_report.specs.Lines.Reply.{reply_line_at, replies_text};
-ghost use Rattle.report_file.specs.File.{KeepsPart};
+ghost use Rattle.call_report.specs.report_file.File.{KeepsPart};
 ghost use Rattle.label_audit.specs.inside.Reading.{HasRead, StandsIn, IsExpected, file_of};
 
 use crate::place::{Place, expect};
-use call_report::write_reply;
+use call_report::{ReportFile, write_reply};
 use label_commands::Script;
 use mls_label::OutOfMemory;
 use net_io::{Depot, IoFault};
 use node_tables::Network;
-use report_file::ReportFile;
 use std::alloc::Global;
 
 /// The tables of all nodes behind so many steps, and the reply to the last one as it is printed.

@@ -1,24 +1,23 @@
 //! A packet's walk under the versions that its line names.
 
 ghost use Rattle.std.specs.Prelude.{◌≡◌, ◌<◌, ◌≤◌, ◌^◌, ℕ, List, All, IsTrue, IfOk, OnOk, length};
-ghost use Rattle.address_text.specs.Name.{IsNameText};
-ghost use Rattle.flow_lines.specs.Hop.{node_of};
-ghost use Rattle.report_file.specs.File.{KeepsPart};
+ghost use Rattle.domain_map.specs.address_text.Name.{IsNameText};
+ghost use Rattle.label_commands.specs.flow_lines.Hop.{node_of};
+ghost use Rattle.call_report.specs.report_file.File.{KeepsPart};
 ghost use Rattle.label_audit.specs.inside.Reading.{HasRead, StandsIn, file_of};
-ghost use Rattle.flow_run.specs.Run.{is_denied as is_denied_end};
+ghost use Rattle.script_run.specs.flow_run.Run.{is_denied as is_denied_end};
 ghost use Rattle.label_audit.specs.inside.Packet.{line_at, IsWritten, IsPacketRead};
 
 use crate::place::{Place, behind};
-use address_text::Name;
-use call_report::WalkLines;
-use flow_lines::FlowLine;
-use mls_label::OutOfMemory;
-use net_io::{Depot, IoFault};
-use packet_walk::{
+use call_report::{Met, ReportFile, WalkLines};
+use domain_map::Name;
+use label_commands::FlowLine;
+use label_flow::{
     End, PacketIn, ShownWalks, StepTables, VersionsStop, WalkRoom, Walked, WalkedSlot, rise,
     walk_named,
 };
-use report_file::{Met, ReportFile};
+use mls_label::OutOfMemory;
+use net_io::{Depot, IoFault};
 use std::alloc::Global;
 
 /// A packet of a flow, both counted from 1, and the versions between which its own lie.

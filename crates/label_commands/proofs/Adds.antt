@@ -13,15 +13,15 @@ use Rattle.script_lines.specs.declared.stop.LineStop.TheVariants as Stop
 use Rattle.script_lines.specs.Octet.{is_plain}
 use Rattle.script_lines.specs.Word.{LineWord, words_of_line}
 use Rattle.script_lines.specs.Stop.{fault, and_next}
-use Rattle.address_text.specs.Name.{is_name, name_of_text}
-use Rattle.node_readings.specs.Reading.{NamedMeanings, IsReading}
+use Rattle.domain_map.specs.address_text.Name.{is_name, name_of_text}
+use Rattle.label_commands.specs.node_readings.Reading.{NamedMeanings, IsReading}
 use Rattle.script_lines.specs.declared.command.Command.{Command}
 use Rattle.script_lines.specs.declared.said.Said.{Said}
 use Rattle.script_lines.specs.Form.{Edition}
 use Rattle.script_lines.specs.Command.{command_of}
 use Rattle.script_lines.specs.Bounded.{IsBounded}
-use Rattle.flow_lines.specs.declared.flow.FlowLine.{FlowLine}
-use Rattle.flow_lines.specs.Flow.{read_flow}
+use Rattle.label_commands.specs.declared.flow_lines.flow.FlowLine.{FlowLine}
+use Rattle.label_commands.specs.flow_lines.Flow.{read_flow}
 use Rattle.label_commands.specs.Above.{Above, at_node, with_step, has_reading, with_reading, with_flow}
 use Rattle.label_commands.specs.Editions.{has_command}
 use Rattle.label_commands.specs.Line.{is_word, alone, read_only_name, read_node, named_by, read_meanings, read_reading, is_reading, with_said, read_led, starts_table, read_table, read_flow_line, read_words, names_new_node, is_flow_line, limit_passed, read_line}

@@ -5,7 +5,7 @@ use Rattle.std.specs.Str.{bytes_eq}
 use Rattle.std.specs.Str.Lines.{lines}
 use Rattle.std.proofs.lemmas.List.Elements.{All-nil, All-push, All-set, All-map, All-weaker}
 use Rattle.script_lines.specs.declared.stop.LineStop.{LineStop}
-use Rattle.node_readings.specs.Reading.{NamedMeanings, is_increasing, IsReading}
+use Rattle.label_commands.specs.node_readings.Reading.{NamedMeanings, is_increasing, IsReading}
 use Rattle.script_lines.specs.declared.command.Step.{Step}
 use Rattle.script_lines.specs.Form.{Edition}
 use Rattle.label_commands.specs.declared.script.Script.{Script}

@@ -8,7 +8,7 @@ use Rattle.script_lines.specs.declared.stop.ScriptKind.TheVariants as Kind
 use Rattle.script_lines.specs.declared.stop.LineStop.{LineStop}
 use Rattle.script_lines.specs.Word.{LineWord}
 use Rattle.script_lines.specs.Stop.{fault, and_next}
-use Rattle.address_text.specs.Prefix.{AddressBlock}
+use Rattle.domain_map.specs.address_text.Prefix.{AddressBlock}
 use Rattle.script_lines.specs.declared.row.Row.{Row}
 use Rattle.script_lines.specs.declared.row.Row.TheVariants as In
 use Rattle.script_lines.specs.declared.parameter.Parameter.TheVariants.{Domain}

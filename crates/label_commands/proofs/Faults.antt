@@ -14,10 +14,10 @@ use Rattle.script_lines.specs.Octet.{is_plain}
 use Rattle.script_lines.specs.Word.{LineWord, words_of_line, IsWordOf}
 use Rattle.script_lines.specs.Stop.{fault, and_next}
 use Rattle.script_lines.proofs.Law.{words_stand_in_their_line}
-use Rattle.address_text.specs.Name.{name_of_text}
-use Rattle.node_readings.specs.declared.fault.ReadingFault.{ReadingFault}
-use Rattle.node_readings.specs.declared.fault.ReadingFault.TheVariants as Unread
-use Rattle.node_readings.specs.Reading.{NamedMeanings, reading_fault}
+use Rattle.domain_map.specs.address_text.Name.{name_of_text}
+use Rattle.label_commands.specs.declared.node_readings.fault.ReadingFault.{ReadingFault}
+use Rattle.label_commands.specs.declared.node_readings.fault.ReadingFault.TheVariants as Unread
+use Rattle.label_commands.specs.node_readings.Reading.{NamedMeanings, reading_fault}
 use Rattle.script_lines.specs.declared.row.Row.{Row}
 use Rattle.script_lines.specs.declared.parameter.Parameter.{Parameter}
 use Rattle.script_lines.specs.declared.form.Slot.{Slot}
@@ -27,8 +27,8 @@ use Rattle.script_lines.specs.Form.{Edition, form_of, line_rows}
 use Rattle.script_lines.specs.Fields.{no_fields, is_given, with_value}
 use Rattle.script_lines.specs.Said.{shared_words, fits_row, unfit_or_missing, read_row, key_of, slot_of, with_parameter, with_word, with_words, is_complete, read_fields, read_said}
 use Rattle.script_lines.specs.Command.{command_of}
-use Rattle.flow_lines.specs.Flow.{read_flow}
-use Rattle.flow_lines.proofs.Law.{faults_stand_in_the_line}
+use Rattle.label_commands.specs.flow_lines.Flow.{read_flow}
+use Rattle.label_commands.proofs.flow_lines.Law.{faults_stand_in_the_line}
 use Rattle.label_commands.specs.declared.stop.ScriptFault.{ScriptFault}
 use Rattle.label_commands.specs.declared.stop.ScriptStop.TheVariants as Stop
 use Rattle.label_commands.specs.Above.{Above, at_node, has_reading, with_step, with_reading, with_flow}

@@ -14,16 +14,16 @@ use Rattle.std.proofs.Math.ListN.{length-set}
 use Rattle.script_lines.specs.declared.stop.LineStop.{LineStop}
 use Rattle.script_lines.specs.Word.{LineWord}
 use Rattle.script_lines.specs.Stop.{and_next}
-use Rattle.node_readings.specs.Reading.{NamedMeanings}
+use Rattle.label_commands.specs.node_readings.Reading.{NamedMeanings}
 use Rattle.script_lines.specs.declared.command.Command.{Command}
 use Rattle.script_lines.specs.declared.command.Step.{Step}
 use Rattle.script_lines.specs.Form.{Edition}
-use Rattle.flow_lines.specs.declared.hop.Hop.{Hop}
-use Rattle.flow_lines.specs.declared.flow.FlowLine.{FlowLine}
-use Rattle.flow_lines.specs.Hop.{IsRoute, node_of}
-use Rattle.flow_lines.specs.Flow.{read_flow, read_input, read_output, read_route, read_behind_input}
-use Rattle.flow_lines.specs.Apart.{AreApart}
-use Rattle.flow_lines.proofs.Law.{hops_are_a_route, hops_are_of_named_nodes, names_stay_apart}
+use Rattle.label_commands.specs.declared.flow_lines.hop.Hop.{Hop}
+use Rattle.label_commands.specs.declared.flow_lines.flow.FlowLine.{FlowLine}
+use Rattle.label_commands.specs.flow_lines.Hop.{IsRoute, node_of}
+use Rattle.label_commands.specs.flow_lines.Flow.{read_flow, read_input, read_output, read_route, read_behind_input}
+use Rattle.label_commands.specs.flow_lines.Apart.{AreApart}
+use Rattle.label_commands.proofs.flow_lines.Law.{hops_are_a_route, hops_are_of_named_nodes, names_stay_apart}
 use Rattle.label_commands.specs.Above.{Above, nothing_above, at_number, with_step, with_reading, with_flow}
 use Rattle.label_commands.specs.Line.{read_line}
 use Rattle.label_commands.specs.Script.{read_lines, no_meanings, script_of}

@@ -13,12 +13,12 @@ use Rattle.script_lines.specs.declared.stop.LineStop.{LineStop}
 use Rattle.script_lines.specs.declared.stop.LineStop.TheVariants as Stop
 use Rattle.script_lines.specs.Word.{LineWord}
 use Rattle.script_lines.specs.Stop.{fault, and_next}
-use Rattle.flow_lines.specs.declared.hop.Hop.{Hop}
-use Rattle.flow_lines.specs.declared.hop.Hop.TheVariants.{Send, Forward, Receive}
-use Rattle.flow_lines.specs.declared.flow.FlowLine.{FlowLine}
-use Rattle.flow_lines.specs.HopText.{behind_prefix, comma_parts, are_names, NamedHop, send_of_parts, forward_of_parts, receive_of_parts, node_number, numbered, read_hop}
-use Rattle.flow_lines.specs.Flow.{next_hop, read_hops, read_route, read_flow}
-use Rattle.flow_lines.proofs.Law.{hops_stand_behind_the_names}
+use Rattle.label_commands.specs.declared.flow_lines.hop.Hop.{Hop}
+use Rattle.label_commands.specs.declared.flow_lines.hop.Hop.TheVariants.{Send, Forward, Receive}
+use Rattle.label_commands.specs.declared.flow_lines.flow.FlowLine.{FlowLine}
+use Rattle.label_commands.specs.flow_lines.HopText.{behind_prefix, comma_parts, are_names, NamedHop, send_of_parts, forward_of_parts, receive_of_parts, node_number, numbered, read_hop}
+use Rattle.label_commands.specs.flow_lines.Flow.{next_hop, read_hops, read_route, read_flow}
+use Rattle.label_commands.proofs.flow_lines.Law.{hops_stand_behind_the_names}
 use Rattle.label_commands.specs.Bounded.{IsBoundedHop, IsBoundedFlow}
 use Rattle.label_commands.proofs.Results.{same_ok, not_ok, went}
 use Rattle.label_commands.proofs.Values.{label_within}

@@ -10,7 +10,7 @@ use Rattle.script_lines.specs.declared.command.Command.{Command}
 use Rattle.script_lines.specs.declared.command.Step.{Step}
 use Rattle.script_lines.specs.Command.{command_text, IsCommand}
 use Rattle.script_lines.proofs.Law.{lines_with_labels_are_kept, lines_with_ranges_are_kept}
-use Rattle.node_readings.specs.Reading.{IsReading}
+use Rattle.label_commands.specs.node_readings.Reading.{IsReading}
 use Rattle.label_commands.specs.declared.script.Script.{Script}
 use Rattle.label_commands.specs.declared.stop.ScriptFault.{ScriptFault}
 use Rattle.label_commands.specs.declared.stop.ScriptStop.TheVariants as Stop

@@ -8,13 +8,13 @@ use Rattle.script_lines.specs.declared.stop.ScriptKind.{ScriptKind}
 use Rattle.script_lines.specs.declared.stop.ScriptKind.TheVariants.{Octet, Word, NoNode, Value, UnknownNode, HopOrder, NameTwice, Extra, Missing, ReadingTwice, NotIncreasing, NotDistinct}
 use Rattle.script_lines.specs.declared.stop.LimitName.{LimitName}
 use Rattle.script_lines.specs.declared.stop.LimitName.TheVariants.{Nodes, Hops}
-use Rattle.address_text.specs.Address.{address_of_text}
+use Rattle.domain_map.specs.address_text.Address.{address_of_text}
 use Rattle.mls_range.specs.Computed.{terms_of_text, label_of_text, range_of_text}
-use Rattle.node_readings.specs.Reading.{NamedMeanings, is_increasing}
+use Rattle.label_commands.specs.node_readings.Reading.{NamedMeanings, is_increasing}
 use Rattle.script_lines.specs.Form.{Edition, with_labels, with_ranges, with_translations}
 use Rattle.script_lines.specs.Command.{command_text}
-use Rattle.flow_lines.specs.HopText.{read_hop}
-use Rattle.flow_lines.specs.Flow.{read_flow}
+use Rattle.label_commands.specs.flow_lines.HopText.{read_hop}
+use Rattle.label_commands.specs.flow_lines.Flow.{read_flow}
 use Rattle.label_commands.specs.declared.script.Script.{Script}
 use Rattle.label_commands.specs.declared.stop.ScriptStop.{ScriptStop}
 use Rattle.label_commands.specs.declared.stop.ScriptStop.TheVariants as Stop

@@ -9,12 +9,12 @@ use Rattle.script_lines.specs.declared.stop.ScriptKind.TheVariants as Kind
 use Rattle.script_lines.specs.declared.stop.LineStop.{LineStop}
 use Rattle.script_lines.specs.Word.{LineWord}
 use Rattle.script_lines.specs.Stop.{fault, and_next}
-use Rattle.node_readings.specs.declared.fault.ReadingFault.{ReadingFault}
-use Rattle.node_readings.specs.declared.fault.ReadingFault.TheVariants.{NotIncreasing, NotDistinct}
-use Rattle.node_readings.specs.Reading.{NamedMeanings, is_increasing, names_once, is_distinct, reading_fault, IsReading}
-use Rattle.command_values.specs.Doi.{is_doi}
-use Rattle.command_values.specs.Pairs.{pair_of_text, IsPairWithin}
-use Rattle.command_values.specs.Ranges.{IsMlsRange}
+use Rattle.label_commands.specs.declared.node_readings.fault.ReadingFault.{ReadingFault}
+use Rattle.label_commands.specs.declared.node_readings.fault.ReadingFault.TheVariants.{NotIncreasing, NotDistinct}
+use Rattle.label_commands.specs.node_readings.Reading.{NamedMeanings, is_increasing, names_once, is_distinct, reading_fault, IsReading}
+use Rattle.script_lines.specs.command_values.Doi.{is_doi}
+use Rattle.script_lines.specs.command_values.Pairs.{pair_of_text, IsPairWithin}
+use Rattle.script_lines.specs.command_values.Ranges.{IsMlsRange}
 use Rattle.script_lines.specs.declared.row.Row.{Row}
 use Rattle.script_lines.specs.declared.row.Row.TheVariants as In
 use Rattle.script_lines.specs.declared.parameter.Parameter.{Parameter}

@@ -20,11 +20,11 @@ use Rattle.mls_range.specs.Computed.{label_of_text, lone_range, range_of_text}
 use Rattle.mls_range.specs.Range.{LabelRange}
 use Rattle.mls_range.specs.RangeText.{IsRangeText}
 use Rattle.mls_range.proofs.Law.{computed_labels_are_of_the_text, computed_labels_have_few_runs, computed_ranges_are_of_the_text}
-use Rattle.address_text.specs.Number.{number_of_text}
-use Rattle.command_values.specs.Doi.{is_doi, doi_of_text}
-use Rattle.command_values.specs.List.{all_of, list_of_text}
-use Rattle.command_values.specs.Pairs.{pair_of_text, IsPairWithin}
-use Rattle.command_values.specs.Ranges.{behind_context, in_context, lowest_label, range_below, IsMlsLabel, IsMlsRange}
+use Rattle.domain_map.specs.address_text.Number.{number_of_text}
+use Rattle.script_lines.specs.command_values.Doi.{is_doi, doi_of_text}
+use Rattle.script_lines.specs.command_values.List.{all_of, list_of_text}
+use Rattle.script_lines.specs.command_values.Pairs.{pair_of_text, IsPairWithin}
+use Rattle.script_lines.specs.command_values.Ranges.{behind_context, in_context, lowest_label, range_below, IsMlsLabel, IsMlsRange}
 use Rattle.script_lines.specs.Form.{Edition, with_labels, with_ranges, with_translations}
 use Rattle.script_lines.specs.Fields.{static_by, receiver_by}
 

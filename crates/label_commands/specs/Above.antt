@@ -2,10 +2,10 @@
 use Rattle.std.specs.Prelude.{ℕ, Bool, List, [], ◌∷◌, ◌++◌, length, Option, Some, None, position, slice_set, unwrap_or, is_some}
 use Rattle.std.specs.List.{slice_get}
 use Rattle.std.specs.Str.{bytes_eq}
-use Rattle.node_readings.specs.Reading.{NamedMeanings}
+use Rattle.label_commands.specs.node_readings.Reading.{NamedMeanings}
 use Rattle.script_lines.specs.declared.command.Command.{Command}
 use Rattle.script_lines.specs.declared.command.Step.{Step}
-use Rattle.flow_lines.specs.declared.flow.FlowLine.{FlowLine}
+use Rattle.label_commands.specs.declared.flow_lines.flow.FlowLine.{FlowLine}
 
 -- the nodes in the order in which they come first, the number of the current one, the steps, each node's reading where a line gives one,
 -- and the flows

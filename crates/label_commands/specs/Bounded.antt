@@ -1,12 +1,12 @@
 -- What the numbers of every script keep that is read.
 use Rattle.std.specs.Prelude.{All}
 use Rattle.mls_label.specs.Label.{IsLabel}
-use Rattle.node_readings.specs.Reading.{IsReading}
+use Rattle.label_commands.specs.node_readings.Reading.{IsReading}
 use Rattle.script_lines.specs.declared.command.Step.{Step}
 use Rattle.script_lines.specs.Bounded.{IsBounded}
-use Rattle.flow_lines.specs.declared.hop.Hop.{Hop}
-use Rattle.flow_lines.specs.declared.hop.Hop.TheVariants.{Send}
-use Rattle.flow_lines.specs.declared.flow.FlowLine.{FlowLine}
+use Rattle.label_commands.specs.declared.flow_lines.hop.Hop.{Hop}
+use Rattle.label_commands.specs.declared.flow_lines.hop.Hop.TheVariants.{Send}
+use Rattle.label_commands.specs.declared.flow_lines.flow.FlowLine.{FlowLine}
 use Rattle.label_commands.specs.declared.script.Script.{Script}
 
 -- a hop that sends names a label within the bounds

@@ -5,3 +5,6 @@ pub mod Sound
 pub mod Bounded
 pub mod Editions
 pub mod inside
+pub mod flow_lines
+pub mod command_words
+pub mod node_readings

@@ -9,10 +9,10 @@ use Rattle.script_lines.specs.declared.stop.LineStop.TheVariants as Stop
 use Rattle.script_lines.specs.Octet.{is_plain}
 use Rattle.script_lines.specs.Word.{LineWord, words_of_line}
 use Rattle.script_lines.specs.Stop.{fault, and_next}
-use Rattle.address_text.specs.Name.{is_name, name_of_text}
-use Rattle.node_readings.specs.declared.fault.ReadingFault.{ReadingFault}
-use Rattle.node_readings.specs.declared.fault.ReadingFault.TheVariants as Unread
-use Rattle.node_readings.specs.Reading.{NamedMeanings, reading_fault}
+use Rattle.domain_map.specs.address_text.Name.{is_name, name_of_text}
+use Rattle.label_commands.specs.declared.node_readings.fault.ReadingFault.{ReadingFault}
+use Rattle.label_commands.specs.declared.node_readings.fault.ReadingFault.TheVariants as Unread
+use Rattle.label_commands.specs.node_readings.Reading.{NamedMeanings, reading_fault}
 use Rattle.script_lines.specs.declared.row.Row.{Row}
 use Rattle.script_lines.specs.declared.row.Row.TheVariants.{Reading}
 use Rattle.script_lines.specs.declared.fields.Fields.{Fields}
@@ -20,7 +20,7 @@ use Rattle.script_lines.specs.declared.said.Said.{Said}
 use Rattle.script_lines.specs.Form.{Edition, line_rows}
 use Rattle.script_lines.specs.Said.{begins_line, read_said}
 use Rattle.script_lines.specs.Command.{command_of}
-use Rattle.flow_lines.specs.Flow.{read_flow}
+use Rattle.label_commands.specs.flow_lines.Flow.{read_flow}
 use Rattle.label_commands.specs.Above.{Above, at_node, with_step, has_reading, with_reading, with_flow}
 
 -- the word has this text

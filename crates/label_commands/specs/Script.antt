@@ -6,7 +6,7 @@ use Rattle.script_lines.specs.declared.stop.LimitName.{LimitName}
 use Rattle.script_lines.specs.declared.stop.LimitName.TheVariants.{Octets}
 use Rattle.script_lines.specs.declared.stop.LineStop.{LineStop}
 use Rattle.script_lines.specs.declared.stop.LineStop.TheVariants as Of
-use Rattle.node_readings.specs.Reading.{NamedMeanings}
+use Rattle.label_commands.specs.node_readings.Reading.{NamedMeanings}
 use Rattle.script_lines.specs.Form.{Edition}
 use Rattle.label_commands.specs.declared.script.Script.{Script}
 use Rattle.label_commands.specs.declared.stop.ScriptStop.{ScriptStop}

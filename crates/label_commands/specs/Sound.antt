@@ -1,8 +1,8 @@
 -- What every script keeps.
 use Rattle.std.specs.Prelude.{ℕ, ◌≡◌, ◌-◌, ◌<◌, ◌≤◌, List, length, All, Some}
 use Rattle.std.specs.List.{slice_get}
-use Rattle.flow_lines.specs.Hop.{IsRoute, node_of}
-use Rattle.flow_lines.specs.Apart.{AreApart}
+use Rattle.label_commands.specs.flow_lines.Hop.{IsRoute, node_of}
+use Rattle.label_commands.specs.flow_lines.Apart.{AreApart}
 use Rattle.script_lines.specs.declared.stop.LimitName.TheVariants.{Lines, Nodes, Flows}
 use Rattle.label_commands.specs.declared.script.Script.{Script}
 use Rattle.label_commands.specs.declared.stop.ScriptFault.{ScriptFault}

@@ -7,19 +7,19 @@ ghost use Rattle.label_commands.specs.Above.{nothing_above, at_node, with_step, 
 ghost use Rattle.label_commands.specs.Line.{read_node, read_reading, with_said, read_table, read_flow_line, read_words, names_new_node, limit_passed, read_line};
 ghost use Rattle.label_commands.specs.Script.{no_meanings, script_of};
 
+use crate::flow_lines::{Flows, NodeNames, read_flow};
 use crate::limit::{MOST_FLOWS, MOST_LINES, MOST_NODES};
 use crate::line::{
     is_flow_line, is_reading, read_command, read_led, read_meanings, read_only_name, starts_table,
 };
+use crate::node_readings::Reading;
 use crate::script::Script;
-use address_text::{Name, read_name};
-use command_values::is_word;
 use doi_table::Listed;
-use flow_lines::{Flows, NodeNames, read_flow};
+use domain_map::{Name, read_name};
 use mls_label::OutOfMemory;
-use node_readings::Reading;
 use script_lines::{
-    Command, Fields, LimitName, LineStop, Said, ScriptKind, Step, Word, first_unfit, words_into,
+    Command, Fields, LimitName, LineStop, Said, ScriptKind, Step, Word, first_unfit, is_word,
+    words_into,
 };
 use std::alloc::Global;
 use std::marker::Model;

@@ -9,7 +9,7 @@ ghost use Rattle.script_lines.specs.declared.command.Command.{Command as NodeCom
 ghost use Rattle.script_lines.specs.declared.command.Step.{Step as StepValue};
 ghost use Rattle.script_lines.specs.Form.{Edition, with_labels, with_ranges, with_translations};
 ghost use Rattle.script_lines.specs.Command.{command_text, IsCommand};
-ghost use Rattle.node_readings.specs.Reading.{IsReading};
+ghost use Rattle.label_commands.specs.node_readings.Reading.{IsReading};
 ghost use Rattle.label_commands.specs.declared.script.Script.{Script};
 ghost use Rattle.label_commands.specs.declared.stop.ScriptFault.{ScriptFault};
 ghost use Rattle.label_commands.specs.declared.stop.ScriptStop.TheVariants as Stop;

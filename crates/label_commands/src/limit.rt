@@ -6,7 +6,7 @@ ghost use Rattle.label_commands.specs.Line.{limit_of};
 use script_lines::LimitName;
 
 /// The most octets of a script.
-pub(crate) const MOST_OCTETS: usize = 1_048_576;
+pub const SCRIPT_LIMIT: usize = 1_048_576;
 
 /// The most lines of a script.
 pub(crate) const MOST_LINES: u32 = 16_384;
@@ -25,7 +25,7 @@ pub(crate) fn number_of(what: LimitName) -> u32
     ensures { result ≡ limit_of what }
 {
     match what {
-        LimitName::Octets => MOST_OCTETS as u32,
+        LimitName::Octets => SCRIPT_LIMIT as u32,
         LimitName::Lines => MOST_LINES,
         LimitName::Nodes => MOST_NODES as u32,
         LimitName::Flows => MOST_FLOWS as u32,

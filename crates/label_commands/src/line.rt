@@ -7,11 +7,11 @@ ghost use Rattle.script_lines.specs.Form.{with_translations};
 ghost use Rattle.script_lines.specs.Command.{command_of};
 ghost use Rattle.label_commands.specs.Line.{read_only_name, named_by, reading_stop, read_meanings, is_reading, behind_tool, read_led, starts_table, is_flow_line};
 
-use address_text::{Name, read_name};
-use command_values::is_word;
-use node_readings::{Reading, ReadingFault};
+use crate::node_readings::{Reading, ReadingFault};
+use domain_map::{Name, read_name};
 use script_lines::{
-    Command, Fields, LineStop, Row, Said, ScriptKind, Word, begins_line, command_of, read_said,
+    Command, Fields, LineStop, Row, Said, ScriptKind, Word, begins_line, command_of, is_word,
+    read_said,
 };
 use std::alloc::Global;
 

@@ -8,7 +8,7 @@ ghost use Rattle.label_commands.specs.Script.{read_lines, IsScript, IsScriptStop
 ghost use Rattle.label_commands.specs.inside.Stops.{IsStopOfLines};
 
 use crate::draft::Draft;
-use crate::limit::MOST_OCTETS;
+use crate::limit::SCRIPT_LIMIT;
 use crate::script::Script;
 use crate::stop::{ScriptStop, passed, stop_at};
 use script_lines::{LimitName, next_line};
@@ -21,7 +21,7 @@ pub fn read_script(alloc: Global, text: &[u8], own_name: &str) -> Result<Script,
     ensures ok { IfOk result (IsScript with_translations own_name.now text.now) }
     ensures stop { IfErr result (IsScriptStop with_translations own_name.now text.now) }
 {
-    if text.len() > MOST_OCTETS {
+    if text.len() > SCRIPT_LIMIT {
         return Err(passed(LimitName::Octets));
     }
     let draft = read_lines(alloc, text, own_name)?;

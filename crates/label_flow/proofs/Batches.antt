@@ -4,15 +4,15 @@ use Rattle.std.proofs.lemmas.List.Elements.{All-cons}
 use Rattle.std.proofs.lemmas.List.{length-take, length-append, take-append-drop}
 use Rattle.shared_tables.specs.Plan.{PlanState, network_after}
 use Rattle.shared_tables.specs.Board.{ViewerState}
-use Rattle.flow_lines.specs.declared.hop.Hop.{Hop}
-use Rattle.packet_walk.specs.declared.walked.End.{End}
-use Rattle.packet_walk.specs.declared.walked.End.TheVariants as the_end
-use Rattle.packet_walk.specs.declared.walked.Walked.{Walked}
+use Rattle.label_commands.specs.declared.flow_lines.hop.Hop.{Hop}
+use Rattle.label_flow.specs.declared.packet_walk.walked.End.{End}
+use Rattle.label_flow.specs.declared.packet_walk.walked.End.TheVariants as the_end
+use Rattle.label_flow.specs.declared.packet_walk.walked.Walked.{Walked}
 use Rattle.label_flow.specs.Pair.{PairState}
-use Rattle.packet_walk.specs.declared.packet.PacketIn.{PacketIn}
-use Rattle.packet_walk.specs.Walk.{Coming, from_outside, from_hop, octets_in, HopVerdict, denied, goes_on, arrives, hop_verdict, Ends, Follows, IsWalk, IsWalked}
+use Rattle.captures.specs.declared.packet_in.PacketIn.{PacketIn}
+use Rattle.label_flow.specs.packet_walk.Walk.{Coming, from_outside, from_hop, octets_in, HopVerdict, denied, goes_on, arrives, hop_verdict, Ends, Follows, IsWalk, IsWalked}
 use Rattle.packet_label.specs.declared.denial.Denial.TheVariants.{NotIp}
-use Rattle.flow_lines.specs.Hop.{node_of}
+use Rattle.label_commands.specs.flow_lines.Hop.{node_of}
 use Rattle.label_flow.specs.Feed.{MayAccept, IsDeniedBy, AreFetched, IsOver, AreBegun, AreWhole}
 use Rattle.label_flow.specs.Round.{pick, IsWork, AreLater, AreRounds, IsRound}
 use Rattle.label_flow.specs.inside.Work.{AreWorks, AreFirst, HasRoom, HasNodes, HasViewers}

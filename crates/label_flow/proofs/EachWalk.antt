@@ -3,13 +3,13 @@ use Rattle.std.proofs.Common.{◌≡◌, ℕ, zero, suc, ◌+◌, ◌<◌, ◌�
 use Rattle.std.proofs.lemmas.List.Elements.{All-nil, All-cons}
 use Rattle.std.proofs.lemmas.Bool.Decides.{nat_tests}
 use Rattle.std.proofs.lemmas.Nat.{mod_below}
-use Rattle.flow_lines.specs.declared.hop.Hop.{Hop}
+use Rattle.label_commands.specs.declared.flow_lines.hop.Hop.{Hop}
 use Rattle.shared_tables.specs.Plan.{PlanState}
 use Rattle.shared_tables.specs.Board.{ViewerState}
-use Rattle.packet_walk.specs.declared.packet.PacketIn.{PacketIn}
-use Rattle.packet_walk.specs.declared.walked.End.{End}
-use Rattle.packet_walk.specs.Walk.{IsWalkOf}
-use Rattle.packet_walk.proofs.Law.{walks_end_in_one_way, walks_agree_on_a_beginning}
+use Rattle.captures.specs.declared.packet_in.PacketIn.{PacketIn}
+use Rattle.label_flow.specs.declared.packet_walk.walked.End.{End}
+use Rattle.label_flow.specs.packet_walk.Walk.{IsWalkOf}
+use Rattle.label_flow.proofs.packet_walk.Law.{walks_end_in_one_way, walks_agree_on_a_beginning}
 use Rattle.label_flow.specs.Pair.{PairState}
 use Rattle.label_flow.specs.Round.{pick, IsWork, AreRounds, IsRound}
 use Rattle.label_flow.specs.Schedule.{in_a_row, versions_in, AreLawful}

@@ -4,11 +4,11 @@ use Rattle.std.proofs.lemmas.Bool.Decides.{nat_tests}
 use Rattle.std.proofs.lemmas.List.{append-nil}
 use Rattle.std.proofs.lemmas.List.Elements.{All-nil, All-cons, All-head, All-tail, All-append}
 use Rattle.std.proofs.lemmas.Nat.{mod_below}
-use Rattle.flow_lines.specs.declared.hop.Hop.{Hop}
+use Rattle.label_commands.specs.declared.flow_lines.hop.Hop.{Hop}
 use Rattle.shared_tables.specs.Plan.{PlanState}
-use Rattle.packet_walk.specs.declared.packet.PacketIn.{PacketIn}
-use Rattle.packet_walk.specs.Walk.{Rises}
-use Rattle.packet_walk.proofs.Law.{walks_are_cut_in_one_way}
+use Rattle.captures.specs.declared.packet_in.PacketIn.{PacketIn}
+use Rattle.label_flow.specs.packet_walk.Walk.{Rises}
+use Rattle.label_flow.proofs.packet_walk.Law.{walks_are_cut_in_one_way}
 use Rattle.label_flow.specs.Round.{pick}
 use Rattle.label_flow.specs.Schedule.{in_a_row, AreLawful}
 use Rattle.label_flow.proofs.Dealt.{AreSeen, all_seen}

@@ -5,7 +5,7 @@ use Rattle.std.proofs.lemmas.List.{take_more, length-take, length-append, take-a
 use Rattle.std.proofs.lemmas.Option.{get_or_from_slice_get, slice_get-get_or, slice_get_within}
 use Rattle.std.proofs.Math.Seq.{drop-cons}
 use Rattle.label_flow.specs.Pair.{PairState}
-use Rattle.packet_walk.specs.declared.packet.PacketIn.{PacketIn}
+use Rattle.captures.specs.declared.packet_in.PacketIn.{PacketIn}
 use Rattle.label_flow.specs.Round.{pick}
 use Rattle.label_flow.specs.inside.Work.{AreFirst}
 use Rattle.label_flow.proofs.Works.{pick-append, pick_mine, pick_other}

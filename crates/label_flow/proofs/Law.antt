@@ -1,9 +1,9 @@
 -- The laws of src/laws.rt under their names, for the crates above.
 use Rattle.std.proofs.Common.{◌≡◌, ℕ, ◌+◌, ◌<◌, ◌≤◌, List, All, length, take}
-use Rattle.flow_lines.specs.declared.hop.Hop.{Hop}
+use Rattle.label_commands.specs.declared.flow_lines.hop.Hop.{Hop}
 use Rattle.shared_tables.specs.Plan.{PlanState}
 use Rattle.shared_tables.specs.Board.{ViewerState}
-use Rattle.packet_walk.specs.declared.packet.PacketIn.{PacketIn}
+use Rattle.captures.specs.declared.packet_in.PacketIn.{PacketIn}
 use Rattle.label_flow.specs.Schedule.{FlowEvent, AreLawful, IsPlay, by_version, rows_by, versions_in}
 use Rattle.label_flow.specs.Pair.{PairState}
 use Rattle.label_flow.specs.Round.{IsRound}

@@ -1,9 +1,9 @@
 -- What a round was for its viewers, once each has learned of what was judged in its name.
 use Rattle.std.proofs.Common.{◌≡◌, ℕ, suc, ◌+◌, ◌<◌, ◌≤◌, max, List, [], ◌∷◌, length, get_or, All, Bool, Option, Result, Ok, Err, OnOk, append-nil, refl, sym, ◌∙◌, ap, subst, le_trans, arith}
-use Rattle.flow_lines.specs.declared.hop.Hop.{Hop}
+use Rattle.label_commands.specs.declared.flow_lines.hop.Hop.{Hop}
 use Rattle.shared_tables.specs.Plan.{PlanState}
 use Rattle.shared_tables.specs.Board.{ViewerState}
-use Rattle.packet_walk.specs.declared.packet.PacketIn.{PacketIn}
+use Rattle.captures.specs.declared.packet_in.PacketIn.{PacketIn}
 use Rattle.label_flow.specs.Pair.{PairState}
 use Rattle.label_flow.specs.Feed.{AreWhole}
 use Rattle.label_flow.specs.Stops.{IsStop}

@@ -1,9 +1,9 @@
 -- A schedule gives one list of versions.
 use Rattle.std.proofs.Common.{◌≡◌, ℕ, ◌+◌, ◌%◌, List, [], ◌∷◌, ◌++◌, refl, sym, ◌∙◌, ap, subst}
-use Rattle.flow_lines.specs.declared.hop.Hop.{Hop}
+use Rattle.label_commands.specs.declared.flow_lines.hop.Hop.{Hop}
 use Rattle.shared_tables.specs.Plan.{PlanState}
-use Rattle.packet_walk.specs.declared.packet.PacketIn.{PacketIn}
-use Rattle.packet_walk.proofs.Law.{walks_are_cut_in_one_way}
+use Rattle.captures.specs.declared.packet_in.PacketIn.{PacketIn}
+use Rattle.label_flow.proofs.packet_walk.Law.{walks_are_cut_in_one_way}
 use Rattle.label_flow.specs.Schedule.{FlowEvent, looks_of, left_to, AreJudged, IsPlay}
 use Rattle.label_flow.proofs.EachWalk.{rest_same, cons_same}
 

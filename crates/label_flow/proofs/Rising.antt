@@ -1,7 +1,7 @@
 -- Versions that don't fall.
 use Rattle.std.proofs.Common.{ℕ, ◌≤◌, List, [], ◌∷◌, All, le_trans}
 use Rattle.std.proofs.lemmas.List.Elements.{All-nil, All-cons}
-use Rattle.packet_walk.specs.Walk.{Rises}
+use Rattle.label_flow.specs.packet_walk.Walk.{Rises}
 
 pub rises_lower : (low' low high : ℕ) (vs : List ℕ) → low' ≤ low → Rises low high vs → Rises low' high vs
 rises_lower low' low high [] down h = le_trans down h

@@ -4,10 +4,10 @@ use Rattle.std.proofs.Math.Nat.{eq-or-lt_of_le}
 use Rattle.std.proofs.lemmas.Bool.{cases_lt}
 use Rattle.std.proofs.lemmas.Bool.Decides.{nat_tests}
 use Rattle.std.proofs.lemmas.Nat.{mod_below}
-use Rattle.flow_lines.specs.declared.hop.Hop.{Hop}
+use Rattle.label_commands.specs.declared.flow_lines.hop.Hop.{Hop}
 use Rattle.shared_tables.specs.Plan.{PlanState}
-use Rattle.packet_walk.specs.declared.packet.PacketIn.{PacketIn}
-use Rattle.packet_walk.specs.Walk.{Rises}
+use Rattle.captures.specs.declared.packet_in.PacketIn.{PacketIn}
+use Rattle.label_flow.specs.packet_walk.Walk.{Rises}
 use Rattle.label_flow.specs.Round.{pick}
 use Rattle.label_flow.specs.Schedule.{FlowEvent, step, look, looks_of, steps_in, in_a_row, AreLawful, IsPlay, times, looks_at, by_version, rows_by}
 use Rattle.label_flow.proofs.Rising.{rises_lower, rises_later}

@@ -4,10 +4,10 @@ use Rattle.std.proofs.lemmas.Bool.Decides.{nat_tests}
 use Rattle.std.proofs.lemmas.List.{take_more, length-take}
 use Rattle.shared_tables.specs.Plan.{PlanState, reply_after}
 use Rattle.node_tables.specs.declared.reply.Reply.{Reply}
-use Rattle.flow_lines.specs.declared.hop.Hop.{Hop}
+use Rattle.label_commands.specs.declared.flow_lines.hop.Hop.{Hop}
 use Rattle.label_flow.specs.Pair.{PairState}
-use Rattle.packet_walk.specs.declared.packet.PacketIn.{PacketIn}
-use Rattle.packet_walk.specs.Walk.{IsWalked}
+use Rattle.captures.specs.declared.packet_in.PacketIn.{PacketIn}
+use Rattle.label_flow.specs.packet_walk.Walk.{IsWalked}
 use Rattle.shared_tables.specs.Board.{ViewerState}
 use Rattle.label_flow.specs.Round.{pick, IsWork, AreLater, AreReplies}
 use Rattle.label_flow.proofs.Rising.{rises_lower}

@@ -1,8 +1,8 @@
 -- What a feed gives and takes.
 use Rattle.std.specs.Prelude.{◌≡◌, ℕ, ◌<◌, ◌≤◌, Bool, true, false, List, [], ◌++◌, length, Option, Some, None, All}
-use Rattle.packet_walk.specs.declared.walked.End.{End}
-use Rattle.packet_walk.specs.declared.walked.End.TheVariants as the_end
-use Rattle.packet_walk.specs.declared.packet.PacketIn.{PacketIn}
+use Rattle.label_flow.specs.declared.packet_walk.walked.End.{End}
+use Rattle.label_flow.specs.declared.packet_walk.walked.End.TheVariants as the_end
+use Rattle.captures.specs.declared.packet_in.PacketIn.{PacketIn}
 
 -- the batch is the front of what was left, where that is told
 abbrev pub AreFetched : Option (List PacketIn) → List PacketIn → Option (List PacketIn) → Type 0

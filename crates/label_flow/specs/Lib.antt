@@ -5,3 +5,6 @@ pub mod Stops
 pub mod inside
 pub mod Schedule
 pub mod Walked
+pub mod packet_walk
+pub mod node_agreement
+pub mod flow_access

@@ -1,6 +1,6 @@
 -- What a feed is given for a packet.
 use Rattle.std.specs.Prelude.{ℕ, List}
-use Rattle.packet_walk.specs.declared.walked.Walked.{Walked}
+use Rattle.label_flow.specs.declared.packet_walk.walked.Walked.{Walked}
 
 -- what became of a packet, and the octets that its walk left
 pub record PairState : Type 0 where

@@ -1,11 +1,11 @@
 -- The packets of a flow, each judged by the worker of its number, beside the steps of a plan.
 use Rattle.std.specs.Prelude.{◌≡◌, ℕ, ◌+◌, ◌%◌, ◌≤◌, List, [], ◌∷◌, nat_eq, cond, length, Some}
-use Rattle.flow_lines.specs.declared.hop.Hop.{Hop}
+use Rattle.label_commands.specs.declared.flow_lines.hop.Hop.{Hop}
 use Rattle.node_tables.specs.declared.reply.Reply.{Reply}
 use Rattle.shared_tables.specs.Plan.{PlanState, reply_after}
 use Rattle.shared_tables.specs.Board.{ViewerState}
-use Rattle.packet_walk.specs.declared.packet.PacketIn.{PacketIn}
-use Rattle.packet_walk.specs.Walk.{IsWalked}
+use Rattle.captures.specs.declared.packet_in.PacketIn.{PacketIn}
+use Rattle.label_flow.specs.packet_walk.Walk.{IsWalked}
 use Rattle.label_flow.specs.Pair.{PairState}
 
 -- of what stands from number n on, counted from 0, that of worker k among w

@@ -1,11 +1,11 @@
 -- Some order of the publisher's steps and the workers' looks, and the versions that it gives.
 use Rattle.std.specs.Prelude.{◌≡◌, ℕ, suc, zero, ◌+◌, ◌<◌, ◌%◌, List, [], ◌∷◌, ◌++◌, length, map, nat_eq, cond, replicate}
 use Rattle.std.specs.List.{AllZip}
-use Rattle.flow_lines.specs.declared.hop.Hop.{Hop}
+use Rattle.label_commands.specs.declared.flow_lines.hop.Hop.{Hop}
 use Rattle.shared_tables.specs.Plan.{PlanState}
-use Rattle.packet_walk.specs.declared.packet.PacketIn.{PacketIn}
-use Rattle.packet_walk.specs.declared.walked.End.{End}
-use Rattle.packet_walk.specs.Walk.{IsWalkOf, Rises}
+use Rattle.captures.specs.declared.packet_in.PacketIn.{PacketIn}
+use Rattle.label_flow.specs.declared.packet_walk.walked.End.{End}
+use Rattle.label_flow.specs.packet_walk.Walk.{IsWalkOf, Rises}
 use Rattle.label_flow.specs.Pair.{PairState}
 use Rattle.label_flow.specs.Round.{pick}
 

@@ -1,10 +1,10 @@
 -- What became of packets, one after the other, each by the walk under its own versions.
 use Rattle.std.specs.Prelude.{List, length, take}
 use Rattle.std.specs.List.{AllZip}
-use Rattle.flow_lines.specs.declared.hop.Hop.{Hop}
+use Rattle.label_commands.specs.declared.flow_lines.hop.Hop.{Hop}
 use Rattle.shared_tables.specs.Plan.{PlanState}
-use Rattle.packet_walk.specs.declared.packet.PacketIn.{PacketIn}
-use Rattle.packet_walk.specs.Walk.{IsWalkOf}
+use Rattle.captures.specs.declared.packet_in.PacketIn.{PacketIn}
+use Rattle.label_flow.specs.packet_walk.Walk.{IsWalkOf}
 use Rattle.label_flow.specs.Pair.{PairState}
 
 -- each of these is what became of one of the first packets, in their order

@@ -2,11 +2,11 @@
 
 ghost use Rattle.std.specs.Prelude.{◌≡◌, ℕ, List, Option, [], None, max, true};
 ghost use Rattle.shared_tables.specs.Plan.{PlanState};
-ghost use Rattle.flow_lines.specs.declared.hop.Hop.{Hop};
-ghost use Rattle.packet_walk.specs.declared.packet.PacketIn.{PacketIn};
+ghost use Rattle.label_commands.specs.declared.flow_lines.hop.Hop.{Hop};
+ghost use Rattle.captures.specs.declared.packet_in.PacketIn.{PacketIn};
 
 use crate::trays::Trays;
-use flow_lines::FlowLine;
+use label_commands::FlowLine;
 use shared_tables::{Note, Viewer};
 use std::alloc::Global;
 use std::marker::{Brand, Model, PhantomData};

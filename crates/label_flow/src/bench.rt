@@ -4,10 +4,10 @@ ghost use Rattle.std.specs.Prelude.{◌≡◌, ◌+◌, ◌<◌, ◌≤◌, [], 
 ghost use Rattle.label_flow.specs.Round.{IsLater};
 ghost use Rattle.label_flow.specs.inside.Work.{HasNodes, IsOneMore};
 
+use crate::packet_walk::{Gate, PacketIn, WalkRoom, Worker};
 use crate::pair::PairSlot;
 use crossbeam_utils::CachePadded;
 use mls_label::OutOfMemory;
-use packet_walk::{Gate, PacketIn, WalkRoom, Worker};
 use shared_tables::Viewer;
 use std::alloc::Global;
 use std::marker::Model;

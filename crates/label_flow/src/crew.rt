@@ -9,10 +9,10 @@ ghost use Rattle.label_flow.specs.inside.Crew.{IsServant, IsHere, MayOrder, IsSh
 use crate::agreed::{Agreed, Seen, Shift};
 use crate::bench::Bench;
 use crate::order::{Order, Share, judge, order_at};
+use crate::packet_walk::{Gate, ShownWalks, WalkRoom};
 use crate::trays::Answer;
 use crate::work::{Batch, Part};
 use mls_label::OutOfMemory;
-use packet_walk::{Gate, ShownWalks, WalkRoom};
 use shared_tables::Viewer;
 use std::mem;
 use std::sync::{Arc, Wait};

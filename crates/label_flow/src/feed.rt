@@ -1,13 +1,13 @@
 //! Feeds.
 
-use packet_walk::{PacketIn, Walked};
+use crate::packet_walk::{PacketIn, Walked};
 
 /// Where packets come from, and where what became of them goes.
 pub trait Feed {
     type Stop: Send + Drop;
 
     ghost use Rattle.std.specs.Prelude.{◌≡◌, ◌⊎◌, ℕ, ◌+◌, ◌<◌, ◌≤◌, Bool, true, false, List, [], ◌∷◌, ◌++◌, Option, Some, length, IfOk, IfErr, OnOk, OnErr};
-    ghost use Rattle.packet_walk.specs.declared.packet.PacketIn.{PacketIn};
+    ghost use Rattle.captures.specs.declared.packet_in.PacketIn.{PacketIn};
     ghost use Rattle.label_flow.specs.Pair.{PairState, pair};
     ghost use Rattle.label_flow.specs.Feed.{HasFetched, MayAccept};
 

@@ -1,10 +1,10 @@
 //! What the definitions are worth, whatever the code does.
 
 ghost use Rattle.std.specs.Prelude.{◌≡◌, ℕ, ◌+◌, ◌<◌, ◌≤◌, List, All, length, take};
-ghost use Rattle.flow_lines.specs.declared.hop.Hop.{Hop};
+ghost use Rattle.label_commands.specs.declared.flow_lines.hop.Hop.{Hop};
 ghost use Rattle.shared_tables.specs.Plan.{PlanState};
 ghost use Rattle.shared_tables.specs.Board.{ViewerState};
-ghost use Rattle.packet_walk.specs.declared.packet.PacketIn.{PacketIn};
+ghost use Rattle.captures.specs.declared.packet_in.PacketIn.{PacketIn};
 ghost use Rattle.label_flow.specs.Pair.{PairState};
 ghost use Rattle.label_flow.specs.Round.{IsRound};
 ghost use Rattle.label_flow.specs.Walked.{AreWalked};

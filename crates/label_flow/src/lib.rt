@@ -8,14 +8,21 @@ mod agreed;
 mod bench;
 mod crew;
 mod feed;
+pub mod flow_access;
 pub mod laws;
+pub mod node_agreement;
 mod order;
+pub mod packet_walk;
 mod pair;
 mod rounds;
 mod staff;
 mod trays;
 mod work;
 
+pub use crate::node_agreement::{Disagree, Proto, agrees};
+pub use crate::packet_walk::{
+    End, Gate, Octets, OpenGate, PacketIn, ShownWalks, StepTables, Versions, VersionsStop,
+    WalkRoom, Walked, WalkedSlot, Worker, rise, walk, walk_into, walk_named,
+};
 pub use feed::Feed;
-pub use packet_walk::{End, Gate, Octets, OpenGate, PacketIn, Versions, Walked, walk};
 pub use rounds::{RoundStop, round};

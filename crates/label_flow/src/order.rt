@@ -8,9 +8,9 @@ ghost use Rattle.label_flow.specs.inside.Crew.{MayOrder, IsShare, IsServant, IsH
 
 use crate::agreed::{Agreed, Seen, Shift};
 use crate::bench::Bench;
+use crate::packet_walk::{Gate, WalkRoom, Worker};
 use crate::work::{Batch, PART, Part, work};
 use mls_label::OutOfMemory;
-use packet_walk::{Gate, WalkRoom, Worker};
 use shared_tables::Viewer;
 use std::marker::Model;
 use std::sync::Arc;

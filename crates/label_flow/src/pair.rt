@@ -4,8 +4,8 @@ ghost use Rattle.std.specs.Prelude.{◌≡◌, OnOk};
 ghost use Rattle.label_flow.specs.Round.{IsLater};
 ghost use Rattle.label_flow.specs.inside.Work.{HasNodes, IsWalkedBy};
 
+use crate::packet_walk::{Gate, PacketIn, WalkRoom, WalkedSlot, Worker, walk_into};
 use mls_label::OutOfMemory;
-use packet_walk::{Gate, PacketIn, WalkRoom, WalkedSlot, Worker, walk_into};
 use shared_tables::Viewer;
 use std::alloc::Global;
 use std::marker::Model;

@@ -2,8 +2,8 @@
 
 ghost use Rattle.std.specs.Prelude.{◌≡◌, ◌+◌, ◌*◌, ◌<◌, ◌≤◌, ◌^◌, List, [], ◌++◌, length, All, IfOk, IfErr, OnOk, Some, None, true, false};
 ghost use Rattle.std.specs.Arc.{arc_value};
-ghost use Rattle.flow_lines.specs.Hop.{node_of};
-ghost use Rattle.packet_walk.specs.declared.packet.PacketIn.{PacketIn};
+ghost use Rattle.label_commands.specs.flow_lines.Hop.{node_of};
+ghost use Rattle.captures.specs.declared.packet_in.PacketIn.{PacketIn};
 ghost use Rattle.label_flow.specs.Pair.{PairState};
 ghost use Rattle.label_flow.specs.Feed.{AreFetched, HasFetched, IsOver, AreBegun, AreWhole};
 ghost use Rattle.label_flow.specs.Round.{AreReplies, IsLater, AreLater, IsRound};
@@ -18,12 +18,12 @@ use crate::agreed::{Agreed, Shift};
 use crate::bench::Bench;
 use crate::crew::{Crew, gather, order_all};
 use crate::feed::Feed;
+use crate::packet_walk::{Gate, PacketIn, ShownWalks};
 use crate::staff::all_batches;
 use crate::work::{Batch, PART, next_turn};
-use flow_lines::FlowLine;
+use label_commands::FlowLine;
 use mls_label::OutOfMemory;
 use node_tables::Reply;
-use packet_walk::{Gate, PacketIn, ShownWalks};
 use shared_tables::{Publisher, Viewer};
 use std::alloc::Global;
 use std::sync::{Arc, Wait};

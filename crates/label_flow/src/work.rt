@@ -5,8 +5,8 @@ ghost use Rattle.label_flow.specs.Round.{pick, IsWork, IsLater};
 ghost use Rattle.label_flow.specs.inside.Work.{HasNodes, part_at};
 
 use crate::bench::Bench;
+use crate::packet_walk::{Gate, PacketIn, WalkRoom, Worker};
 use mls_label::OutOfMemory;
-use packet_walk::{Gate, PacketIn, WalkRoom, Worker};
 use shared_tables::Viewer;
 use std::alloc::Global;
 

@@ -1,7 +1,7 @@
 -- The laws of src/laws.rt under their names, for the crates above.
 use Rattle.std.proofs.Common.{◌≡◌, ◌⊎◌, ℕ, ◌+◌, List, None, Ok, Err}
 use Rattle.std.specs.Prelude.{unwrap_or, Option}
-use Rattle.octet_grammar.specs.Octets.{IsOctets}
+use Rattle.mls_label.specs.octet_grammar.Octets.{IsOctets}
 use Rattle.mls_label.specs.declared.label.Label.{Label}
 use Rattle.mls_label.specs.Label.{IsLabel}
 use Rattle.domain_map.specs.declared.protocol.Protocol.{Protocol}

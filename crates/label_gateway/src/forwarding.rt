@@ -12,8 +12,7 @@ ghost use Rattle.label_gateway.specs.inside.Going.{CanGoOnFrom};
 ghost use Rattle.label_gateway.specs.inside.Protocol.{forwarded_with};
 
 use crate::onward::{go_on, hops_of};
-use address_text::Name;
-use domain_map::Protocol;
+use domain_map::{Name, Protocol};
 use label_receive::{Room, arrival_is_outside, destination_of, fault_denial, labels_into};
 use label_send::carrier_of;
 use mls_label::Label;

@@ -1,7 +1,7 @@
 //! What the definitions are worth, whatever the code does.
 
 ghost use Rattle.std.specs.Prelude.{◌≡◌, ◌⊎◌, ℕ, ◌+◌, List, None, Ok, Err, unwrap_or, Option};
-ghost use Rattle.octet_grammar.specs.Octets.{IsOctets};
+ghost use Rattle.mls_label.specs.octet_grammar.Octets.{IsOctets};
 ghost use Rattle.mls_label.specs.declared.label.Label.{Label};
 ghost use Rattle.mls_label.specs.Label.{IsLabel};
 ghost use Rattle.domain_map.specs.declared.protocol.Protocol.{Protocol};

@@ -9,7 +9,7 @@ use Rattle.ip_headers.specs.Packet.{ParsedPacket}
 use Rattle.packet_label.specs.declared.denial.Denial.{Denial}
 use Rattle.packet_label.specs.declared.denial.Denial.TheVariants.{OutsideRange, NoReceiver, MapRefuses, NotDominated, BelowRange}
 use Rattle.packet_label.specs.declared.packet.Wire.{Wire}
-use Rattle.address_text.specs.declared.address.Address.{Address}
+use Rattle.domain_map.specs.declared.address_text.address.Address.{Address}
 use Rattle.domain_map.specs.Domains.{Domains}
 use Rattle.node_tables.specs.declared.receiver.Receiver.{Receiver}
 use Rattle.node_tables.specs.Tables.{TableState, find_receiver_of}

@@ -20,8 +20,8 @@ use Rattle.packet_label.specs.declared.denial.Denial.{Denial}
 use Rattle.packet_label.specs.declared.denial.Denial.TheVariants.{Unlabelled, NoStatic, UnknownDoi, TagNotAllowed, LevelUnmapped, CategoryUnmapped, OutsideRange, BelowRange}
 use Rattle.packet_label.specs.declared.packet.Wire.{Wire}
 use Rattle.packet_label.specs.declared.packet.Wire.TheVariants.{Cipso, Calipso}
-use Rattle.address_text.specs.declared.address.Address.{Address}
-use Rattle.address_text.specs.Address.{same_address}
+use Rattle.domain_map.specs.declared.address_text.address.Address.{Address}
+use Rattle.domain_map.specs.address_text.Address.{same_address}
 use Rattle.domain_map.specs.Domains.{Domains}
 use Rattle.domain_map.specs.Statics.{find_static_of}
 use Rattle.node_tables.specs.declared.receiver.Receiver.{Receiver}

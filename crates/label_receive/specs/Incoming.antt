@@ -18,8 +18,8 @@ use Rattle.doi_table.specs.declared.unmapped.Unmapped.{Unmapped}
 use Rattle.doi_table.specs.declared.unmapped.Unmapped.TheVariants.{Level, Category}
 use Rattle.doi_table.specs.Table.{Entries, definition_of}
 use Rattle.doi_table.specs.Translation.{local_label}
-use Rattle.address_text.specs.declared.address.Address.{Address}
-use Rattle.address_text.specs.declared.address.Address.TheVariants.{V4, V6}
+use Rattle.domain_map.specs.declared.address_text.address.Address.{Address}
+use Rattle.domain_map.specs.declared.address_text.address.Address.TheVariants.{V4, V6}
 use Rattle.domain_map.specs.Statics.{find_static_of}
 use Rattle.node_tables.specs.Tables.{TableState}
 

@@ -8,7 +8,7 @@ use Rattle.packet_label.specs.declared.denial.Carrier.TheVariants as carried
 use Rattle.packet_label.specs.declared.denial.Denial.{Denial}
 use Rattle.packet_label.specs.declared.denial.Denial.TheVariants.{OutsideRange, NoReceiver, MapRefuses, NotDominated, BelowRange}
 use Rattle.packet_label.specs.declared.packet.Wire.{Wire}
-use Rattle.address_text.specs.declared.address.Address.{Address}
+use Rattle.domain_map.specs.declared.address_text.address.Address.{Address}
 use Rattle.domain_map.specs.declared.protocol.Protocol.{Protocol}
 use Rattle.domain_map.specs.declared.protocol.Protocol.TheVariants.{Unlbl, Cipso, Calipso}
 use Rattle.domain_map.specs.Domains.{Domains, find_of}

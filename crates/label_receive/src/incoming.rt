@@ -8,8 +8,8 @@ ghost use Rattle.packet_label.specs.Wire.{marked_wire, wire_with, wire_place};
 ghost use Rattle.label_receive.specs.Incoming.{address_in, static_labels, translated, lists_tag, option_labels, label_of};
 ghost use Rattle.label_receive.specs.Arrival.{incoming_with, incoming_as};
 
-use address_text::{Address, Name};
 use doi_table::{DoiDef, DoiTable, Proto, Unmapped, to_local_into};
+use domain_map::{Address, Name};
 use mls_label::{Label, Tag};
 use node_tables::Tables;
 use packet_label::{Carrier, Denial, Mark, Marked, Packet};

@@ -6,7 +6,7 @@ ghost use Rattle.label_receive.specs.Arrival.{incoming_with};
 ghost use Rattle.label_receive.specs.Range.{in_range, is_outside};
 
 use crate::incoming::Arrival;
-use address_text::Name;
+use domain_map::Name;
 use mls_label::Label;
 use mls_range::Range;
 use node_tables::Tables;

@@ -4,7 +4,7 @@ use Rattle.std.specs.Prelude.{IsTrue, unwrap_or}
 use Rattle.mls_label.specs.declared.label.Label.{Label}
 use Rattle.mls_label.specs.Label.{IsLabel}
 use Rattle.doi_table.specs.Table.{Entries}
-use Rattle.address_text.specs.declared.address.Address.{Address}
+use Rattle.domain_map.specs.declared.address_text.address.Address.{Address}
 use Rattle.domain_map.specs.declared.protocol.Protocol.{Protocol}
 use Rattle.domain_map.specs.Domains.{Domains, find_of}
 use Rattle.ip_headers.specs.declared.version.Version.{Version}

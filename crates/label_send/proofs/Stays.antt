@@ -11,7 +11,7 @@ use Rattle.doi_table.specs.declared.plan.DoiPlan.{DoiPlan}
 use Rattle.doi_table.specs.declared.unmapped.Unmapped.{Unmapped}
 use Rattle.doi_table.specs.Table.{Entries, definition_of}
 use Rattle.doi_table.specs.Translation.{wire_label}
-use Rattle.address_text.specs.declared.address.Address.{Address}
+use Rattle.domain_map.specs.declared.address_text.address.Address.{Address}
 use Rattle.domain_map.specs.declared.protocol.Protocol.{Protocol}
 use Rattle.domain_map.specs.declared.protocol.Protocol.TheVariants.{Unlbl, Cipso, Calipso}
 use Rattle.domain_map.specs.Domains.{Domains, find_of}

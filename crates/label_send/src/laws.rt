@@ -4,7 +4,7 @@ ghost use Rattle.std.specs.Prelude.{◌≡◌, ℕ, ◌<◌, List, None, Some, O
 ghost use Rattle.mls_label.specs.declared.label.Label.{Label};
 ghost use Rattle.mls_label.specs.Label.{IsLabel};
 ghost use Rattle.doi_table.specs.Table.{Entries};
-ghost use Rattle.address_text.specs.declared.address.Address.{Address};
+ghost use Rattle.domain_map.specs.declared.address_text.address.Address.{Address};
 ghost use Rattle.domain_map.specs.declared.protocol.Protocol.{Protocol};
 ghost use Rattle.domain_map.specs.Domains.{Domains, find_of};
 ghost use Rattle.ip_headers.specs.declared.version.Version.{Version};

@@ -10,8 +10,7 @@ ghost use Rattle.label_send.specs.inside.Protocol.{sent_with};
 
 use crate::protocol::{carrier_of, suits};
 use crate::under::{denied, send_under};
-use address_text::Name;
-use domain_map::Protocol;
+use domain_map::{Name, Protocol};
 use ip_headers::Version;
 use label_receive::{destination_of, label_is_outside};
 use mls_label::Label;

@@ -2,12 +2,16 @@
 #![tactic(auto)]
 
 #[cfg(test)]
-mod bitmaps;
+mod of_calipso_option;
 #[cfg(test)]
-mod calipso;
+mod of_category_bitmap;
 #[cfg(test)]
-mod cipso;
+mod of_cipso_option;
 #[cfg(test)]
-mod packets;
+mod of_cipso_tags;
 #[cfg(test)]
-mod tags;
+mod of_packet_label;
+#[cfg(test)]
+mod of_ripso_option;
+#[cfg(test)]
+mod of_version_cross;

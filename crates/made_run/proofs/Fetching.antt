@@ -2,9 +2,9 @@
 use Rattle.std.proofs.Common.{◌≡◌, ◌<◌, ◌≤◌, ℕ, ◌+◌, ◌-◌, min, true, false, nat_eq, nat_lt, List, ◌++◌, length, All, Some, sym, ap, subst, ◌∙◌, arith}
 use Rattle.std.proofs.lemmas.Bool.Decides.{nat_tests}
 use Rattle.net_io.specs.Depot.{DepotState}
-use Rattle.packet_walk.specs.declared.packet.PacketIn.{PacketIn}
+use Rattle.captures.specs.declared.packet_in.PacketIn.{PacketIn}
 use Rattle.label_flow.specs.Feed.{HasFetched}
-use Rattle.made_capture.specs.Maker.{Making}
+use Rattle.made_run.specs.made_capture.Maker.{Making}
 use Rattle.made_run.specs.inside.Source.{packets_made, IsBegunUpTo}
 use Rattle.made_run.proofs.Steps.{packets_split, packets_count, packets_short, begun_up_to}
 

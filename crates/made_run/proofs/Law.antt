@@ -2,7 +2,7 @@
 use Rattle.std.proofs.Common.{◌≡◌, ◌↔◌, ℕ, ◌+◌}
 use Rattle.std.specs.Prelude.{IsOk}
 use Rattle.mls_label.specs.Label.{Dominates}
-use Rattle.made_capture.specs.Packet.{label_made}
+use Rattle.made_run.specs.made_capture.Packet.{label_made}
 use Rattle.made_run.specs.Network.{receiver_level}
 use Rattle.made_run.specs.Verdict.{made_verdict, delivered_made, denied_made}
 use Rattle.made_run.proofs.Received.{is_delivered_where, all_judged}

@@ -6,14 +6,14 @@ use Rattle.std.proofs.lemmas.List.{append-nil}
 use Rattle.net_io.specs.Depot.{DepotState}
 use Rattle.net_io.specs.Faults.{Rose, SameCounts}
 use Rattle.pcap_frames.specs.Written.{capture_head_octets}
-use Rattle.flow_lines.specs.declared.hop.Hop.{Hop}
+use Rattle.label_commands.specs.declared.flow_lines.hop.Hop.{Hop}
 use Rattle.shared_tables.specs.Board.{ViewerState}
-use Rattle.packet_walk.specs.declared.packet.PacketIn.{PacketIn}
+use Rattle.captures.specs.declared.packet_in.PacketIn.{PacketIn}
 use Rattle.label_flow.specs.Pair.{PairState}
 use Rattle.label_flow.specs.Round.{IsRound}
-use Rattle.made_capture.specs.Capture.{capture_made}
-use Rattle.made_capture.specs.Maker.{Making}
-use Rattle.made_capture.proofs.Law.{captures_grow_by_a_frame}
+use Rattle.made_run.specs.made_capture.Capture.{capture_made}
+use Rattle.made_run.specs.made_capture.Maker.{Making}
+use Rattle.made_run.proofs.made_capture.Law.{captures_grow_by_a_frame}
 use Rattle.made_run.specs.declared.feed.MakeFeed.{MakeFeed}
 use Rattle.made_run.specs.declared.stop.MadeStop.{MadeStop}
 use Rattle.made_run.specs.declared.stop.MadeStop.TheVariants.{Create, Append, OutOfMemory}

@@ -15,11 +15,11 @@ use Rattle.packet_label.specs.declared.denial.Carrier.TheVariants as carried
 use Rattle.packet_label.specs.declared.denial.Denial.{Denial}
 use Rattle.packet_label.specs.declared.packet.Wire.{Wire}
 use Rattle.packet_label.specs.declared.packet.Wire.TheVariants as wire
-use Rattle.address_text.specs.declared.address.Address.TheVariants as address
+use Rattle.domain_map.specs.declared.address_text.address.Address.TheVariants as address
 use Rattle.domain_map.specs.declared.protocol.Protocol.TheVariants.{Cipso}
 use Rattle.domain_map.specs.declared.rule.Rule.TheVariants.{Plain}
 use Rattle.domain_map.specs.Domains.{added, find_of}
-use Rattle.command_values.specs.Ranges.{range_below}
+use Rattle.script_lines.specs.command_values.Ranges.{range_below}
 use Rattle.node_tables.specs.declared.receiver.Receiver.{Receiver}
 use Rattle.node_tables.specs.Tables.{TableState, fresh, find_receiver_of}
 use Rattle.node_tables.specs.Effect.{effect_of, pass_plan, receiver_of}
@@ -28,8 +28,8 @@ use Rattle.label_receive.specs.Incoming.{Incoming, address_in, static_labels, op
 use Rattle.label_receive.specs.Range.{is_outside}
 use Rattle.label_receive.specs.Receive.{map_refuses, receive_of}
 use Rattle.label_receive.proofs.Law.{delivered_packets_are_due, due_packets_are_delivered}
-use Rattle.made_capture.specs.Number.{number_at}
-use Rattle.made_capture.specs.Packet.{label_made, packet_said}
+use Rattle.made_run.specs.made_capture.Number.{number_at}
+use Rattle.made_run.specs.made_capture.Packet.{label_made, packet_said}
 use Rattle.made_run.specs.Network.{receiver_level, receiver_address, made_node}
 use Rattle.made_run.specs.Verdict.{made_verdict, delivered_made, denied_made}
 

@@ -7,24 +7,24 @@ use Rattle.packet_label.specs.declared.denial.Denial.{Denial}
 use Rattle.packet_label.specs.declared.fault.CarryFault.{CarryFault}
 use Rattle.packet_label.specs.declared.packet.Wire.{Wire}
 use Rattle.ip_headers.specs.Packet.{ParsedPacket}
-use Rattle.flow_lines.specs.declared.hop.Hop.TheVariants.{Receive}
+use Rattle.label_commands.specs.declared.flow_lines.hop.Hop.TheVariants.{Receive}
 use Rattle.node_tables.specs.Tables.{TableState}
 use Rattle.label_receive.specs.declared.receiving.Delivered.{Delivered}
 use Rattle.label_receive.specs.Receive.{receive_of}
 use Rattle.shared_tables.specs.Plan.{network_after}
 use Rattle.shared_tables.specs.Board.{ViewerState}
-use Rattle.packet_walk.specs.declared.packet.PacketIn.{PacketIn}
-use Rattle.packet_walk.specs.declared.walked.End.{End}
-use Rattle.packet_walk.specs.declared.walked.End.TheVariants as the_end
-use Rattle.packet_walk.specs.Walk.{Coming, tables_of, arrives, verdict_of, hop_verdict, Follows, IsWalk, IsWalkOf, Rises}
+use Rattle.captures.specs.declared.packet_in.PacketIn.{PacketIn}
+use Rattle.label_flow.specs.declared.packet_walk.walked.End.{End}
+use Rattle.label_flow.specs.declared.packet_walk.walked.End.TheVariants as the_end
+use Rattle.label_flow.specs.packet_walk.Walk.{Coming, tables_of, arrives, verdict_of, hop_verdict, Follows, IsWalk, IsWalkOf, Rises}
 use Rattle.label_flow.specs.Pair.{PairState}
 use Rattle.label_flow.specs.Round.{pick, IsRound}
 use Rattle.label_flow.specs.Schedule.{AreLawful, IsSeen, in_a_row, versions_in}
 use Rattle.label_flow.specs.Walked.{AreWalked}
 use Rattle.label_flow.proofs.Law.{rounds_are_lawful, rounds_walk_each_packet, versions_without_steps_are_forced, walked_packets_are_determined}
-use Rattle.made_capture.specs.Number.{number_at}
-use Rattle.made_capture.specs.Packet.{packet_made, packet_said}
-use Rattle.made_capture.proofs.Law.{made_packets_say_their_label}
+use Rattle.made_run.specs.made_capture.Number.{number_at}
+use Rattle.made_run.specs.made_capture.Packet.{packet_made, packet_said}
+use Rattle.made_run.proofs.made_capture.Law.{made_packets_say_their_label}
 use Rattle.made_run.specs.Verdict.{made_verdict, delivered_made, denied_made}
 use Rattle.made_run.specs.inside.Source.{packet_in, packets_made}
 use Rattle.made_run.specs.inside.Node.{made_plan, made_hops}

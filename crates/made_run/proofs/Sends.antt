@@ -1,10 +1,11 @@
 -- What appends make of the file, and what the making of it leaves.
-use Rattle.std.proofs.Common.{◌≡◌, ℕ, IsTrue, IsSome, List, [], ◌++◌, take, drop, Option, Some, None, Ok, Err, refl, sym, ap, subst, ◌∙◌, append_assoc}
-use Rattle.std.proofs.lemmas.List.{append-nil, take-append-drop}
-use Rattle.net_io.specs.Depot.{DepotState, octets_of, NowHolds, AppendsPrefix, OnlyAppends}
+use Rattle.std.specs.Prelude.{OnOk}
+use Rattle.std.proofs.Common.{◌≡◌, ℕ, IsTrue, IsSome, List, [], ◌++◌, Option, Some, None, Result, refl, sym, ap, subst, ◌∙◌, append_assoc}
+use Rattle.std.proofs.lemmas.List.{append-nil}
+use Rattle.net_io.specs.Depot.{DepotState}
+use Rattle.captures.specs.Output as output
 use Rattle.net_io.specs.Faults.{Rose, SameCounts}
 use Rattle.net_io.specs.declared.fault.IoFault.{IoFault}
-use Rattle.net_io.specs.declared.fault.IoFault.TheVariants as io
 use Rattle.made_run.specs.declared.stop.MadeStop.{MadeStop}
 use Rattle.made_run.specs.declared.stop.MadeStop.TheVariants.{Create, Append, OutOfMemory}
 use Rattle.made_run.specs.inside.File.{IsSent, IsBegun, AppendsMove, HasAppended, HasSent}
@@ -14,25 +15,18 @@ use Rattle.made_run.specs.inside.File.{IsSent, IsBegun, AppendsMove, HasAppended
 pub there_is : (text waits : List ℕ) (file : Option (List ℕ)) → IsSent text waits file → IsSome file
 there_is text waits file sent = rw sent.holds refl
 
--- all that waits was appended
-sent_all : (name text waits : List ℕ) (old new : DepotState) → NowHolds name (octets_of (old.held name) ++ waits) old.held new.held → IsSent text waits (old.held name) → IsSent text [] (new.held name)
-sent_all name text waits old new holds was = record {
-  sent = was.sent ++ waits;
-  holds = holds.here ∙ ap (λ (o : Option (List ℕ)). Some (octets_of o ++ waits)) was.holds;
-  all = append-nil (was.sent ++ waits) ∙ was.all;
-}
-
--- or some first octets of it
-sent_part : (name text waits : List ℕ) (old new : DepotState) → AppendsPrefix name waits old.held new.held → IsSent text waits (old.held name) → IsBegun text (new.held name)
-sent_part name text waits old new part was =
-    let all : (was.sent ++ take part.count waits) ++ drop part.count waits ≡ text =
-    append_assoc was.sent (take part.count waits) (drop part.count waits) ∙ ap (λ t. was.sent ++ t) (take-append-drop part.count waits) ∙ was.all in (
-      drop part.count waits,
+-- what an append leaves: the text goes on from what was sent before
+sent_on : (result : Result (Unit {0}) IoFault) (text waits waits' : List ℕ) (old new : Option (List ℕ)) → output.IsAppended result (waits ++ []) waits' old new → IsSent text waits old
+    → (rest : List ℕ) × IsSent text rest new × OnOk result (rest ≡ waits')
+sent_on result text waits waits' old new one was =
+    let same : one.held ≡ was.sent = let eq = sym one.was ∙ was.holds in cc in (
+      one.rest,
       record {
-        sent = was.sent ++ take part.count waits;
-        holds = part.holds.here ∙ ap (λ (o : Option (List ℕ)). Some (octets_of o ++ take part.count waits)) was.holds;
-        all = all;
+        sent = was.sent ++ one.sent;
+        holds = one.now ∙ ap (λ h. Some (h ++ one.sent)) same;
+        all = append_assoc was.sent one.sent one.rest ∙ ap (λ t. was.sent ++ t) (one.all ∙ append-nil waits) ∙ was.all;
       },
+      one.left,
     )
 
 -- the text goes on, and what goes on waits too
@@ -44,32 +38,21 @@ begun_more text more file was = (was.0 ++ more, sent_more text was.0 more file w
 
 -- ---- an append of what waits
 
-pub appended_all : (name waits : List ℕ) (old new : DepotState) → (IsTrue old.tells → NowHolds name (octets_of (old.held name) ++ waits) old.held new.held)
-    → OnlyAppends {T = Unit {0}} io.Failed (Ok tt) name old new → HasSent name None waits [] old new
-appended_all name waits old new holds only = record {
+pub has_sent : (result : Result (Unit {0}) IoFault) (stop : Option MadeStop) (name waits waits' : List ℕ) (old new : DepotState)
+    → (stop ≡ None → (rest : List ℕ) → OnOk result (rest ≡ waits') → rest ≡ waits') → (stop ≡ None → waits' ≡ [])
+    → output.HasAppended result name [] waits waits' old new → AppendsMove name stop old.appends new.appends → HasSent name stop waits waits' old new
+has_sent result stop name waits waits' old new ok empty appended moved = record {
   appended = record {
-    told = only.told;
-    others = λ told other apart. (holds told).elsewhere other apart;
-    reads = only.reads;
-    creates = only.creates;
-    moved = only.appends.ok;
-  };
-  sent = λ none. refl;
-  text = λ told text was. ([], sent_all name text waits old new (holds told) was, λ none. refl);
-}
-
-pub append_fails : (stop : MadeStop) (fault : IoFault) (name waits waits' : List ℕ) (old new : DepotState) → (IsTrue old.tells → AppendsPrefix name waits old.held new.held)
-    → OnlyAppends {T = Unit {0}} io.Failed (Err fault) name old new → AppendsMove name (Some stop) old.appends new.appends → HasSent name (Some stop) waits waits' old new
-append_fails stop fault name waits waits' old new part only moved = record {
-  appended = record {
-    told = only.told;
-    others = λ told other apart. (part told).holds.elsewhere other apart;
-    reads = only.reads;
-    creates = only.creates;
+    told = appended.frame.told;
+    others = appended.others;
+    reads = appended.frame.reads;
+    creates = appended.frame.creates;
     moved = moved;
   };
-  sent = λ none. absurd cc;
-  text = λ told text was. let begun = sent_part name text waits old new (part told) was in (begun.0, begun.1, λ none. absurd cc);
+  sent = empty;
+  text = λ told text was.
+      let on = sent_on result text waits waits' (old.held name) (new.held name) (appended.here told) was in
+      (on.0, on.1, λ none. ok none on.0 on.2 ∙ empty none);
 }
 
 -- ---- one behind the other

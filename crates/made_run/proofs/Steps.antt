@@ -7,11 +7,11 @@ use Rattle.std.proofs.lemmas.List.FromFn.{map-range_with_len_more, length-map-ra
 use Rattle.net_io.specs.Depot.{DepotState}
 use Rattle.pcap_frames.specs.Record.{Frame}
 use Rattle.pcap_frames.specs.Written.{frame_octets}
-use Rattle.packet_walk.specs.declared.packet.PacketIn.{PacketIn}
-use Rattle.made_capture.specs.Number.{number_at}
-use Rattle.made_capture.specs.Capture.{frame_made, capture_made}
-use Rattle.made_capture.specs.Maker.{Making}
-use Rattle.made_capture.proofs.Law.{captures_grow_by_a_frame, shorter_captures_begin_longer_ones, made_packets_have_40_octets}
+use Rattle.captures.specs.declared.packet_in.PacketIn.{PacketIn}
+use Rattle.made_run.specs.made_capture.Number.{number_at}
+use Rattle.made_run.specs.made_capture.Capture.{frame_made, capture_made}
+use Rattle.made_run.specs.made_capture.Maker.{Making}
+use Rattle.made_run.proofs.made_capture.Law.{captures_grow_by_a_frame, shorter_captures_begin_longer_ones, made_packets_have_40_octets}
 use Rattle.made_run.specs.declared.stop.MadeStop.{MadeStop}
 use Rattle.made_run.specs.Ends.{stop_of}
 use Rattle.made_run.specs.inside.File.{IsSent, IsBegun, HasSent}

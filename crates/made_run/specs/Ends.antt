@@ -2,7 +2,7 @@
 use Rattle.std.specs.Prelude.{ℕ, ◌≡◌, ◌≢◌, ◌⊎◌, IsTrue, List, take, Option, Some, None, Result, Ok, Err}
 use Rattle.net_io.specs.Depot.{DepotState}
 use Rattle.net_io.specs.Faults.{Rose, SameCounts}
-use Rattle.made_capture.specs.Capture.{capture_made}
+use Rattle.made_run.specs.made_capture.Capture.{capture_made}
 use Rattle.made_run.specs.declared.stop.MadeStop.{MadeStop}
 use Rattle.made_run.specs.declared.stop.MadeStop.TheVariants.{Create, Append, OutOfMemory}
 

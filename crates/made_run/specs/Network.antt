@@ -3,9 +3,9 @@ use Rattle.std.specs.Prelude.{ℕ, List, [], ◌∷◌, codes, fold, None}
 use Rattle.std.specs.List.{range_with_len}
 use Rattle.mls_label.specs.declared.label.Label.{Label}
 use Rattle.mls_label.specs.declared.label.Tag.TheVariants.{One}
-use Rattle.address_text.specs.declared.address.Address.TheVariants.{V4}
+use Rattle.domain_map.specs.declared.address_text.address.Address.TheVariants.{V4}
 use Rattle.domain_map.specs.declared.protocol.Protocol.TheVariants.{Cipso}
-use Rattle.command_values.specs.Ranges.{range_below}
+use Rattle.script_lines.specs.command_values.Ranges.{range_below}
 use Rattle.script_lines.specs.declared.command.Command.{Command}
 use Rattle.script_lines.specs.declared.command.Command.TheVariants.{CipsoAddPass, MapAdd, ReceiverAdd}
 use Rattle.node_tables.specs.Tables.{TableState, fresh}

@@ -4,8 +4,8 @@ use Rattle.std.specs.List.{range_with_len}
 use Rattle.packet_label.specs.declared.denial.Denial.{Denial}
 use Rattle.label_receive.specs.declared.receiving.Delivered.{Delivered}
 use Rattle.label_receive.specs.Receive.{receive_of}
-use Rattle.made_capture.specs.Number.{number_at}
-use Rattle.made_capture.specs.Packet.{packet_said}
+use Rattle.made_run.specs.made_capture.Number.{number_at}
+use Rattle.made_run.specs.made_capture.Packet.{packet_said}
 use Rattle.made_run.specs.Network.{made_node}
 
 -- what the node does with the packet of a number, which comes in at `eth0`

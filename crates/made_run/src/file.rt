@@ -6,8 +6,8 @@ ghost use Rattle.made_run.specs.Ends.{stop_of};
 ghost use Rattle.made_run.specs.inside.File.{HasBegun, HasSent};
 
 use crate::stop::MadeStop;
-use net_io::{Depot, IoFault, append_all};
-use pcap_frames::write_head;
+use captures::{CaptureFormat, append_rest, create_capture};
+use net_io::{Depot, IoFault};
 use std::alloc::Global;
 
 /// Makes the file, and gives the head of the capture, which is to be appended to it.
@@ -19,12 +19,8 @@ pub(crate) fn begin_file<D: Depot>(
     ensures begun { HasBegun name.now (stop_of result) (D.state depot.old) (D.state depot.new) }
     ensures head { IfOk result (λ octets. octets.items ≡ capture_head_octets false) }
 {
-    let mut octets = Vec::new(alloc);
-    let Ok(()) = write_head(false, &mut octets) else {
-        return Err(MadeStop::OutOfMemory);
-    };
-    match depot.create(name) {
-        Ok(()) => Ok(octets),
+    match create_capture(alloc, depot, name, CaptureFormat::Pcap { nanos: false }) {
+        Ok(octets) => Ok(octets),
         Err(IoFault::Failed) => Err(MadeStop::Create),
         Err(IoFault::OutOfMemory) => Err(MadeStop::OutOfMemory),
     }
@@ -40,11 +36,8 @@ pub(crate) fn append_waiting<D: Depot>(
     ensures { HasSent name.now (stop_of result) waiting.old.items waiting.new.items
         (D.state depot.old) (D.state depot.new) }
 {
-    match append_all(depot, name, waiting.as_slice()) {
-        Ok(()) => {
-            waiting.clear();
-            Ok(())
-        }
+    match append_rest(depot, name, waiting) {
+        Ok(()) => Ok(()),
         Err(IoFault::Failed) => Err(MadeStop::Append),
         Err(IoFault::OutOfMemory) => Err(MadeStop::OutOfMemory),
     }

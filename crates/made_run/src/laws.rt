@@ -2,7 +2,7 @@
 
 ghost use Rattle.std.specs.Prelude.{◌≡◌, ◌↔◌, ℕ, ◌+◌, IsOk};
 ghost use Rattle.mls_label.specs.Label.{Dominates};
-ghost use Rattle.made_capture.specs.Packet.{label_made};
+ghost use Rattle.made_run.specs.made_capture.Packet.{label_made};
 ghost use Rattle.made_run.specs.Network.{receiver_level};
 ghost use Rattle.made_run.specs.Verdict.{made_verdict, delivered_made, denied_made};
 

@@ -5,10 +5,12 @@
 mod feed;
 mod file;
 pub mod laws;
+pub mod made_capture;
 mod node;
 mod run;
 mod source;
 mod stop;
 
+pub use crate::made_capture::Maker;
 pub use run::{Verdicts, make_capture};
 pub use stop::MadeStop;

@@ -1,19 +1,18 @@
 //! The node that receives made packets, and the flow to it.
 
 ghost use Rattle.std.specs.Prelude.{◌≡◌, ◌<◌, Some, length, All, IfOk};
-ghost use Rattle.address_text.specs.Name.{name_of_text};
-ghost use Rattle.command_values.specs.Ranges.{range_below};
+ghost use Rattle.domain_map.specs.address_text.Name.{name_of_text};
+ghost use Rattle.script_lines.specs.command_values.Ranges.{range_below};
 ghost use Rattle.node_tables.specs.Steps.{tables_after};
 ghost use Rattle.made_run.specs.Network.{receiver_level};
 ghost use Rattle.made_run.specs.inside.Node.{made_steps, made_hops, IsOpen};
 
-use address_text::{Address, Name, read_name};
-use command_values::{Doi, MapProtocol, Tags};
-use flow_lines::{FileName, FlowLine, Hop, Route, read_file_name};
+use domain_map::{Address, Name, read_name};
+use label_commands::{FileName, FlowLine, Hop, Route, read_file_name};
 use mls_label::{Label, OutOfMemory, Tag};
 use mls_range::{KeptRange, Range};
 use node_tables::Network;
-use script_lines::{Command, Step};
+use script_lines::{Command, Doi, MapProtocol, Step, Tags};
 use shared_tables::{Board, Plan, Publisher, Viewer};
 use std::alloc::Global;
 use std::sync::Wait;

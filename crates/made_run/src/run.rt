@@ -8,12 +8,12 @@ ghost use Rattle.made_run.specs.inside.Feed.{IsReadyFeed, IsNewFeed, HasRound, H
 
 use crate::feed::MakeFeed;
 use crate::file::{append_waiting, begin_file};
+use crate::made_capture::Maker;
 use crate::node::{STEPS, made_flow, open_board};
 use crate::source::Source;
 use crate::stop::MadeStop;
-use flow_lines::FlowLine;
+use label_commands::FlowLine;
 use label_flow::{Gate, RoundStop, round};
-use made_capture::Maker;
 use net_io::Depot;
 use shared_tables::{Publisher, Viewer};
 use std::alloc::Global;

@@ -2,17 +2,17 @@
 
 ghost use Rattle.std.specs.Prelude.{◌≡◌, ◌+◌, ◌<◌, ◌^◌, ◌++◌, ◌∷◌, [], length, IsTrue, OnOk, OnErr, vec_len, vec_capacity};
 ghost use Rattle.pcap_frames.specs.Written.{frame_octets};
-ghost use Rattle.made_capture.specs.Capture.{frame_made};
+ghost use Rattle.made_run.specs.made_capture.Capture.{frame_made};
 ghost use Rattle.made_run.specs.Ends.{stop_of};
 ghost use Rattle.made_run.specs.inside.File.{HasAppended};
 ghost use Rattle.made_run.specs.inside.Source.{packet_in, packets_made, IsSentUpTo, IsBegunUpTo};
 
 use crate::file::append_waiting;
+use crate::made_capture::Maker;
 use crate::stop::MadeStop;
-use made_capture::Maker;
+use label_flow::{Octets, PacketIn};
 use mls_label::OutOfMemory;
 use net_io::Depot;
-use packet_walk::{Octets, PacketIn};
 use pcap_frames::write_frame;
 use std::alloc::Global;
 

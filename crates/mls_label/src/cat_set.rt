@@ -14,6 +14,9 @@ use std::marker::Model;
 /// The most maximal runs that a set may have.
 pub const MOST_RUNS: usize = 1952;
 
+/// The highest category that there is.
+pub const HIGHEST_CATEGORY: u16 = 65534;
+
 /// The set would need more than 1,952 maximal runs.
 #[derive(Clone, Copy, Debug, PartialEq, Eq)]
 pub struct TooManyRuns;

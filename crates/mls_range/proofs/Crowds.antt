@@ -10,7 +10,7 @@ use Rattle.std.proofs.lemmas.List.Elements.{All-nil, All-tail, All-push}
 use Rattle.mls_label.specs.Cats.{has, cats_where, is_within}
 use Rattle.mls_label.specs.Runs.{runs_of}
 use Rattle.mls_label.proofs.Law.{sets_of_a_test_have_what_passes, sets_are_what_they_have, equal_tests_give_equal_sets}
-use Rattle.octet_grammar.specs.declared.fault.WireFault.{WireFault}
+use Rattle.mls_label.specs.declared.octet_grammar.fault.WireFault.{WireFault}
 use Rattle.mls_range.specs.declared.fault.TextFault.{TextFault}
 use Rattle.mls_range.specs.declared.fault.TextKind.{TextKind}
 use Rattle.mls_range.specs.declared.fault.TextKind.TheVariants.{TooManyRuns}

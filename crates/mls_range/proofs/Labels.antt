@@ -5,9 +5,9 @@ use Rattle.std.specs.List.{All, flat_map}
 use Rattle.std.proofs.lemmas.List.Elements.{All-nil, All-cons, All-head, All-tail}
 use Rattle.mls_label.specs.declared.label.Label.{Label}
 use Rattle.mls_range.specs.declared.fault.TextFault.{TextFault}
-use Rattle.octet_grammar.specs.declared.fault.WireKind.{WireKind}
-use Rattle.octet_grammar.specs.declared.fault.WireKind.TheVariants.{Octet, End}
-use Rattle.octet_grammar.specs.declared.fault.WireFault.{WireFault}
+use Rattle.mls_label.specs.declared.octet_grammar.fault.WireKind.{WireKind}
+use Rattle.mls_label.specs.declared.octet_grammar.fault.WireKind.TheVariants.{Octet, End}
+use Rattle.mls_label.specs.declared.octet_grammar.fault.WireFault.{WireFault}
 use Rattle.mls_range.specs.LabelText.{IsTerm, term_text}
 use Rattle.mls_range.specs.Crowd.{with_comma, CrowdsLabel}
 use Rattle.mls_range.specs.inside.Rest.{Spells, FaultIn, StopsIn, MissesOctet, IsLabelEnd, separated, Terms, BehindLevel, LabelOn, FailsNumber, ReadsNumber}

@@ -2,8 +2,8 @@
 use Rattle.std.proofs.Common.{◌≡◌, ◌↔◌, ℕ, ◌<◌, ◌≤◌, List, ◌∷◌, ◌++◌, length, Some, IsTrue, subst, inr}
 use Rattle.std.specs.Prelude.{◌==◌, count_by}
 use Rattle.std.specs.List.{All}
-use Rattle.octet_grammar.specs.declared.fault.WireKind.TheVariants as wire
-use Rattle.octet_grammar.proofs.Faults.{fault_no_member}
+use Rattle.mls_label.specs.declared.octet_grammar.fault.WireKind.TheVariants as wire
+use Rattle.mls_label.proofs.octet_grammar.Faults.{fault_no_member}
 use Rattle.mls_label.specs.declared.label.Label.{Label}
 use Rattle.mls_label.specs.Cats.{IsCats}
 use Rattle.mls_label.specs.Label.{Dominates}

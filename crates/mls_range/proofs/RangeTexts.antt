@@ -7,8 +7,8 @@ use Rattle.std.proofs.lemmas.List.{append-nil}
 use Rattle.mls_label.specs.declared.label.Label.{Label}
 use Rattle.mls_label.specs.Cats.{IsCats}
 use Rattle.mls_label.specs.Label.{Dominates}
-use Rattle.octet_grammar.specs.declared.fault.WireKind.{WireKind}
-use Rattle.octet_grammar.specs.declared.fault.WireFault.{WireFault}
+use Rattle.mls_label.specs.declared.octet_grammar.fault.WireKind.{WireKind}
+use Rattle.mls_label.specs.declared.octet_grammar.fault.WireFault.{WireFault}
 use Rattle.mls_range.specs.declared.fault.TextFault.{TextFault}
 use Rattle.mls_range.specs.Place.{octet_fault, end_fault}
 use Rattle.mls_range.specs.declared.fault.TextKind.{TextKind}

@@ -3,9 +3,9 @@ use Rattle.std.proofs.Common.{◌≡◌, ℕ, ◌^◌, ◌<◌, ◌≤◌, Bool,
 use Rattle.std.specs.Fmt.{decimal}
 use Rattle.std.proofs.lemmas.List.{append-nil}
 use Rattle.std.proofs.lemmas.Fmt.{decimal_injective}
-use Rattle.octet_grammar.specs.declared.fault.WireFault.{WireFault}
-use Rattle.octet_grammar.specs.declared.fault.WireKind.{WireKind}
-use Rattle.octet_grammar.specs.declared.fault.WireKind.TheVariants.{Octet, End}
+use Rattle.mls_label.specs.declared.octet_grammar.fault.WireFault.{WireFault}
+use Rattle.mls_label.specs.declared.octet_grammar.fault.WireKind.{WireKind}
+use Rattle.mls_label.specs.declared.octet_grammar.fault.WireKind.TheVariants.{Octet, End}
 use Rattle.mls_range.specs.inside.Number.{BeginsNumber, IsDigit, AllDigits}
 use Rattle.mls_range.specs.inside.Rest.{Spells, FaultIn, FailsNumber, IsNumber, MissesEnd, MissesOctet, StopsIn}
 use Rattle.mls_range.specs.Crowd.{IsCounted}

@@ -6,9 +6,9 @@ use Rattle.std.proofs.lemmas.Bool.{cases_lt}
 use Rattle.std.proofs.lemmas.List.{append-nil}
 use Rattle.std.proofs.lemmas.List.Elements.{All-nil, All-cons, All-head, All-tail}
 use Rattle.std.proofs.lemmas.Fmt.{decimal_injective}
-use Rattle.octet_grammar.specs.declared.fault.WireFault.{WireFault}
-use Rattle.octet_grammar.specs.declared.fault.WireKind.{WireKind}
-use Rattle.octet_grammar.specs.declared.fault.WireKind.TheVariants.{Octet, End}
+use Rattle.mls_label.specs.declared.octet_grammar.fault.WireFault.{WireFault}
+use Rattle.mls_label.specs.declared.octet_grammar.fault.WireKind.{WireKind}
+use Rattle.mls_label.specs.declared.octet_grammar.fault.WireKind.TheVariants.{Octet, End}
 use Rattle.mls_range.specs.LabelText.{IsTerm, term_text}
 use Rattle.mls_range.specs.Crowd.{IsCounted, with_comma}
 use Rattle.mls_range.specs.inside.Number.{IsDigit, AllDigits}

@@ -3,7 +3,7 @@ use Rattle.std.proofs.Common.{◌≡◌, ℕ, ◌+◌, ◌<◌, ◌≤◌, Bool,
 use Rattle.std.specs.Fmt.{decimal}
 use Rattle.std.proofs.lemmas.Bool.{cases_lt, cases_eq, eq-eqb, ne_eqb}
 use Rattle.std.proofs.lemmas.List.{append-nil}
-use Rattle.octet_grammar.specs.declared.fault.WireFault.{WireFault}
+use Rattle.mls_label.specs.declared.octet_grammar.fault.WireFault.{WireFault}
 use Rattle.mls_range.specs.LabelText.{term_text}
 use Rattle.mls_range.specs.Crowd.{IsCounted}
 use Rattle.mls_range.specs.inside.Number.{IsDigit}

@@ -4,9 +4,9 @@ use Rattle.std.specs.Fmt.{decimal}
 use Rattle.std.proofs.lemmas.Bool.{false≢true}
 use Rattle.std.proofs.lemmas.List.{append-nil, take_all, take-append-le}
 use Rattle.mls_label.specs.declared.label.Label.{Label}
-use Rattle.octet_grammar.specs.Front.{IsFront}
-use Rattle.octet_grammar.specs.Fault.{IsFault}
-use Rattle.octet_grammar.specs.declared.fault.WireKind.TheVariants as wire
+use Rattle.mls_label.specs.octet_grammar.Front.{IsFront}
+use Rattle.mls_label.specs.octet_grammar.Fault.{IsFault}
+use Rattle.mls_label.specs.declared.octet_grammar.fault.WireKind.TheVariants as wire
 use Rattle.mls_range.specs.declared.fault.TextFault.{TextFault}
 use Rattle.mls_range.specs.declared.fault.TextKind.{TextKind}
 use Rattle.mls_range.specs.declared.fault.TextKind.TheVariants.{Grammar, End, TooManyRuns, NotOrdered}

@@ -1,7 +1,7 @@
 -- The two kinds of a grammar's fault, at an octet.
 use Rattle.std.specs.Prelude.{ℕ}
-use Rattle.octet_grammar.specs.declared.fault.WireKind.TheVariants.{Octet, End}
-use Rattle.octet_grammar.specs.declared.fault.WireFault.{WireFault}
+use Rattle.mls_label.specs.declared.octet_grammar.fault.WireKind.TheVariants.{Octet, End}
+use Rattle.mls_label.specs.declared.octet_grammar.fault.WireFault.{WireFault}
 
 -- the octet doesn't fit
 abbrev pub octet_fault : ℕ → WireFault

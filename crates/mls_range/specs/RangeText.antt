@@ -1,7 +1,7 @@
 -- Texts of ranges: one label, or two labels joined by a dash.
 use Rattle.std.specs.Prelude.{◌≡◌, ℕ, ◌+◌, Bool, true, false, ◌&&◌, nat_eq, List, ◌∷◌, ◌++◌, length, ◌⊎◌, if◌then◌else◌}
 use Rattle.std.specs.Str.{bytes_eq}
-use Rattle.octet_grammar.specs.Fault.{IsFault}
+use Rattle.mls_label.specs.octet_grammar.Fault.{IsFault}
 use Rattle.mls_label.specs.declared.label.Label.{Label}
 use Rattle.mls_label.specs.Label.{Dominates}
 use Rattle.mls_range.specs.declared.fault.TextKind.{TextKind}

@@ -1,6 +1,6 @@
 -- Why a text is refused: the first fault of its grammar, or the term that is too much, whichever stands first.
 use Rattle.std.specs.Prelude.{ℕ, List, false}
-use Rattle.octet_grammar.specs.Fault.{IsFault}
+use Rattle.mls_label.specs.octet_grammar.Fault.{IsFault}
 use Rattle.mls_range.specs.declared.fault.TextKind.{TextKind}
 use Rattle.mls_range.specs.declared.fault.TextKind.TheVariants.{Grammar, End, TooManyRuns, NotOrdered}
 use Rattle.mls_range.specs.declared.fault.TextFault.{TextFault}

@@ -1,4 +1,4 @@
-use octet_grammar::{WireFault, WireKind};
+use mls_label::{WireFault, WireKind};
 
 /// What is wrong with a text.
 #[derive(Clone, Copy, Debug, PartialEq, Eq)]

@@ -13,8 +13,7 @@ use crate::fault::TextFault;
 use crate::number::read_number;
 use crate::octet::{is_label_end, read_octet};
 use crate::terms::read_terms;
-use mls_label::{CatSet, Label, OutOfMemory};
-use octet_grammar::{push_decimal, write_decimal};
+use mls_label::{CatSet, Label, OutOfMemory, push_decimal, write_decimal};
 
 /// The greatest level.
 const HIGHEST_LEVEL: u32 = 255;

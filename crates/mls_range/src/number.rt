@@ -4,7 +4,7 @@ ghost use Rattle.std.specs.Prelude.{◌≡◌, ◌+◌, ◌*◌, ◌<◌, ◌≤
 ghost use Rattle.mls_range.specs.inside.Number.{GoesOn, Reaches};
 ghost use Rattle.mls_range.specs.inside.Rest.{FailsNumber, ReadsNumber, StopsHere};
 
-use octet_grammar::{WireFault, octet_at, unfit};
+use mls_label::{WireFault, octet_at, unfit};
 
 /// Whether some digits behind `start` make a number from `low` to `high`.
 fn reaches(start: u32, low: u32, high: u32) -> bool

@@ -3,7 +3,7 @@
 ghost use Rattle.std.specs.Prelude.{◌≡◌, [], ◌∷◌, ◌≤◌, length, drop, IfOk, IfErr, MatchBool};
 ghost use Rattle.mls_range.specs.inside.Rest.{IsLabelEnd, MissesOctet, Spells};
 
-use octet_grammar::{WireFault, octet_at, unfit};
+use mls_label::{WireFault, octet_at, unfit};
 
 /// Reads an octet that has to stand there, and gives the place behind it.
 pub(crate) fn read_octet(text: &[u8], at: usize, wanted: u8) -> Result<usize, WireFault>

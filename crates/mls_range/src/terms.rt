@@ -11,11 +11,10 @@ ghost use Rattle.mls_range.specs.inside.Stops.{ReadsTerms, StopsRun, StopsTerms}
 use crate::fault::{TextFault, TextKind};
 use crate::number::read_number;
 use crate::octet::read_octet;
-use mls_label::{CatSet, MOST_RUNS};
-use octet_grammar::{WireFault, unfit};
+use mls_label::{CatSet, MOST_RUNS, WireFault, unfit};
 
 /// The greatest category.
-const HIGHEST_CATEGORY: u32 = 65534;
+const HIGHEST_CATEGORY: u32 = mls_label::HIGHEST_CATEGORY as u32;
 
 /// A term of a label's text, and the place behind it.
 #[derive(Clone, Copy)]

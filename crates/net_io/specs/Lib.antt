@@ -7,3 +7,4 @@ pub mod Memory
 pub mod Real
 pub mod Sink
 pub mod inside
+pub mod file_window

@@ -4,7 +4,7 @@ ghost use Rattle.net_io.specs.declared.fault.IoFault.TheVariants.{OutOfMemory as
 ghost use Rattle.net_io.specs.declared.fault.WholeFault.TheVariants.{OutOfMemory as WholeOutOfMemory};
 ghost use Rattle.net_io.specs.inside.Whole.{whole_fault};
 
-use octet_grammar::OutOfMemory;
+use mls_label::OutOfMemory;
 use std::alloc::AllocError;
 use thiserror::Error;
 

@@ -6,6 +6,7 @@
 mod depot;
 mod failed;
 mod fault;
+pub mod file_window;
 mod folder;
 mod guard;
 pub mod laws;
@@ -23,12 +24,13 @@ mod safe_sink;
 mod sink;
 mod writing;
 
+pub use crate::file_window::{OctetOrder, WINDOW, Window, take_behind};
 pub use depot::Depot;
 pub use failed::DepotCall;
 pub use fault::{IoFault, WholeFault};
 pub use memory_depot::MemoryDepot;
 pub use memory_sink::MemorySink;
-pub use octet_grammar::OutOfMemory;
+pub use mls_label::OutOfMemory;
 pub use reading::{read_full, read_full_over, read_whole};
 pub use real_depot::RealDepot;
 pub use real_sink::RealSink;

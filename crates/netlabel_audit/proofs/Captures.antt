@@ -1,11 +1,11 @@
 -- How the captures of flows end, flow by flow.
 use Rattle.std.proofs.Common.{◌≡◌, ℕ, ◌+◌, ◌-◌, ◌≤◌, true, false, List, [], ◌∷◌, length, drop, get_or, map, Option, Some, None, refl, sym, ap, subst, ◌∙◌, arith}
 use Rattle.std.specs.Prelude.{IsSome, Contains}
-use Rattle.flow_lines.specs.declared.flow.FlowLine.{FlowLine}
-use Rattle.capture_reader.specs.declared.format.CaptureFormat.{CaptureFormat}
+use Rattle.label_commands.specs.declared.flow_lines.flow.FlowLine.{FlowLine}
+use Rattle.captures.specs.declared.format.CaptureFormat.{CaptureFormat}
 use Rattle.call_report.specs.Event.{Event}
 use Rattle.call_report.specs.Report.{Folder}
-use Rattle.flow_run.specs.Input.{FlowInput, flow_input}
+use Rattle.script_run.specs.flow_run.Input.{FlowInput, flow_input}
 use Rattle.netlabel_audit.specs.Inputs.{InputsEnd, ended_by, end_or, inputs_end}
 use Rattle.netlabel_audit.specs.inside.Finding.{IsReadWhole}
 use Rattle.label_audit.proofs.Law.{is_first, is_behind}

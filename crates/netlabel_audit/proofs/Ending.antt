@@ -20,9 +20,9 @@ use Rattle.call_report.specs.Says.{Says}
 use Rattle.call_report.specs.Stages.{Stage, reading_stage}
 use Rattle.call_report.specs.Status.{status_number}
 use Rattle.call_report.proofs.Law.{Knows, IsNumberOf, IsOfForm, asks, makes_nothing, knows_reading, ends_printed, ends_printed_as, ends_unread, ends_unprinted}
-use Rattle.script_input.specs.Ends.{HasScript}
-use Rattle.script_input.specs.ScriptFile.{script_read, ByAnswer, ByScript, script_stop_status}
-use Rattle.script_input.proofs.Law.{ReadsScript, in_file, content_of, content_holds, content_told}
+use Rattle.call_report.specs.script_input.Ends.{HasScript}
+use Rattle.call_report.specs.script_input.ScriptFile.{script_read, ByAnswer, ByScript, script_stop_status}
+use Rattle.call_report.proofs.script_input.Law.{ReadsScript, in_file, content_of, content_holds, content_told}
 use Rattle.label_audit.specs.Reads.{OnlyReadsAmong}
 use Rattle.label_audit.specs.declared.audited.Audited.{Audited}
 use Rattle.label_audit.specs.declared.audited.Audited.TheVariants.{Yes, NoLine}

@@ -5,7 +5,7 @@ use Rattle.std.proofs.lemmas.Bool.{cases_lt, lt-ltb}
 use Rattle.net_io.specs.Depot.{octets_of, SameHeld}
 use Rattle.net_io.specs.declared.fault.IoFault.{IoFault}
 use Rattle.net_io.specs.declared.fault.IoFault.TheVariants as io
-use Rattle.flow_lines.specs.declared.flow.FlowLine.{FlowLine}
+use Rattle.label_commands.specs.declared.flow_lines.flow.FlowLine.{FlowLine}
 use Rattle.label_commands.specs.declared.script.Script.{Script}
 use Rattle.call_report.specs.Event.{Event, packets_limit}
 use Rattle.call_report.specs.Report.{Folder}

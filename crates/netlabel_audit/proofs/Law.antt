@@ -1,13 +1,13 @@
 -- The statements of the laws, as terms.
 use Rattle.std.proofs.Common.{◌≡◌, ◌↔◌, ℕ, ◌+◌, ◌-◌, List, [], ◌∷◌, length, Option, Some, None, refl, sym, ap}
-use Rattle.flow_lines.specs.declared.flow.FlowLine.{FlowLine}
-use Rattle.capture_reader.specs.declared.format.CaptureFormat.{CaptureFormat}
+use Rattle.label_commands.specs.declared.flow_lines.flow.FlowLine.{FlowLine}
+use Rattle.captures.specs.declared.format.CaptureFormat.{CaptureFormat}
 use Rattle.label_commands.specs.declared.script.Script.{Script}
 use Rattle.call_report.specs.CallEnds.{CallEnds}
 use Rattle.call_report.specs.Event.{Event}
 use Rattle.call_report.specs.Outside.{Outside}
 use Rattle.call_report.specs.Report.{Folder, Versions}
-use Rattle.flow_run.specs.Input.{flow_input}
+use Rattle.script_run.specs.flow_run.Input.{flow_input}
 use Rattle.script_run.specs.Runs.{StatusOr, FlowsStatus}
 use Rattle.netlabel_audit.specs.declared.asked.Audit.{Audit}
 use Rattle.netlabel_audit.specs.Inputs.{InputsEnd, one_absent, ended_by, all_whole, end_or, inputs_end}

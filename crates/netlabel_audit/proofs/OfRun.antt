@@ -4,20 +4,20 @@ use Rattle.std.specs.Prelude.{IsTrue, IsSome, MatchBool, All}
 use Rattle.std.proofs.lemmas.Bool.{ltb-true}
 use Rattle.std.proofs.lemmas.List.{append-nil}
 use Rattle.std.proofs.lemmas.Option.{none-some, same_Some}
-use Rattle.flow_lines.specs.declared.flow.FlowLine.{FlowLine}
+use Rattle.label_commands.specs.declared.flow_lines.flow.FlowLine.{FlowLine}
 use Rattle.label_commands.specs.declared.script.Script.{Script}
 use Rattle.label_commands.specs.declared.stop.ScriptStop.{ScriptStop}
-use Rattle.capture_reader.specs.declared.format.CaptureFormat.{CaptureFormat}
+use Rattle.captures.specs.declared.format.CaptureFormat.{CaptureFormat}
 use Rattle.call_report.specs.CallEnds.{CallEnds, PrintsReport, IsWritten}
 use Rattle.call_report.specs.Event.{Event, packets_limit}
 use Rattle.call_report.specs.Outside.{Outside}
 use Rattle.call_report.specs.Report.{Folder, Versions, Report, report_text, late_report}
-use Rattle.flow_access.specs.Valid.{plan_of}
-use Rattle.flow_run.specs.Input.{FlowInput, flow_input}
-use Rattle.flow_run.specs.Run.{FlowRun, is_judged}
+use Rattle.label_flow.specs.flow_access.Valid.{plan_of}
+use Rattle.script_run.specs.flow_run.Input.{FlowInput, flow_input}
+use Rattle.script_run.specs.flow_run.Run.{FlowRun, is_judged}
 use Rattle.script_run.specs.Runs.{AreRuns, AreWholeRuns, IsLawfulRun, FlowsStatus, StatusOr, is_done, last_event}
 use Rattle.script_run.proofs.Law.{runs_are_determined, runs_know_their_inputs_alone, done_flows_have_status_0, events_have_their_status}
-use Rattle.script_input.specs.ScriptFile.{ByScript, ByAnswer, script_read, script_stop_status}
+use Rattle.call_report.specs.script_input.ScriptFile.{ByScript, ByAnswer, script_read, script_stop_status}
 use Rattle.call_report.specs.Lines.Script.{script_stop_line}
 use Rattle.label_audit.specs.Good.{IsReport}
 use Rattle.label_audit.proofs.Law.{whole_input}

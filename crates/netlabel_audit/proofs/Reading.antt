@@ -5,21 +5,21 @@ use Rattle.std.specs.Option.{option_map}
 use Rattle.std.proofs.lemmas.Bool.{lt-ltb, le-ltb}
 use Rattle.std.proofs.lemmas.List.{take_all}
 use Rattle.net_io.specs.Depot.{DepotState, octets_of, OnlyReads}
-use Rattle.packet_walk.specs.declared.packet.PacketIn.{PacketIn}
+use Rattle.captures.specs.declared.packet_in.PacketIn.{PacketIn}
 use Rattle.pcap_frames.specs.declared.record.FrameHead.{FrameHead}
-use Rattle.capture_reader.specs.declared.format.CaptureFormat.{CaptureFormat}
-use Rattle.capture_reader.specs.declared.fault.FileFault.{FileFault}
-use Rattle.capture_reader.specs.declared.fault.FileFault.TheVariants.{Pcap, Pcapng}
-use Rattle.capture_reader.specs.declared.fault.ReadStop.{ReadStop}
-use Rattle.capture_reader.specs.declared.fault.ReadStop.TheVariants as read
-use Rattle.capture_reader.specs.declared.reader.AnyFrames.{AnyFrames}
-use Rattle.capture_reader.specs.Frame.{CapturedFrame}
-use Rattle.capture_reader.specs.CaptureFile.{CaptureFile, capture_file}
-use Rattle.capture_reader.specs.Reader.{FramesLeft, left_of, format_of, file_name_of, IsFileBegun, IsNextFrame}
+use Rattle.captures.specs.declared.format.CaptureFormat.{CaptureFormat}
+use Rattle.captures.specs.declared.fault.FileFault.{FileFault}
+use Rattle.captures.specs.declared.fault.FileFault.TheVariants.{Pcap, Pcapng}
+use Rattle.captures.specs.declared.fault.ReadStop.{ReadStop}
+use Rattle.captures.specs.declared.fault.ReadStop.TheVariants as read
+use Rattle.captures.specs.declared.reader.AnyFrames.{AnyFrames}
+use Rattle.captures.specs.Frame.{CapturedFrame}
+use Rattle.captures.specs.CaptureFile.{CaptureFile, capture_file}
+use Rattle.captures.specs.Reader.{FramesLeft, left_of, format_of, file_name_of, IsFileBegun, IsNextFrame}
 use Rattle.call_report.specs.Event.{Event, records_event}
 use Rattle.call_report.specs.Lines.Capture.{capture_line}
 use Rattle.call_report.specs.Lines.Fixed.{packets_limit_line}
-use Rattle.flow_run.specs.Input.{FlowInput, flow_input, input_by}
+use Rattle.script_run.specs.flow_run.Input.{FlowInput, flow_input, input_by}
 use Rattle.netlabel_audit.specs.declared.stop.AuditStop.TheVariants as stop
 use Rattle.netlabel_audit.specs.inside.Finding.{stop_of_read, event_of, IsReadWhole}
 

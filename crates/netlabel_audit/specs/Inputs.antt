@@ -1,10 +1,10 @@
 -- How the captures of flows end that are read to their ends, one behind another.
 use Rattle.std.specs.Prelude.{ℕ, ◌+◌, ◌-◌, List, [], ◌∷◌, length, Option, Some, None}
-use Rattle.flow_lines.specs.declared.flow.FlowLine.{FlowLine}
-use Rattle.capture_reader.specs.declared.format.CaptureFormat.{CaptureFormat}
+use Rattle.label_commands.specs.declared.flow_lines.flow.FlowLine.{FlowLine}
+use Rattle.captures.specs.declared.format.CaptureFormat.{CaptureFormat}
 use Rattle.call_report.specs.Event.{Event}
 use Rattle.call_report.specs.Report.{Folder}
-use Rattle.flow_run.specs.Input.{flow_input}
+use Rattle.script_run.specs.flow_run.Input.{flow_input}
 
 -- one is absent; or this event ends the reading; or all are there, and whole
 pub data InputsEnd : Type 0 where

@@ -2,15 +2,15 @@
 use Rattle.std.specs.Prelude.{ℕ, ◌≡◌, ◌⊎◌, ◌<◌, IsTrue, List, length, All, Some}
 use Rattle.net_io.specs.Depot.{DepotState}
 use Rattle.label_commands.specs.declared.script.Script.{Script}
-use Rattle.flow_access.specs.Valid.{plan_of}
+use Rattle.label_flow.specs.flow_access.Valid.{plan_of}
 use Rattle.call_report.specs.CallEnds.{IsRefusal, IsWritten}
 use Rattle.call_report.specs.Event.{packets_limit}
 use Rattle.call_report.specs.Outside.{Outside}
 use Rattle.call_report.specs.Report.{Folder, Versions, report_text}
-use Rattle.flow_run.specs.Run.{FlowRun}
+use Rattle.script_run.specs.flow_run.Run.{FlowRun}
 use Rattle.script_run.specs.Report.{runs_report}
 use Rattle.script_run.specs.Runs.{AreRuns, AreWholeRuns, IsLawfulRun, FlowsStatus}
-use Rattle.script_input.specs.ScriptFile.{ByScript}
+use Rattle.call_report.specs.script_input.ScriptFile.{ByScript}
 use Rattle.netlabel_audit.specs.declared.asked.Audit.{Audit}
 use Rattle.netlabel_audit.specs.Lines.{yes_line}
 use Rattle.netlabel_audit.specs.Outcome.{report_limit}

@@ -4,7 +4,7 @@ use Rattle.label_commands.specs.declared.script.Script.{Script}
 use Rattle.call_report.specs.Event.{packets_limit}
 use Rattle.call_report.specs.Lines.Script.{script_stop_line}
 use Rattle.call_report.specs.Report.{Folder, Report, late_report}
-use Rattle.script_input.specs.ScriptFile.{ByScript, script_stop_status}
+use Rattle.call_report.specs.script_input.ScriptFile.{ByScript, script_stop_status}
 use Rattle.label_audit.specs.Good.{IsReport, IsFirstBad}
 use Rattle.netlabel_audit.specs.declared.asked.Audit.{Audit}
 use Rattle.netlabel_audit.specs.Inputs.{InputsEnd, one_absent, ended_by, all_whole, inputs_end}

@@ -5,7 +5,7 @@ use Rattle.label_commands.specs.declared.stop.ScriptStop.{ScriptStop}
 use Rattle.call_report.specs.Report.{Folder}
 use Rattle.call_report.specs.Says.{Says, usage_says}
 use Rattle.call_report.specs.Stages.{Stage, reading_stage}
-use Rattle.script_input.specs.ScriptFile.{script_read, ByScript, script_stop_status}
+use Rattle.call_report.specs.script_input.ScriptFile.{script_read, ByScript, script_stop_status}
 use Rattle.netlabel_audit.specs.declared.asked.Audit.{Audit}
 use Rattle.netlabel_audit.specs.Lines.{audit_usage_line}
 use Rattle.netlabel_audit.specs.Outcome.{AuditOutcome, IsAuditOutcome}

@@ -1,7 +1,7 @@
 -- What the words of the command line, without the program's name, ask for.
 use Rattle.std.specs.Prelude.{ℕ, ◌&&◌, nat_le, nat_lt, if◌then◌else◌, List, [], ◌∷◌, Option, Some, None, option_map, option_and_then}
-use Rattle.flow_lines.specs.FileName.{file_name_of_text}
-use Rattle.command_words.specs.Numbers.{number_named}
+use Rattle.label_commands.specs.flow_lines.FileName.{file_name_of_text}
+use Rattle.label_commands.specs.command_words.Numbers.{number_named}
 use Rattle.netlabel_audit.specs.declared.asked.Audit.{Audit}
 
 -- a number of workers: 1 to 16, without leading zeros

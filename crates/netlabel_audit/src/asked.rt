@@ -1,16 +1,16 @@
 //! What the words of the command line ask for.
 
 ghost use Rattle.std.specs.Prelude.{◌≡◌, ◌<◌, ◌≤◌, IfSome};
-ghost use Rattle.command_words.specs.Words.{texts_of};
+ghost use Rattle.label_commands.specs.command_words.Words.{texts_of};
 ghost use Rattle.netlabel_audit.specs.Words.{workers_named, audit_asked};
 
-use command_words::{FileName, read_number};
+use label_commands::{NamedFile, read_number};
 
 /// The report of a run that is to be judged, the script that was run, and the number of workers.
 #[derive(Debug, Drop)]
 pub(crate) struct Audit<'a> {
-    pub(crate) script: FileName<'a>,
-    pub(crate) report: FileName<'a>,
+    pub(crate) script: NamedFile<'a>,
+    pub(crate) report: NamedFile<'a>,
     pub(crate) workers: usize,
 }
 
@@ -21,8 +21,8 @@ pub(crate) fn read_audit<'a>(words: &'a [String]) -> Option<Audit<'a>>
 {
     match words {
         [script, report, workers] => {
-            let script = FileName::named(script)?;
-            let report = FileName::named(report)?;
+            let script = NamedFile::named(script)?;
+            let report = NamedFile::named(report)?;
             let workers = read_workers(workers)?;
             Some(Audit {
                 script,

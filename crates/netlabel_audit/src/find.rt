@@ -10,10 +10,10 @@ ghost use Rattle.netlabel_audit.specs.inside.Finding.{IsFound, event_of};
 use crate::asked::Audit;
 use crate::inputs::read_inputs;
 use crate::stop::AuditStop;
+use call_report::ReportFile;
 use label_audit::{Audited, judge_report};
 use label_commands::Script;
 use net_io::Depot;
-use report_file::ReportFile;
 use std::alloc::Global;
 
 /// The most octets of a report.

@@ -8,14 +8,12 @@ ghost use Rattle.netlabel_audit.specs.Inputs.{inputs_end, all_whole, ended_by};
 ghost use Rattle.netlabel_audit.specs.inside.Finding.{IsReadTo, event_of};
 
 use crate::stop::AuditStop;
-use capture_reader::CaptureReader;
-use flow_lines::FlowLine;
+use call_report::PACKETS_LIMIT;
+use captures::CaptureReader;
+use label_commands::FlowLine;
+use label_flow::{Octets, PacketIn};
 use net_io::Depot;
-use packet_walk::{Octets, PacketIn};
 use std::alloc::Global;
-
-/// The most packets that one call reads.
-const PACKETS_LIMIT: u64 = 1_048_576;
 
 /// Reads the capture of each flow to its end. Fails with the first that isn't whole, or in which there are more packets than may be read
 /// of all.

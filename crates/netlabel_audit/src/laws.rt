@@ -1,7 +1,7 @@
 //! What the definitions are worth, whatever the code does.
 
 ghost use Rattle.std.specs.Prelude.{◌≡◌, ◌↔◌, ℕ, List, Some};
-ghost use Rattle.flow_lines.specs.declared.flow.FlowLine.{FlowLine as Flow};
+ghost use Rattle.label_commands.specs.declared.flow_lines.flow.FlowLine.{FlowLine as Flow};
 ghost use Rattle.label_commands.specs.declared.script.Script.{Script};
 ghost use Rattle.call_report.specs.CallEnds.{CallEnds};
 ghost use Rattle.call_report.specs.Event.{Event};

@@ -5,8 +5,7 @@ ghost use Rattle.netlabel_audit.specs.Lines.{yes_line, no_line, report_limit_lin
 ghost use Rattle.netlabel_audit.specs.inside.Finding.{verdict_line};
 
 use label_audit::Audited;
-use mls_label::OutOfMemory;
-use octet_grammar::write_decimal;
+use mls_label::{OutOfMemory, write_decimal};
 
 /// Appends what a report comes to; some of it where memory runs out.
 pub(crate) fn write_verdict(verdict: Audited, line: &mut Vec<u8>) -> Result<(), OutOfMemory>

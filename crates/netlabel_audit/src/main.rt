@@ -22,7 +22,7 @@ ghost use Rattle.call_report.specs.CallEnds.{MayEnd};
 ghost use Rattle.netlabel_audit.specs.Says.{audit_says};
 
 pub use crate::top::audit;
-use command_words::words_of;
+use label_commands::words_of;
 use net_io::{RealDepot, RealSink};
 use std::alloc::AllocError;
 use std::io;

@@ -4,7 +4,7 @@ ghost use Rattle.std.specs.Prelude.{◌≡◌};
 ghost use Rattle.netlabel_audit.specs.inside.Finding.{stop_of_read, stop_of_fault};
 ghost use Rattle.netlabel_audit.specs.declared.stop.AuditStop.TheVariants as why;
 
-use capture_reader::{FileFault, ReadStop};
+use captures::{FileFault, ReadStop};
 use net_io::{IoFault, OutOfMemory};
 
 /// The first thing that is wrong with a report's files, or what was refused.

@@ -8,7 +8,7 @@ ghost use Rattle.netlabel_audit.specs.inside.Finding.{IsTold, IsToldVerdict, IsT
 use crate::lines::{report_limit, write_verdict};
 use crate::stop::AuditStop;
 use call_report::{Report, Status, packets_limit, write_capture};
-use capture_reader::FileFault;
+use captures::FileFault;
 use label_audit::Audited;
 use mls_label::OutOfMemory;
 use net_io::Sink;

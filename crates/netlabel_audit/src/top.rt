@@ -1,13 +1,13 @@
 //! The one call that the program makes.
 
 ghost use Rattle.std.specs.Prelude.{◌≡◌, ◌<◌, ◌≤◌, ℕ, List, [], Some, IfSome};
-ghost use Rattle.command_words.specs.Words.{texts_of};
+ghost use Rattle.label_commands.specs.command_words.Words.{texts_of};
 ghost use Rattle.label_commands.specs.Sound.{IsSoundScript};
 ghost use Rattle.call_report.specs.Outside.{Outside};
 ghost use Rattle.call_report.specs.CallEnds.{CallEnds};
 ghost use Rattle.call_report.specs.Printing.{Printed};
 ghost use Rattle.call_report.specs.Status.{status_number};
-ghost use Rattle.script_input.specs.Ends.{HasScript};
+ghost use Rattle.call_report.specs.script_input.Ends.{HasScript};
 ghost use Rattle.netlabel_audit.specs.Lines.{audit_usage_line};
 ghost use Rattle.netlabel_audit.specs.Says.{audit_says};
 ghost use Rattle.netlabel_audit.specs.Words.{audit_asked};
@@ -16,10 +16,9 @@ use crate::asked::{Audit, read_audit};
 use crate::find::find_verdict;
 use crate::lines::audit_usage;
 use crate::tell::tell;
-use call_report::{Report, Status};
+use call_report::{Report, Status, script_of};
 use label_commands::Script;
 use net_io::{Depot, Sink};
-use script_input::script_of;
 use std::alloc::Global;
 
 /// Reads the script and the report that the words name, and the capture of each flow of the script, and tells whether a run of the script by

@@ -5,10 +5,7 @@ ghost use Rattle.mls_label.specs.Runs.{numbers_of, runs_of};
 ghost use Rattle.netlabel_codec.specs.Written.{AreRunsFrom, run_ends};
 
 use crate::NetlabelRun;
-use mls_label::{CatSet, MOST_RUNS, TooManyRuns};
-
-/// The highest category that there is.
-const HIGHEST_CATEGORY: u16 = 65534;
+use mls_label::{CatSet, HIGHEST_CATEGORY, MOST_RUNS, TooManyRuns};
 
 /// Whether the runs ascend, each of them from its first to its last category.
 pub(crate) fn ascend(runs: &[NetlabelRun]) -> bool

@@ -7,7 +7,7 @@ ghost use Rattle.std.specs.Process.{exit_status};
 ghost use Rattle.call_report.specs.CallEnds.{MayEnd};
 ghost use Rattle.static_law.specs.Cover.{cover_says};
 
-use command_words::words_of;
+use label_commands::words_of;
 use net_io::{RealDepot, RealSink};
 use static_law::cover;
 use std::alloc::AllocError;

@@ -7,9 +7,9 @@ use Rattle.std.proofs.Math.Seq.{take-append_seam, drop-append_seam}
 use Rattle.std.proofs.lemmas.List.{append-nil, take-append-drop, drop-drop}
 use Rattle.std.proofs.lemmas.List.Elements.{All-append, All-head, All-tail}
 use Rattle.std.proofs.lemmas.List.Splits.{slice_split_none, slice_split_at, slice_split-cons_no, length-slice_split}
-use Rattle.file_window.specs.Window.{IsFrom}
-use Rattle.report_telling.specs.declared.way.Manner.{Manner}
-use Rattle.report_telling.specs.Taking.{Standing}
+use Rattle.net_io.specs.file_window.Window.{IsFrom}
+use Rattle.netlabel_report.specs.declared.report_telling.way.Manner.{Manner}
+use Rattle.netlabel_report.specs.report_telling.Taking.{Standing}
 use Rattle.netlabel_report.specs.Course.{Course, at_fault, most_line, parts_of, ended, kind_course, line_course, last_course, lines_course}
 use Rattle.netlabel_report.specs.inside.Telling.{IsGathered, IsNextLine, IsReadOn, MovesOn, last_part, part_read}
 

@@ -6,13 +6,13 @@ use Rattle.std.proofs.lemmas.Bool.Decides.{Decides-eqb}
 use Rattle.std.proofs.lemmas.List.{take_rest}
 use Rattle.net_io.specs.Depot.{DepotState, octets_of, OnlyReads}
 use Rattle.net_io.specs.Faults.{Rose, CountsByName}
-use Rattle.file_window.specs.Window.{IsFrom}
+use Rattle.net_io.specs.file_window.Window.{IsFrom}
 use Rattle.netlabel_report.specs.declared.lines.NextLine.{NextLine}
 use Rattle.netlabel_report.specs.declared.desk.TellStop.{TellStop}
 use Rattle.netlabel_report.specs.declared.desk.TellStop.TheVariants.{ReadFault}
 use Rattle.netlabel_report.specs.inside.Telling.{IsNextLine, AreRead}
 use Rattle.netlabel_report.specs.Names.{reports_named}
-use Rattle.command_words.specs.Words.{texts_of}
+use Rattle.label_commands.specs.command_words.Words.{texts_of}
 
 module _ {E : Type 0} (failed : E) (name : List ℕ) (a b : DepotState) where
   -- all reads so far have succeeded

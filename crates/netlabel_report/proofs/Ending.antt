@@ -21,13 +21,13 @@ use Rattle.call_report.specs.Stages.{Stage, reading_stage, input_in_hand}
 use Rattle.call_report.specs.Status.{status_number, write_status}
 use Rattle.call_report.proofs.Law.{a_report_takes_a_text, a_report_is_printed}
 use Rattle.call_report.proofs.Law.{Knows, Begins, asks, knows_reading, ends_printed, ends_printed_as, ends_short, ends_unwritten, ends_unprinted, ends_stopped_unread}
-use Rattle.script_input.specs.Ends.{IsScriptEnd}
-use Rattle.script_input.specs.ScriptFile.{script_read}
-use Rattle.script_input.proofs.Law.{ReadsScript, ends_without_script}
-use Rattle.report_telling.specs.declared.commands.CommandPlace.{CommandPlace}
-use Rattle.report_telling.specs.declared.way.Manner.{Manner}
-use Rattle.report_telling.specs.declared.way.Way.{Way}
-use Rattle.report_telling.specs.Taking.{Standing, no_report_text}
+use Rattle.call_report.specs.script_input.Ends.{IsScriptEnd}
+use Rattle.call_report.specs.script_input.ScriptFile.{script_read}
+use Rattle.call_report.proofs.script_input.Law.{ReadsScript, ends_without_script}
+use Rattle.netlabel_report.specs.declared.report_telling.commands.CommandPlace.{CommandPlace}
+use Rattle.netlabel_report.specs.declared.report_telling.way.Manner.{Manner}
+use Rattle.netlabel_report.specs.declared.report_telling.way.Way.{Way}
+use Rattle.netlabel_report.specs.report_telling.Taking.{Standing, no_report_text}
 use Rattle.netlabel_report.specs.declared.desk.TellStop.{TellStop}
 use Rattle.netlabel_report.specs.declared.desk.TellStop.TheVariants as stop
 use Rattle.netlabel_report.specs.declared.question.ReportQuestion.{ReportQuestion}

@@ -2,7 +2,7 @@
 use Rattle.std.proofs.Common.{◌≡◌, ℕ, List, map, Ok, Some}
 use Rattle.std.specs.List.{slice_get}
 use Rattle.label_commands.specs.declared.script.Script.{Script}
-use Rattle.script_input.specs.ScriptFile.{script_read}
+use Rattle.call_report.specs.script_input.ScriptFile.{script_read}
 use Rattle.netlabel_report.specs.Places.{places_of}
 use Rattle.netlabel_report.proofs.Steps.{places_are_steps}
 

@@ -9,7 +9,7 @@ use Rattle.std.proofs.lemmas.List.{append-nil, map-append}
 use Rattle.std.proofs.lemmas.List.Quantifiers.{position-Some}
 use Rattle.std.proofs.lemmas.Option.{none-some, same_Some, slice_get-get_or}
 use Rattle.std.proofs.lemmas.Slice.Eq.{bytes_eq-Decides}
-use Rattle.address_text.specs.Name.{name_of_text}
+use Rattle.domain_map.specs.address_text.Name.{name_of_text}
 use Rattle.script_lines.specs.declared.command.Command.{Command}
 use Rattle.script_lines.specs.declared.command.Step.{Step}
 use Rattle.script_lines.specs.declared.row.Row.{Row}
@@ -27,14 +27,14 @@ use Rattle.script_lines.specs.Octet.{is_plain}
 use Rattle.script_lines.specs.Said.{fits_row, read_row, read_fields, read_said}
 use Rattle.script_lines.specs.Stop.{fault, and_next}
 use Rattle.script_lines.specs.Word.{LineWord, words_of_line}
-use Rattle.flow_lines.specs.Flow.{read_flow}
+use Rattle.label_commands.specs.flow_lines.Flow.{read_flow}
 use Rattle.label_commands.specs.declared.script.Script.{Script}
 use Rattle.label_commands.specs.declared.stop.ScriptStop.{ScriptStop}
 use Rattle.label_commands.specs.Above.{Above, nothing_above, at_number, at_node, has_reading, with_reading, with_step, with_flow}
 use Rattle.label_commands.specs.Line.{is_word, alone, read_only_name, read_node, named_by, read_meanings, read_reading, is_reading, with_said, read_led, starts_table, read_table, read_flow_line, read_words, limit_passed, read_line}
 use Rattle.label_commands.specs.Script.{stop_at, passed, read_lines, script_of, read_text}
-use Rattle.script_input.specs.ScriptFile.{script_read}
-use Rattle.report_telling.specs.declared.commands.CommandPlace.{CommandPlace}
+use Rattle.call_report.specs.script_input.ScriptFile.{script_read}
+use Rattle.netlabel_report.specs.declared.report_telling.commands.CommandPlace.{CommandPlace}
 use Rattle.netlabel_report.specs.Places.{is_no_command, node_behind, place_under, place_in, places_from, places_of}
 
 -- ---- results

@@ -11,10 +11,10 @@ use Rattle.net_io.specs.declared.fault.IoFault.{IoFault}
 use Rattle.net_io.specs.declared.fault.IoFault.TheVariants as io
 use Rattle.call_report.specs.Printing.{HandsOn}
 use Rattle.call_report.proofs.Law.{nothing_is_handed_on, texts_join}
-use Rattle.report_telling.specs.declared.way.Manner.{Manner}
-use Rattle.report_telling.specs.declared.taking.LineKind.{LineKind}
-use Rattle.report_telling.specs.Counts.{risen}
-use Rattle.report_telling.specs.Taking.{Standing, line_kind, line_text, after_line, unfinished_text}
+use Rattle.netlabel_report.specs.declared.report_telling.way.Manner.{Manner}
+use Rattle.netlabel_report.specs.declared.report_telling.taking.LineKind.{LineKind}
+use Rattle.netlabel_report.specs.report_telling.Counts.{risen}
+use Rattle.netlabel_report.specs.report_telling.Taking.{Standing, line_kind, line_text, after_line, unfinished_text}
 use Rattle.netlabel_report.specs.declared.lines.NextLine.TheVariants.{Line, End}
 use Rattle.netlabel_report.specs.declared.desk.TellStop.{TellStop}
 use Rattle.netlabel_report.specs.declared.desk.TellStop.TheVariants.{NoReport, ReadFault, Unwritten, OutOfMemory}

@@ -2,10 +2,10 @@
 use Rattle.std.specs.Prelude.{ℕ, Bool, true, false, List, [], ◌∷◌, codes, Option, Some, None, option_and_then, if◌then◌else◌}
 use Rattle.std.specs.List.{list_all}
 use Rattle.std.specs.Str.{bytes_eq}
-use Rattle.flow_lines.specs.FileName.{is_file_name, file_name_of_text}
+use Rattle.label_commands.specs.flow_lines.FileName.{is_file_name, file_name_of_text}
 use Rattle.call_report.specs.Lines.Parts.{line_of}
-use Rattle.report_telling.specs.declared.way.Way.{Way}
-use Rattle.report_telling.specs.declared.way.Way.TheVariants.{Summary, Denied, Json, Csv}
+use Rattle.netlabel_report.specs.declared.report_telling.way.Way.{Way}
+use Rattle.netlabel_report.specs.declared.report_telling.way.Way.TheVariants.{Summary, Denied, Json, Csv}
 use Rattle.netlabel_report.specs.Names.{reports_named}
 use Rattle.netlabel_report.specs.declared.question.ReportQuestion.{ReportQuestion}
 

@@ -2,9 +2,9 @@
 use Rattle.std.specs.Prelude.{ℕ, nat_lt, List, [], ◌∷◌, ◌++◌, length, Option, Some, None, Ok, Err, ◌==◌, if◌then◌else◌}
 use Rattle.std.specs.List.{slice_split}
 use Rattle.label_commands.specs.declared.stop.ScriptStop.{ScriptStop}
-use Rattle.report_telling.specs.declared.way.Manner.{Manner}
-use Rattle.report_telling.specs.Counts.{risen}
-use Rattle.report_telling.specs.Taking.{Standing, line_kind, line_text, after_line, unfinished_text, after_end}
+use Rattle.netlabel_report.specs.declared.report_telling.way.Manner.{Manner}
+use Rattle.netlabel_report.specs.report_telling.Counts.{risen}
+use Rattle.netlabel_report.specs.report_telling.Taking.{Standing, line_kind, line_text, after_line, unfinished_text, after_end}
 
 -- Reports were read to their ends; one of them is absent, or the script is; the script is none; or the line behind those that were taken is none, from this octet on.
 pub data CourseEnd : Type 0 where

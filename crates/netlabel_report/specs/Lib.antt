@@ -4,3 +4,4 @@ pub mod Places
 pub mod Course
 pub mod Says
 pub mod inside
+pub mod report_telling

@@ -2,13 +2,13 @@
 use Rattle.std.specs.Prelude.{ℕ, ◌+◌, Bool, false, not, ◌||◌, List, [], ◌∷◌, ◌++◌, codes, Option, Some, None, Result, Ok, Err, if◌then◌else◌}
 use Rattle.std.specs.Str.{bytes_eq}
 use Rattle.std.specs.Str.Lines.{lines}
-use Rattle.address_text.specs.Name.{name_of_text}
+use Rattle.domain_map.specs.address_text.Name.{name_of_text}
 use Rattle.script_lines.specs.Word.{LineWord, words_of_line}
 use Rattle.label_commands.specs.declared.script.Script.{Script}
 use Rattle.label_commands.specs.declared.stop.ScriptStop.{ScriptStop}
-use Rattle.script_input.specs.ScriptFile.{script_read}
+use Rattle.call_report.specs.script_input.ScriptFile.{script_read}
 use Rattle.call_report.specs.Report.{Folder}
-use Rattle.report_telling.specs.declared.commands.CommandPlace.{CommandPlace}
+use Rattle.netlabel_report.specs.declared.report_telling.commands.CommandPlace.{CommandPlace}
 
 -- a line that begins with this word is no command
 abbrev pub is_no_command : List ℕ → Bool

@@ -2,19 +2,19 @@
 use Rattle.std.specs.Prelude.{◌≡◌, ◌⊎◌, ◌<◌, ℕ, ◌+◌, ◌==◌, ◌&&◌, not, Bool, IsTrue, List, [], ◌∷◌, ◌++◌, length, take, map, Option, Some, None, Err, if◌then◌else◌}
 use Rattle.std.specs.List.{concat, range_with_len}
 use Rattle.label_commands.specs.declared.stop.ScriptStop.{ScriptStop}
-use Rattle.script_input.specs.ScriptFile.{script_read, script_stop_status}
+use Rattle.call_report.specs.script_input.ScriptFile.{script_read, script_stop_status}
 use Rattle.call_report.specs.Lines.Script.{script_stop_line}
 use Rattle.call_report.specs.Report.{Folder, Report}
 use Rattle.call_report.specs.Says.{Says, usage_says}
 use Rattle.call_report.specs.Stages.{Stage, reading_stage}
-use Rattle.report_telling.specs.declared.counts.Progress.{Progress}
-use Rattle.report_telling.specs.declared.way.Manner.{Manner}
-use Rattle.report_telling.specs.declared.way.Way.{Way}
-use Rattle.report_telling.specs.declared.way.Way.TheVariants.{Summary, Denied, Json, Csv}
-use Rattle.report_telling.specs.Counts.{start_progress}
-use Rattle.report_telling.specs.Csv.{heading}
-use Rattle.report_telling.specs.Summary.{summary_text}
-use Rattle.report_telling.specs.Taking.{Standing, no_report_text}
+use Rattle.netlabel_report.specs.declared.report_telling.counts.Progress.{Progress}
+use Rattle.netlabel_report.specs.declared.report_telling.way.Manner.{Manner}
+use Rattle.netlabel_report.specs.declared.report_telling.way.Way.{Way}
+use Rattle.netlabel_report.specs.declared.report_telling.way.Way.TheVariants.{Summary, Denied, Json, Csv}
+use Rattle.netlabel_report.specs.report_telling.Counts.{start_progress}
+use Rattle.netlabel_report.specs.report_telling.Csv.{heading}
+use Rattle.netlabel_report.specs.report_telling.Summary.{summary_text}
+use Rattle.netlabel_report.specs.report_telling.Taking.{Standing, no_report_text}
 use Rattle.netlabel_report.specs.declared.question.ReportQuestion.{ReportQuestion}
 use Rattle.netlabel_report.specs.Asked.{report_usage_line}
 use Rattle.netlabel_report.specs.Course.{at_end, at_absent, at_script, at_fault, Course, ended, with_front, reports_course}

@@ -2,18 +2,17 @@
 
 ghost use Rattle.std.specs.Prelude.{◌≡◌, ◌++◌, [], IfOk};
 ghost use Rattle.call_report.specs.Printing.{HandsOn};
-ghost use Rattle.report_telling.specs.Counts.{risen, start_progress};
-ghost use Rattle.report_telling.specs.Taking.{Standing, unfinished_text, after_end};
+ghost use Rattle.netlabel_report.specs.report_telling.Counts.{risen, start_progress};
+ghost use Rattle.netlabel_report.specs.report_telling.Taking.{Standing, unfinished_text, after_end};
 ghost use Rattle.netlabel_report.specs.declared.desk.TellStop.TheVariants.{OutOfMemory as StopOutOfMemory};
 ghost use Rattle.netlabel_report.specs.inside.Telling.{IsTaken, IsEndTaken, IsPassed};
 
-use call_report::Report;
-use file_window::Window;
-use mls_label::{Label, OutOfMemory};
-use net_io::{IoFault, Sink};
-use report_telling::{
+use crate::report_telling::{
     Manner, Progress, Tally, count_end, count_line, line_kind, risen, start, tell_end, tell_line,
 };
+use call_report::Report;
+use mls_label::{Label, OutOfMemory};
+use net_io::{IoFault, Sink, Window};
 use std::alloc::{AllocError, Global};
 
 /// Why reports aren't told to their end.

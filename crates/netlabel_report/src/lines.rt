@@ -3,12 +3,11 @@
 ghost use Rattle.std.specs.Prelude.{◌≡◌, ◌+◌, ◌++◌, ◌==◌, ◌<◌, ◌≤◌, ◌^◌, IsTrue, false, [], length, drop, IfOk, OnOk};
 ghost use Rattle.std.specs.List.{All};
 ghost use Rattle.net_io.specs.Depot.{octets_of, OnlyReads};
-ghost use Rattle.file_window.specs.Window.{IsFrom};
+ghost use Rattle.net_io.specs.file_window.Window.{IsFrom};
 ghost use Rattle.netlabel_report.specs.inside.Telling.{IsNextLine, IsReadOn, MovesOn, IsGathered, last_part, part_read};
 
-use file_window::Window;
 use mls_label::OutOfMemory;
-use net_io::{Depot, IoFault};
+use net_io::{Depot, IoFault, Window};
 
 /// The most octets of a line.
 const MOST_LINE: usize = 1_048_576;

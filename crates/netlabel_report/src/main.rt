@@ -9,6 +9,7 @@ mod lines;
 mod names;
 mod question;
 mod reading;
+mod report_telling;
 mod reports;
 mod script;
 #[cfg(test)]
@@ -20,7 +21,7 @@ ghost use Rattle.std.specs.Process.{exit_status};
 ghost use Rattle.call_report.specs.CallEnds.{MayEnd};
 ghost use Rattle.netlabel_report.specs.Says.{report_says};
 
-use command_words::words_of;
+use label_commands::words_of;
 use net_io::{RealDepot, RealSink};
 use std::alloc::AllocError;
 use std::io;

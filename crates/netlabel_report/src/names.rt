@@ -10,7 +10,7 @@ pub(crate) struct ReportNames<'a> {
 
 impl<'a> Model for ReportNames<'a> {
     ghost use Rattle.std.specs.Prelude.{List, ℕ};
-    ghost use Rattle.command_words.specs.Words.{texts_of};
+    ghost use Rattle.label_commands.specs.command_words.Words.{texts_of};
     ghost use Rattle.netlabel_report.specs.Names.{reports_named};
 
     ghost Value = { List (List ℕ) };

@@ -2,20 +2,19 @@
 
 ghost use Rattle.std.specs.Prelude.{◌≡◌, None};
 ghost use Rattle.std.specs.List.{list_all};
-ghost use Rattle.flow_lines.specs.FileName.{is_file_name};
-ghost use Rattle.command_words.specs.Words.{texts_of};
+ghost use Rattle.label_commands.specs.flow_lines.FileName.{is_file_name};
+ghost use Rattle.label_commands.specs.command_words.Words.{texts_of};
 ghost use Rattle.netlabel_report.specs.Asked.{way_of_word, question_by, question_scripted, question_behind, question_asked, report_usage_line};
 
 use crate::names::ReportNames;
-use command_words::FileName;
-use flow_lines::is_file_name;
-use report_telling::Way;
+use crate::report_telling::Way;
+use label_commands::{NamedFile, is_file_name};
 
 /// Reports that are to be told, the script whose commands they answer, and whether the status is to tell that something was refused in them.
 #[derive(Debug, Drop)]
 pub(crate) struct ReportQuestion<'a> {
     pub(crate) tells: bool,
-    pub(crate) script: Option<FileName<'a>>,
+    pub(crate) script: Option<NamedFile<'a>>,
     pub(crate) way: Way,
     pub(crate) names: ReportNames<'a>,
 }
@@ -59,7 +58,7 @@ fn question_scripted<'a>(tells: bool, words: &'a [String]) -> Option<ReportQuest
     match words {
         [] => None,
         [script, behind @ ..] => {
-            let script = FileName::named(script)?;
+            let script = NamedFile::named(script)?;
             question_by(tells, Some(script), behind)
         }
     }
@@ -68,7 +67,7 @@ fn question_scripted<'a>(tells: bool, words: &'a [String]) -> Option<ReportQuest
 /// The same of the way, and names behind it.
 fn question_by<'a>(
     tells: bool,
-    script: Option<FileName<'a>>,
+    script: Option<NamedFile<'a>>,
     words: &'a [String],
 ) -> Option<ReportQuestion<'a>>
     ensures { result ≡ question_by tells script.entry (texts_of words.now) }

@@ -7,9 +7,9 @@ ghost use Rattle.netlabel_report.specs.inside.Telling.{Tells, read_stop};
 
 use crate::desk::{Desk, TellStop, take_end, take_line};
 use crate::lines::{NextLine, next_line};
+use crate::report_telling::Manner;
 use call_report::Report;
 use net_io::{Depot, IoFault, Sink};
-use report_telling::Manner;
 
 /// Tells a report, line by line.
 pub(crate) fn tell_report<D: Depot, S: Sink>(

@@ -1,16 +1,16 @@
 //! Report for report.
 
 ghost use Rattle.std.specs.Prelude.{◌≡◌};
-ghost use Rattle.command_words.specs.Words.{texts_of};
+ghost use Rattle.label_commands.specs.command_words.Words.{texts_of};
 ghost use Rattle.netlabel_report.specs.Names.{reports_named};
 ghost use Rattle.netlabel_report.specs.Course.{reports_course};
 ghost use Rattle.netlabel_report.specs.inside.Telling.{Tells, AreRead};
 
 use crate::desk::{Desk, TellStop};
 use crate::reading::tell_report;
+use crate::report_telling::Manner;
 use call_report::Report;
 use net_io::{Depot, Sink};
-use report_telling::Manner;
 
 /// The name that the system gives the standard input.
 const STANDARD_INPUT: &str = "/dev/stdin";

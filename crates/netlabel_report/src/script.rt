@@ -1,16 +1,15 @@
 //! The commands of the script that reports are told by.
 
 ghost use Rattle.std.specs.Prelude.{◌≡◌, ◌++◌, IfOk, IfErr, OnOk};
-ghost use Rattle.script_input.specs.Ends.{IsScriptEnd};
+ghost use Rattle.call_report.specs.script_input.Ends.{IsScriptEnd};
 ghost use Rattle.netlabel_report.specs.Places.{is_no_command, is_command, node_behind, place_under, place_in, places_of};
 ghost use Rattle.netlabel_report.specs.inside.Telling.{HasCommands};
 
-use address_text::{Name, read_name};
-use call_report::Status;
+use crate::report_telling::{CommandPlace, Commands};
+use call_report::{Status, script_with_text};
+use domain_map::{Name, read_name};
 use mls_label::OutOfMemory;
 use net_io::{Depot, Sink};
-use report_telling::{CommandPlace, Commands};
-use script_input::script_with_text;
 use script_lines::{Word, next_line, words_into};
 use std::alloc::Global;
 

@@ -1,12 +1,12 @@
 //! The one call that the program makes.
 
 ghost use Rattle.std.specs.Prelude.{◌≡◌, ◌++◌, [], Some, OnOk};
-ghost use Rattle.command_words.specs.Words.{texts_of};
+ghost use Rattle.label_commands.specs.command_words.Words.{texts_of};
 ghost use Rattle.call_report.specs.CallEnds.{CallEnds};
 ghost use Rattle.call_report.specs.Outside.{Outside};
 ghost use Rattle.call_report.specs.Printing.{Printed};
 ghost use Rattle.call_report.specs.Status.{status_number};
-ghost use Rattle.report_telling.specs.Taking.{no_report_text};
+ghost use Rattle.netlabel_report.specs.report_telling.Taking.{no_report_text};
 ghost use Rattle.netlabel_report.specs.Names.{reports_named};
 ghost use Rattle.netlabel_report.specs.Asked.{question_asked, report_usage_line};
 ghost use Rattle.netlabel_report.specs.Says.{opening_text, closing_text, told_course, start_standing, has_refused, report_says};
@@ -14,12 +14,14 @@ ghost use Rattle.netlabel_report.specs.inside.Telling.{HasCommands, Tells, AreRe
 
 use crate::desk::{Desk, TellStop};
 use crate::question::{ReportQuestion, read_question, report_usage};
+use crate::report_telling::{
+    Commands, Manner, Progress, Tally, Way, heading, write_fault, write_summary,
+};
 use crate::reports::tell_reports;
 use crate::script::commands_of;
 use call_report::{Report, Status};
 use mls_label::OutOfMemory;
 use net_io::{Depot, Sink};
-use report_telling::{Commands, Manner, Progress, Tally, Way, heading, write_fault, write_summary};
 use std::alloc::Global;
 
 /// The status where memory ran out before anything was read.

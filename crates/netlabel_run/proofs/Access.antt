@@ -5,18 +5,18 @@ use Rattle.std.proofs.lemmas.List.Elements.{All-nil, All-cons}
 use Rattle.script_lines.specs.Form.{with_translations}
 use Rattle.label_commands.specs.declared.script.Script.{Script}
 use Rattle.label_commands.specs.declared.stop.ScriptStop.{ScriptStop}
-use Rattle.flow_lines.specs.declared.flow.FlowLine.{FlowLine}
+use Rattle.label_commands.specs.declared.flow_lines.flow.FlowLine.{FlowLine}
 use Rattle.call_report.specs.Report.{Folder, Versions}
 use Rattle.call_report.specs.Event.{packets_limit}
-use Rattle.flow_access.specs.Valid.{IsValidFlow, plan_of}
-use Rattle.flow_access.proofs.Law.{walked_packets_have_access, flows_of_scripts_are_valid}
-use Rattle.flow_run.specs.Input.{packets_in}
-use Rattle.flow_run.specs.Run.{FlowRun, IsRun}
-use Rattle.flow_run.proofs.Law.{runs_withhold_what_no_option_says}
+use Rattle.label_flow.specs.flow_access.Valid.{IsValidFlow, plan_of}
+use Rattle.label_flow.proofs.flow_access.Law.{walked_packets_have_access, flows_of_scripts_are_valid}
+use Rattle.script_run.specs.flow_run.Input.{packets_in}
+use Rattle.script_run.specs.flow_run.Run.{FlowRun, IsRun}
+use Rattle.script_run.proofs.flow_run.Law.{runs_withhold_what_no_option_says}
 use Rattle.script_run.specs.Runs.{AreRuns}
 use Rattle.netlabel_run.specs.declared.command.Command.{Command}
 use Rattle.netlabel_run.specs.declared.command.Command.TheVariants.{Judge, Check, Show, Agree, Make, Run}
-use Rattle.script_input.specs.ScriptFile.{script_read, ByAnswer, ByScript}
+use Rattle.call_report.specs.script_input.ScriptFile.{script_read, ByAnswer, ByScript}
 use Rattle.netlabel_run.specs.Run.{AreItsRuns, HasRunAccess, RunWithholds}
 use Rattle.netlabel_run.specs.Commands.{netlabel_says}
 

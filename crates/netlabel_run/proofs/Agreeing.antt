@@ -1,7 +1,7 @@
 -- What `agree` answers is an answer to a script.
 use Rattle.std.proofs.Common.{ℕ, List, Option}
-use Rattle.script_input.specs.Answer.{HopsAnswer}
-use Rattle.script_input.proofs.Law.{IsAnswering, hops_are_answered, ReadsScript, answers_read}
+use Rattle.call_report.specs.script_input.Answer.{HopsAnswer}
+use Rattle.call_report.proofs.script_input.Law.{IsAnswering, hops_are_answered, ReadsScript, answers_read}
 use Rattle.netlabel_run.specs.Agree.{IsFound, agree_text, agree_says}
 
 pub agreement_answers : (number : ℕ) (named : Option (List ℕ)) → IsAnswering (HopsAnswer IsFound agree_text number named)

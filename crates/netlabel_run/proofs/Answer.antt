@@ -8,8 +8,8 @@ use Rattle.packet_label.specs.declared.fault.CarryFault.{CarryFault}
 use Rattle.packet_label.specs.declared.packet.Wire.{Wire}
 use Rattle.packet_label.specs.Written.{IsReadAs}
 use Rattle.packet_label.proofs.Law.{octets_are_a_packet_or_have_one_fault}
-use Rattle.packet_walk.specs.declared.packet.PacketIn.{PacketIn}
-use Rattle.capture_reader.specs.Frame.{CapturedFrame, packet_in}
+use Rattle.captures.specs.declared.packet_in.PacketIn.{PacketIn}
+use Rattle.captures.specs.Frame.{CapturedFrame, packet_in}
 use Rattle.label_receive.proofs.Law.{verdicts_are_determined}
 use Rattle.netlabel_run.specs.Judge.{judge_rule, IsVerdict}
 use Rattle.call_report.specs.Lines.Denial.{Verdict}

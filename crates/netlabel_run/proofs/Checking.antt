@@ -11,7 +11,7 @@ use Rattle.netlabel_run.specs.declared.command.Command.TheVariants.{Check}
 use Rattle.call_report.specs.declared.status.Status.{Status}
 use Rattle.call_report.specs.declared.status.Status.TheVariants.{Done}
 use Rattle.call_report.specs.CallEnds.{CallEnds}
-use Rattle.script_input.specs.ScriptFile.{script_read}
+use Rattle.call_report.specs.script_input.ScriptFile.{script_read}
 use Rattle.netlabel_run.specs.Check.{check_text, script_report, CheckReport, script_status, CheckStatus}
 use Rattle.netlabel_run.specs.Commands.{netlabel_says}
 use Rattle.call_report.specs.Report.{Report}
@@ -21,7 +21,7 @@ use Rattle.call_report.specs.Status.{status_number}
 use Rattle.call_report.specs.Printing.{Printed}
 use Rattle.call_report.proofs.Law.{asks, ends_printed, knows_file}
 use Rattle.call_report.specs.Outside.{IsOnlyRead}
-use Rattle.script_input.proofs.Law.{ReadsScript}
+use Rattle.call_report.proofs.script_input.Law.{ReadsScript}
 
 pauses_late : (read : Result Script ScriptStop) → (script_report read).pauses ≡ [] ∷ []
 pauses_late (Ok script) = refl

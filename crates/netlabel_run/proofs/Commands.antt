@@ -7,8 +7,8 @@ use Rattle.std.proofs.lemmas.Fmt.{decimal_injective}
 use Rattle.std.proofs.lemmas.List.{length-map}
 use Rattle.mls_label.specs.declared.label.Label.{Label}
 use Rattle.netlabel_run.specs.declared.command.Command.TheVariants.{Judge, Check, Show, Agree, Make, Run}
-use Rattle.flow_lines.specs.FileName.{is_file_name, file_name_of_text}
-use Rattle.command_words.specs.Words.{texts_of}
+use Rattle.label_commands.specs.flow_lines.FileName.{is_file_name, file_name_of_text}
+use Rattle.label_commands.specs.command_words.Words.{texts_of}
 use Rattle.netlabel_run.specs.Words.{IsLevel, plainly, with_workers, without_versions, with_versions, IsForm}
 
 named_by : (test : Bool) (word name : List ℕ) → Some name ≡ cond test (Some word) None → (name ≡ word) × IsTrue test

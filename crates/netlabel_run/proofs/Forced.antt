@@ -5,11 +5,11 @@ use Rattle.label_commands.specs.declared.script.Script.{Script}
 use Rattle.label_commands.specs.declared.stop.ScriptStop.{ScriptStop}
 use Rattle.call_report.specs.Report.{Folder, Versions}
 use Rattle.call_report.specs.Event.{packets_limit}
-use Rattle.flow_run.specs.Run.{FlowRun}
-use Rattle.flow_access.specs.Valid.{plan_of}
+use Rattle.script_run.specs.flow_run.Run.{FlowRun}
+use Rattle.label_flow.specs.flow_access.Valid.{plan_of}
 use Rattle.script_run.specs.Runs.{AreWholeRuns, IsLawfulRun, HasNoneBeside}
 use Rattle.script_run.proofs.Law.{runs_are_determined, runs_without_steps_are_forced}
-use Rattle.script_input.specs.ScriptFile.{script_read, ByAnswer, ByScript}
+use Rattle.call_report.specs.script_input.ScriptFile.{script_read, ByAnswer, ByScript}
 use Rattle.netlabel_run.specs.Run.{AreItsRuns, run_says}
 use Rattle.netlabel_run.specs.Laws.{HasNoCommandBeside}
 

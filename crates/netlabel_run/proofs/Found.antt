@@ -3,15 +3,15 @@ use Rattle.std.proofs.Common.{◌≡◌, ◌↔◌, ℕ, true, List, [], ◌∷�
 use Rattle.std.specs.Prelude.{IsTrue, is_none, IfSome, IfNone}
 use Rattle.std.specs.List.{list_all}
 use Rattle.std.proofs.lemmas.Bool.{and_from, and_parts}
-use Rattle.flow_lines.specs.declared.hop.Hop.{Hop}
-use Rattle.node_readings.specs.Reading.{NamedMeanings}
-use Rattle.node_agreement.specs.declared.disagree.Disagree.{Disagree}
-use Rattle.node_agreement.specs.Agreement.{Agree}
-use Rattle.node_agreement.specs.First.{IsFirst}
-use Rattle.node_agreement.proofs.Law.{nodes_agree_without_a_difference, one_difference_is_first}
+use Rattle.label_commands.specs.declared.flow_lines.hop.Hop.{Hop}
+use Rattle.label_commands.specs.node_readings.Reading.{NamedMeanings}
+use Rattle.label_flow.specs.declared.node_agreement.disagree.Disagree.{Disagree}
+use Rattle.label_flow.specs.node_agreement.Agreement.{Agree}
+use Rattle.label_flow.specs.node_agreement.First.{IsFirst}
+use Rattle.label_flow.proofs.node_agreement.Law.{nodes_agree_without_a_difference, one_difference_is_first}
 use Rattle.shared_tables.specs.Plan.{PlanState}
-use Rattle.flow_access.specs.Kept.{NeighboursAgree}
-use Rattle.script_input.specs.Neighbours.{HopState, hop_under}
+use Rattle.label_flow.specs.flow_access.Kept.{NeighboursAgree}
+use Rattle.call_report.specs.script_input.Neighbours.{HopState, hop_under}
 use Rattle.netlabel_run.specs.Agree.{IsFound, AreFound}
 
 module _ (left right : HopState) where

@@ -23,13 +23,13 @@ use Rattle.packet_label.specs.declared.fault.CarryFault.{CarryFault}
 use Rattle.packet_label.specs.Written.{IsReadAs}
 use Rattle.doi_table.specs.declared.plan.DoiPlan.{DoiPlan}
 use Rattle.doi_table.specs.Translation.{local_label}
-use Rattle.address_text.specs.declared.address.Address.{Address}
-use Rattle.address_text.specs.declared.address.Address.TheVariants as address
-use Rattle.address_text.specs.Address.{same_address}
+use Rattle.domain_map.specs.declared.address_text.address.Address.{Address}
+use Rattle.domain_map.specs.declared.address_text.address.Address.TheVariants as address
+use Rattle.domain_map.specs.address_text.Address.{same_address}
 use Rattle.domain_map.specs.declared.protocol.Protocol.TheVariants.{Cipso, Calipso}
 use Rattle.domain_map.specs.declared.rule.Rule.TheVariants.{Plain}
 use Rattle.domain_map.specs.Domains.{added, find_of}
-use Rattle.command_values.specs.Ranges.{range_below}
+use Rattle.script_lines.specs.command_values.Ranges.{range_below}
 use Rattle.script_lines.specs.declared.command.Command.TheVariants.{MapAdd, ReceiverAdd}
 use Rattle.node_tables.specs.declared.receiver.Receiver.{Receiver}
 use Rattle.node_tables.specs.declared.reply.Refusal.TheVariants.{DoiUnknown}

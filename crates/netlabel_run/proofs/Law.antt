@@ -3,11 +3,11 @@ use Rattle.std.proofs.Common.{◌≡◌, ◌<◌, ℕ, List, Option, ◌↔◌, 
 use Rattle.std.specs.Prelude.{IsTrue, is_none}
 use Rattle.std.specs.List.{list_all}
 use Rattle.mls_label.specs.declared.label.Label.{Label}
-use Rattle.flow_lines.specs.declared.hop.Hop.{Hop}
-use Rattle.node_readings.specs.Reading.{NamedMeanings}
-use Rattle.node_agreement.specs.declared.disagree.Disagree.{Disagree}
+use Rattle.label_commands.specs.declared.flow_lines.hop.Hop.{Hop}
+use Rattle.label_commands.specs.node_readings.Reading.{NamedMeanings}
+use Rattle.label_flow.specs.declared.node_agreement.disagree.Disagree.{Disagree}
 use Rattle.shared_tables.specs.Plan.{PlanState}
-use Rattle.flow_access.specs.Kept.{NeighboursAgree}
+use Rattle.label_flow.specs.flow_access.Kept.{NeighboursAgree}
 use Rattle.netlabel_run.specs.declared.command.Command.{Command}
 use Rattle.netlabel_run.specs.Words.{IsAsked}
 use Rattle.call_report.specs.Report.{Folder, Versions, Report}

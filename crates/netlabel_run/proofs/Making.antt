@@ -4,7 +4,7 @@ use Rattle.std.specs.Prelude.{IsTrue, All, Contains}
 use Rattle.std.proofs.lemmas.List.{append-nil}
 use Rattle.std.proofs.lemmas.List.Elements.{All-nil, All-cons}
 use Rattle.net_io.specs.Sink.{SinkState}
-use Rattle.made_capture.specs.Capture.{capture_made}
+use Rattle.made_run.specs.made_capture.Capture.{capture_made}
 use Rattle.made_run.specs.Ends.{MakesCapture}
 use Rattle.made_run.specs.Verdict.{delivered_made, denied_made}
 use Rattle.made_run.specs.declared.stop.MadeStop.{MadeStop}

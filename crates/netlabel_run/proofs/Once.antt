@@ -5,33 +5,33 @@ use Rattle.std.proofs.lemmas.Fmt.{decimal_injective}
 use Rattle.mls_label.specs.declared.label.Label.{Label}
 use Rattle.mls_range.specs.LabelText.{IsLabelText}
 use Rattle.mls_range.proofs.Law.{a_text_has_one_label}
-use Rattle.command_values.specs.Doi.{doi_of_text}
-use Rattle.flow_lines.specs.declared.flow.FlowLine.{FlowLine}
+use Rattle.script_lines.specs.command_values.Doi.{doi_of_text}
+use Rattle.label_commands.specs.declared.flow_lines.flow.FlowLine.{FlowLine}
 use Rattle.label_commands.specs.declared.script.Script.{Script}
 use Rattle.label_commands.specs.declared.stop.ScriptStop.{ScriptStop}
-use Rattle.capture_reader.specs.declared.format.CaptureFormat.{CaptureFormat}
-use Rattle.capture_reader.specs.declared.fault.FileFault.{FileFault}
-use Rattle.capture_reader.specs.CaptureFile.{CaptureFile, capture_file}
+use Rattle.captures.specs.declared.format.CaptureFormat.{CaptureFormat}
+use Rattle.captures.specs.declared.fault.FileFault.{FileFault}
+use Rattle.captures.specs.CaptureFile.{CaptureFile, capture_file}
 use Rattle.netlabel_run.specs.declared.command.Command.{Command}
 use Rattle.netlabel_run.specs.declared.command.Command.TheVariants.{Judge, Check, Show, Agree, Make, Run}
 use Rattle.call_report.specs.Lines.Denial.{verdict_line}
-use Rattle.command_words.specs.Numbers.{number_named, versions_named}
+use Rattle.label_commands.specs.command_words.Numbers.{number_named, versions_named}
 use Rattle.netlabel_run.specs.Words.{AsksToJudge, AsksToRun, plainly, with_workers, AsksToAgree, without_versions, with_versions, AsksToMake, IsAsked}
-use Rattle.script_input.specs.ScriptFile.{script_read, ByAnswer, ByScript, script_stop_status, ScriptReport, ScriptStatus}
+use Rattle.call_report.specs.script_input.ScriptFile.{script_read, ByAnswer, ByScript, script_stop_status, ScriptReport, ScriptStatus}
 use Rattle.netlabel_run.specs.Judge.{JudgeReport, absent, too_long, judged, JudgeStatus}
 use Rattle.netlabel_run.specs.Check.{CheckReport, CheckStatus}
 use Rattle.netlabel_run.specs.Agree.{IsFound, agree_text}
-use Rattle.script_input.specs.Answer.{HopsAnswer}
-use Rattle.script_input.proofs.Law.{one_answer}
+use Rattle.call_report.specs.script_input.Answer.{HopsAnswer}
+use Rattle.call_report.proofs.script_input.Law.{one_answer}
 use Rattle.netlabel_run.specs.Show.{lines_report, CaptureReport, ShowReport, ShowStatus}
 use Rattle.netlabel_run.specs.Run.{AreItsRuns, flow_stage}
 use Rattle.netlabel_run.specs.Commands.{netlabel_says}
 use Rattle.call_report.specs.Event.{Event, packets_limit, capture_event}
 use Rattle.call_report.specs.Stages.{reading_stage}
 use Rattle.call_report.specs.Lines.Script.{script_stop_line}
-use Rattle.flow_run.specs.Input.{flow_input}
-use Rattle.flow_run.specs.Run.{FlowRun}
-use Rattle.flow_access.specs.Valid.{plan_of}
+use Rattle.script_run.specs.flow_run.Input.{flow_input}
+use Rattle.script_run.specs.flow_run.Run.{FlowRun}
+use Rattle.label_flow.specs.flow_access.Valid.{plan_of}
 use Rattle.script_run.specs.Runs.{StatusOr, FlowsStatus}
 use Rattle.script_run.specs.Report.{runs_report, runs_outputs}
 use Rattle.script_run.proofs.Law.{runs_are_determined}

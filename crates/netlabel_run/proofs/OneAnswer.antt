@@ -1,20 +1,20 @@
 -- Where no command of a script stands beside a flow, folders that hold the same script and captures have one report, and one list of outputs.
 use Rattle.std.proofs.Common.{◌≡◌, ℕ, List, [], Option, Some, None, Result, Ok, Err, subst}
 use Rattle.std.specs.Prelude.{All}
-use Rattle.flow_lines.specs.declared.flow.FlowLine.{FlowLine}
+use Rattle.label_commands.specs.declared.flow_lines.flow.FlowLine.{FlowLine}
 use Rattle.label_commands.specs.declared.script.Script.{Script}
 use Rattle.label_commands.specs.declared.stop.ScriptStop.{ScriptStop}
 use Rattle.call_report.specs.Lines.Script.{script_stop_line}
 use Rattle.call_report.specs.Report.{Folder, Versions, Report, late_report}
 use Rattle.call_report.specs.Output.{Output}
 use Rattle.call_report.specs.Event.{packets_limit}
-use Rattle.flow_run.specs.Run.{FlowRun}
-use Rattle.flow_access.specs.Valid.{plan_of}
+use Rattle.script_run.specs.flow_run.Run.{FlowRun}
+use Rattle.label_flow.specs.flow_access.Valid.{plan_of}
 use Rattle.script_run.specs.Runs.{AreWholeRuns, IsLawfulRun}
 use Rattle.script_run.specs.Report.{runs_report, runs_outputs}
 use Rattle.script_run.proofs.Law.{runs_know_their_inputs_alone}
 use Rattle.netlabel_run.specs.declared.command.Command.TheVariants.{Run}
-use Rattle.script_input.specs.ScriptFile.{script_read, ByAnswer, ByScript}
+use Rattle.call_report.specs.script_input.ScriptFile.{script_read, ByAnswer, ByScript}
 use Rattle.netlabel_run.specs.Run.{AreItsRuns, RunReport, RunOutputs}
 use Rattle.netlabel_run.specs.Laws.{HasNoCommandBeside, HoldTheSame, IsAnswer}
 use Rattle.netlabel_run.proofs.Forced.{forced}

@@ -6,7 +6,7 @@ use Rattle.std.proofs.lemmas.List.{length-map, length-take-le, length-append, ta
 use Rattle.std.proofs.lemmas.List.Elements.{All-nil, All-cons}
 use Rattle.label_commands.specs.declared.script.Script.{Script}
 use Rattle.label_commands.specs.declared.stop.ScriptStop.{ScriptStop}
-use Rattle.flow_lines.specs.declared.flow.FlowLine.{FlowLine}
+use Rattle.label_commands.specs.declared.flow_lines.flow.FlowLine.{FlowLine}
 use Rattle.net_io.specs.Depot.{DepotState, SameHeld}
 use Rattle.net_io.specs.Faults.{Rose, SameCounts}
 use Rattle.net_io.specs.Sink.{SinkState, WritesPrefix, WritesLess}
@@ -20,9 +20,9 @@ use Rattle.call_report.specs.Outside.{Outside, ReadRose, CreateRose, AppendRose,
 use Rattle.call_report.specs.Printing.{EndsInLine, Printed}
 use Rattle.call_report.specs.Stages.{Stage, reading_stage}
 use Rattle.call_report.proofs.Law.{a_whole_text_is_a_front, a_part_of_a_text_is_a_front}
-use Rattle.flow_run.specs.Run.{FlowRun}
+use Rattle.script_run.specs.flow_run.Run.{FlowRun}
 use Rattle.shared_tables.specs.Plan.{PlanState}
-use Rattle.flow_access.specs.Valid.{plan_of}
+use Rattle.label_flow.specs.flow_access.Valid.{plan_of}
 use Rattle.script_run.specs.Runs.{AreRuns, AreWholeRuns, IsLawfulRun, FlowsStatus, last_event}
 use Rattle.script_run.specs.Report.{pause_text, runs_report, runs_outputs}
 use Rattle.script_run.specs.Ends.{flow_in_hand, last_of, HasInputs, InputRose, OutputRose, EndsBy, IsDue, IsCauseOf, IsPrintedSo, HasRuns, HasFinished, ScriptEnds, due_body, due_line}
@@ -31,12 +31,12 @@ use Rattle.netlabel_run.specs.declared.command.Command.{Command}
 use Rattle.netlabel_run.specs.declared.command.Command.TheVariants.{Run}
 use Rattle.call_report.specs.CallEnds.{CallEnds, HasBegun, EndsWith, Prints, Leaves, IsRefusal, IsUnrefused, IsWritten, PrintsReport, StopsInBody, StopsAtAppend, FailsToWrite, FailedAfterText}
 use Rattle.call_report.specs.Says.{Says}
-use Rattle.script_input.specs.ScriptFile.{script_read, script_stop_status, ByAnswer, ByScript}
+use Rattle.call_report.specs.script_input.ScriptFile.{script_read, script_stop_status, ByAnswer, ByScript}
 use Rattle.netlabel_run.specs.Run.{AreItsRuns, RunMay, flow_stage}
 use Rattle.netlabel_run.specs.Commands.{netlabel_says}
 use Rattle.call_report.specs.Lines.Script.{script_stop_line}
 use Rattle.call_report.specs.Outside.{IsOnlyRead}
-use Rattle.script_input.proofs.Law.{content_of, content_holds, content_told, ReadsScript}
+use Rattle.call_report.proofs.script_input.Law.{content_of, content_holds, content_told, ReadsScript}
 use Rattle.netlabel_run.proofs.Access.{has_access, withholds}
 use Rattle.call_report.proofs.Law.{front_behind, part_of_line, never_8, knows_reading}
 use Rattle.netlabel_run.proofs.Runs.{runs_same, runs_front, body_begins, report_begins, done_has_no_event, done_is_whole, event_is_whole, input_of_last, output_of_last, none_makes, none_of_theirs}

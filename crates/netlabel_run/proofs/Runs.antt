@@ -4,7 +4,7 @@ use Rattle.std.specs.Prelude.{IsTrue, All, not, is_some, if◌then◌else◌, �
 use Rattle.std.specs.List.{concat, cons_option, list_all}
 use Rattle.std.specs.Option.{option_map}
 use Rattle.std.proofs.lemmas.List.Elements.{All-nil, All-cons}
-use Rattle.flow_lines.specs.declared.flow.FlowLine.{FlowLine}
+use Rattle.label_commands.specs.declared.flow_lines.flow.FlowLine.{FlowLine}
 use Rattle.label_commands.specs.declared.script.Script.{Script}
 use Rattle.shared_tables.specs.Plan.{PlanState}
 use Rattle.net_io.specs.Depot.{SameHeld}
@@ -12,9 +12,9 @@ use Rattle.call_report.specs.Report.{Folder, Versions}
 use Rattle.call_report.specs.Output.{Output}
 use Rattle.call_report.specs.Stages.{Stage, input_in_hand, output_in_hand}
 use Rattle.call_report.specs.Lines.Fixed.{done_line}
-use Rattle.flow_run.specs.Input.{flow_input}
-use Rattle.flow_run.specs.Run.{FlowRun, is_judged, goes_on, run_text, run_end, run_output, output_capture}
-use Rattle.flow_access.specs.Valid.{plan_of}
+use Rattle.script_run.specs.flow_run.Input.{flow_input}
+use Rattle.script_run.specs.flow_run.Run.{FlowRun, is_judged, goes_on, run_text, run_end, run_output, output_capture}
+use Rattle.label_flow.specs.flow_access.Valid.{plan_of}
 use Rattle.script_run.specs.Runs.{AreRuns, AreWholeRuns, is_done, last_event}
 use Rattle.script_run.specs.Report.{first_replies, replies_behind, turn_text, text_so_far, pause_text, runs_report, runs_outputs}
 use Rattle.script_run.specs.Ends.{last_of, due_body, due_line}

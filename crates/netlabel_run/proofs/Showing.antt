@@ -14,12 +14,12 @@ use Rattle.pcap_frames.specs.Capture.{capture_of}
 use Rattle.pcap_frames.specs.Written.{IsWritableFrame, capture_head_octets, frames_octets, capture_octets}
 use Rattle.pcap_frames.proofs.Law.{a_written_capture_reads_back}
 use Rattle.pcapng_frames.specs.Capture.{is_pcapng}
-use Rattle.capture_reader.specs.declared.format.CaptureFormat.{CaptureFormat}
-use Rattle.capture_reader.specs.declared.format.CaptureFormat.TheVariants.{Pcap}
-use Rattle.capture_reader.specs.declared.fault.FileFault.{FileFault}
-use Rattle.capture_reader.specs.Frame.{CapturedFrame, packet_in}
-use Rattle.capture_reader.specs.CaptureFile.{CaptureFile, frame_of_record, by_pcap, capture_file}
-use Rattle.capture_reader.specs.Reader.{FramesLeft}
+use Rattle.captures.specs.declared.format.CaptureFormat.{CaptureFormat}
+use Rattle.captures.specs.declared.format.CaptureFormat.TheVariants.{Pcap}
+use Rattle.captures.specs.declared.fault.FileFault.{FileFault}
+use Rattle.captures.specs.Frame.{CapturedFrame, packet_in}
+use Rattle.captures.specs.CaptureFile.{CaptureFile, frame_of_record, by_pcap, capture_file}
+use Rattle.captures.specs.Reader.{FramesLeft}
 use Rattle.call_report.specs.Lines.Packet.{shown_line, shown_end_line, IsShown}
 use Rattle.call_report.specs.Lines.Capture.{capture_line}
 use Rattle.call_report.specs.Lines.Fixed.{packets_limit_line}

@@ -8,16 +8,16 @@ use Rattle.net_io.specs.Faults.{Rose, SameCounts}
 use Rattle.net_io.specs.declared.fault.IoFault.{IoFault}
 use Rattle.net_io.specs.declared.fault.IoFault.TheVariants.{Failed, OutOfMemory as IoOutOfMemory}
 use Rattle.pcap_frames.specs.declared.record.FrameHead.{FrameHead}
-use Rattle.packet_walk.specs.declared.packet.PacketIn.{PacketIn}
-use Rattle.capture_reader.specs.declared.format.CaptureFormat.{CaptureFormat}
-use Rattle.capture_reader.specs.declared.fault.FileFault.{FileFault}
-use Rattle.capture_reader.specs.declared.fault.FileFault.TheVariants.{Pcap, Pcapng}
-use Rattle.capture_reader.specs.declared.fault.ReadStop.{ReadStop}
-use Rattle.capture_reader.specs.declared.fault.ReadStop.TheVariants as stop
-use Rattle.capture_reader.specs.declared.reader.AnyFrames.{AnyFrames}
-use Rattle.capture_reader.specs.Frame.{CapturedFrame, packet_in}
-use Rattle.capture_reader.specs.CaptureFile.{CaptureFile, capture_file}
-use Rattle.capture_reader.specs.Reader.{file_name_of, format_of, left_of, IsFileBegun, IsNextFrame}
+use Rattle.captures.specs.declared.packet_in.PacketIn.{PacketIn}
+use Rattle.captures.specs.declared.format.CaptureFormat.{CaptureFormat}
+use Rattle.captures.specs.declared.fault.FileFault.{FileFault}
+use Rattle.captures.specs.declared.fault.FileFault.TheVariants.{Pcap, Pcapng}
+use Rattle.captures.specs.declared.fault.ReadStop.{ReadStop}
+use Rattle.captures.specs.declared.fault.ReadStop.TheVariants as stop
+use Rattle.captures.specs.declared.reader.AnyFrames.{AnyFrames}
+use Rattle.captures.specs.Frame.{CapturedFrame, packet_in}
+use Rattle.captures.specs.CaptureFile.{CaptureFile, capture_file}
+use Rattle.captures.specs.Reader.{file_name_of, format_of, left_of, IsFileBegun, IsNextFrame}
 use Rattle.netlabel_run.specs.declared.command.Command.{Command}
 use Rattle.netlabel_run.specs.declared.command.Command.TheVariants.{Show}
 use Rattle.call_report.specs.declared.status.Status.{Status}

@@ -2,17 +2,17 @@
 -- the flow can have; or why the text is no script, or has no such flow or versions.
 use Rattle.std.specs.Prelude.{ℕ, ◌+◌, List, [], ◌∷◌, ◌++◌, Option, Some, None, is_none}
 use Rattle.std.specs.List.{list_all}
-use Rattle.flow_lines.specs.declared.hop.Hop.{Hop}
-use Rattle.node_readings.specs.Reading.{NamedMeanings}
-use Rattle.node_agreement.specs.declared.disagree.Disagree.{Disagree}
-use Rattle.node_agreement.specs.Agreement.{Agree}
-use Rattle.node_agreement.specs.First.{IsFirst}
+use Rattle.label_commands.specs.declared.flow_lines.hop.Hop.{Hop}
+use Rattle.label_commands.specs.node_readings.Reading.{NamedMeanings}
+use Rattle.label_flow.specs.declared.node_agreement.disagree.Disagree.{Disagree}
+use Rattle.label_flow.specs.node_agreement.Agreement.{Agree}
+use Rattle.label_flow.specs.node_agreement.First.{IsFirst}
 use Rattle.shared_tables.specs.Plan.{PlanState}
 use Rattle.call_report.specs.Lines.Agreement.{hops_line, agreement_line}
 use Rattle.call_report.specs.Says.{Says}
-use Rattle.script_input.specs.Answer.{HopsAnswer}
-use Rattle.script_input.specs.Neighbours.{HopState, EachTwo}
-use Rattle.script_input.specs.ScriptFile.{script_says}
+use Rattle.call_report.specs.script_input.Answer.{HopsAnswer}
+use Rattle.call_report.specs.script_input.Neighbours.{HopState, EachTwo}
+use Rattle.call_report.specs.script_input.ScriptFile.{script_says}
 
 -- what two hops come to: they agree, or this is their first difference
 abbrev pub IsFound : HopState → HopState → Option Disagree → Type 0

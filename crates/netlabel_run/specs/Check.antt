@@ -6,7 +6,7 @@ use Rattle.call_report.specs.Lines.Reply.{replies_text}
 use Rattle.call_report.specs.Lines.Script.{ok_line, script_stop_line}
 use Rattle.call_report.specs.Report.{Report, late_report}
 use Rattle.call_report.specs.Says.{Says, reading_says}
-use Rattle.script_input.specs.ScriptFile.{script_read, script_stop_status}
+use Rattle.call_report.specs.script_input.ScriptFile.{script_read, script_stop_status}
 
 -- all steps are carried out in order, each on its node, from fresh nodes
 abbrev pub check_text : Script → List ℕ

@@ -13,7 +13,7 @@ use Rattle.packet_label.specs.declared.packet.Wire.TheVariants as wire
 use Rattle.packet_label.specs.Packet.{IsPacket}
 use Rattle.domain_map.specs.declared.protocol.Protocol.{Protocol}
 use Rattle.domain_map.specs.declared.protocol.Protocol.TheVariants.{Cipso, Calipso}
-use Rattle.command_values.specs.Ranges.{range_below}
+use Rattle.script_lines.specs.command_values.Ranges.{range_below}
 use Rattle.script_lines.specs.declared.command.Command.{Command}
 use Rattle.script_lines.specs.declared.command.Command.TheVariants.{CipsoAddPass, CalipsoAddPass, MapAdd, ReceiverAdd}
 use Rattle.node_tables.specs.Tables.{TableState, fresh}

@@ -1,11 +1,11 @@
 -- What is true of the definitions alone.
 use Rattle.std.specs.Prelude.{◌≡◌, ◌<◌, ℕ, List, All}
-use Rattle.flow_lines.specs.declared.flow.FlowLine.{FlowLine}
+use Rattle.label_commands.specs.declared.flow_lines.flow.FlowLine.{FlowLine}
 use Rattle.call_report.specs.Report.{Folder, Versions, Report}
 use Rattle.call_report.specs.Output.{Output}
 use Rattle.call_report.specs.Says.{Says}
 use Rattle.script_run.specs.Runs.{HasNoneBeside}
-use Rattle.script_input.specs.ScriptFile.{ByScript}
+use Rattle.call_report.specs.script_input.ScriptFile.{ByScript}
 use Rattle.netlabel_run.specs.Run.{run_says}
 
 -- at most one value is of the kind

@@ -1,6 +1,6 @@
 -- `make`: a capture that is made from a number, and what becomes of its packets.
 use Rattle.std.specs.Prelude.{ℕ, ◌≡◌, List, [], ◌∷◌, Some}
-use Rattle.made_capture.specs.Capture.{capture_made}
+use Rattle.made_run.specs.made_capture.Capture.{capture_made}
 use Rattle.made_run.specs.Verdict.{delivered_made, denied_made}
 use Rattle.call_report.specs.Lines.Made.{made_line}
 use Rattle.call_report.specs.Report.{late_report}

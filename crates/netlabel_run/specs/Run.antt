@@ -2,21 +2,21 @@
 use Rattle.std.specs.Prelude.{ℕ, ◌≡◌, ◌≢◌, ◌⊎◌, ◌<◌, List, [], ◌∷◌, length, take, drop, map, All, Some, Result, Ok, Err}
 use Rattle.label_commands.specs.declared.script.Script.{Script}
 use Rattle.label_commands.specs.declared.stop.ScriptStop.{ScriptStop}
-use Rattle.flow_lines.specs.declared.flow.FlowLine.{FlowLine}
+use Rattle.label_commands.specs.declared.flow_lines.flow.FlowLine.{FlowLine}
 use Rattle.call_report.specs.Report.{Folder, Versions, Report, late_report}
 use Rattle.call_report.specs.Event.{packets_limit}
 use Rattle.call_report.specs.Output.{Output}
 use Rattle.call_report.specs.Stages.{Stage, reading_stage}
 use Rattle.call_report.specs.Lines.Script.{script_stop_line}
-use Rattle.flow_access.specs.Access.{HaveAccess}
-use Rattle.flow_run.specs.Input.{packets_in}
-use Rattle.flow_run.specs.Run.{FlowRun}
-use Rattle.flow_run.specs.Withheld.{WithholdsUnsaid}
-use Rattle.flow_access.specs.Valid.{plan_of}
+use Rattle.label_flow.specs.flow_access.Access.{HaveAccess}
+use Rattle.script_run.specs.flow_run.Input.{packets_in}
+use Rattle.script_run.specs.flow_run.Run.{FlowRun}
+use Rattle.script_run.specs.flow_run.Withheld.{WithholdsUnsaid}
+use Rattle.label_flow.specs.flow_access.Valid.{plan_of}
 use Rattle.script_run.specs.Runs.{AreRuns, AreWholeRuns, IsLawfulRun, FlowsStatus}
 use Rattle.script_run.specs.Report.{runs_report, runs_outputs}
 use Rattle.call_report.specs.Says.{Says}
-use Rattle.script_input.specs.ScriptFile.{script_read, ByScript, script_stop_status}
+use Rattle.call_report.specs.script_input.ScriptFile.{script_read, ByScript, script_stop_status}
 
 -- the flows of a script have run so, under the versions that were printed
 abbrev pub AreItsRuns : Script → Folder → Versions → List FlowRun → Type 0

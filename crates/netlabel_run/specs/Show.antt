@@ -2,9 +2,9 @@
 use Rattle.std.specs.Prelude.{ℕ, ◌≡◌, ◌+◌, List, [], ◌∷◌, ◌++◌, length, take, map, Option, Some, None, Result, Ok, Err}
 use Rattle.std.specs.List.{concat, range_with_len}
 use Rattle.std.specs.Option.{option_map_or}
-use Rattle.capture_reader.specs.declared.fault.FileFault.{FileFault}
-use Rattle.capture_reader.specs.Frame.{CapturedFrame, packet_in}
-use Rattle.capture_reader.specs.CaptureFile.{CaptureFile, capture_file}
+use Rattle.captures.specs.declared.fault.FileFault.{FileFault}
+use Rattle.captures.specs.Frame.{CapturedFrame, packet_in}
+use Rattle.captures.specs.CaptureFile.{CaptureFile, capture_file}
 use Rattle.call_report.specs.Lines.Packet.{IsShown, shown_line, shown_end_line}
 use Rattle.call_report.specs.Lines.Capture.{capture_line}
 use Rattle.call_report.specs.Report.{Report, late_report}

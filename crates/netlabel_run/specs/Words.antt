@@ -4,10 +4,10 @@ use Rattle.std.specs.Fmt.{decimal}
 use Rattle.mls_label.specs.declared.label.Label.{Label}
 use Rattle.mls_range.specs.LabelText.{IsLabelText}
 use Rattle.mls_range.specs.TextFault.{IsRoomyLabel}
-use Rattle.command_values.specs.Doi.{doi_of_text}
-use Rattle.flow_lines.specs.FileName.{is_file_name}
-use Rattle.command_words.specs.Numbers.{number_named, versions_named}
-use Rattle.command_words.specs.Words.{NamesWorkers}
+use Rattle.script_lines.specs.command_values.Doi.{doi_of_text}
+use Rattle.label_commands.specs.flow_lines.FileName.{is_file_name}
+use Rattle.label_commands.specs.command_words.Numbers.{number_named, versions_named}
+use Rattle.label_commands.specs.command_words.Words.{NamesWorkers}
 use Rattle.netlabel_run.specs.declared.command.Command.{Command}
 use Rattle.netlabel_run.specs.declared.command.Command.TheVariants.{Judge, Check, Show, Agree, Make, Run}
 

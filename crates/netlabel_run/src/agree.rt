@@ -9,12 +9,11 @@ ghost use Rattle.netlabel_run.specs.declared.command.Command.TheVariants.{Agree}
 ghost use Rattle.netlabel_run.specs.Agree.{hops_text, agree_text};
 ghost use Rattle.netlabel_run.specs.Commands.{netlabel_says};
 
-use call_report::{Status, agree_or_disagree, write_hops};
-use command_words::NamedVersions;
+use call_report::{Compares, HopAt, Status, agree_or_disagree, answer_hops, script_of, write_hops};
+use label_commands::NamedVersions;
+use label_flow::{Disagree, agrees};
 use mls_label::OutOfMemory;
 use net_io::{Depot, Sink};
-use node_agreement::{Disagree, agrees};
-use script_input::{Compares, HopAt, answer_hops, script_of};
 use std::alloc::Global;
 
 /// Reads a script whole, and compares every two neighbouring hops of its flow of this number, each with the tables of its version. Nothing is

@@ -11,12 +11,11 @@ ghost use Rattle.netlabel_run.specs.Commands.{netlabel_says};
 ghost use Rattle.call_report.specs.Status.{status_number};
 ghost use Rattle.call_report.specs.Printing.{Printed};
 
-use call_report::{Report, Status, write_ok};
+use call_report::{Report, Status, script_of, write_ok};
 use label_commands::Script;
 use mls_label::OutOfMemory;
 use net_io::{Depot, Sink};
 use node_tables::Network;
-use script_input::script_of;
 use script_run::answer_steps;
 use std::alloc::Global;
 

@@ -1,6 +1,6 @@
 //! What the words of the command line ask for.
 
-use command_words::{FileName, NamedDoi, NamedVersions, Workers};
+use label_commands::{NamedDoi, NamedFile, NamedVersions, Workers};
 use mls_label::Label;
 use std::marker::Model;
 
@@ -11,19 +11,19 @@ pub(crate) enum Command<'a> {
     Judge {
         doi: NamedDoi,
         level: Level<'a>,
-        file: FileName<'a>,
+        file: NamedFile<'a>,
     },
     /// `check`: what a script's commands answer.
     Check {
-        file: FileName<'a>,
+        file: NamedFile<'a>,
     },
     /// `show`: what each packet of a capture carries.
     Show {
-        file: FileName<'a>,
+        file: NamedFile<'a>,
     },
     /// `agree`: whether every two neighbouring hops of a script's flow agree, under these versions of the tables.
     Agree {
-        file: FileName<'a>,
+        file: NamedFile<'a>,
         flow: u32,
         versions: Option<NamedVersions<'a>>,
     },
@@ -31,11 +31,11 @@ pub(crate) enum Command<'a> {
     Make {
         seed: u64,
         count: u32,
-        file: FileName<'a>,
+        file: NamedFile<'a>,
     },
     /// `run`: the flows of a script, with so many workers.
     Run {
-        file: FileName<'a>,
+        file: NamedFile<'a>,
         workers: Workers,
     },
 }

@@ -11,10 +11,10 @@ ghost use Rattle.call_report.specs.Status.{status_number};
 
 use crate::verdict::judge_packet;
 use call_report::{Report, Status, packet_limit, write_verdict};
-use command_values::Doi;
 use label_receive::Room;
 use mls_label::{Label, OutOfMemory};
 use net_io::{Depot, Sink, WholeFault, read_whole};
+use script_lines::Doi;
 use std::alloc::Global;
 
 /// The most octets of a file that is judged: no packet is longer.

@@ -3,11 +3,11 @@
 ghost use Rattle.std.specs.Prelude.{◌≡◌, ◌<◌, ℕ, List, Option, ◌↔◌, Ok, IsTrue, is_none};
 ghost use Rattle.std.specs.List.{list_all};
 ghost use Rattle.mls_label.specs.declared.label.Label.{Label};
-ghost use Rattle.flow_lines.specs.declared.hop.Hop.{Hop};
-ghost use Rattle.node_readings.specs.Reading.{NamedMeanings};
-ghost use Rattle.node_agreement.specs.declared.disagree.Disagree.{Disagree};
+ghost use Rattle.label_commands.specs.declared.flow_lines.hop.Hop.{Hop};
+ghost use Rattle.label_commands.specs.node_readings.Reading.{NamedMeanings};
+ghost use Rattle.label_flow.specs.declared.node_agreement.disagree.Disagree.{Disagree};
 ghost use Rattle.shared_tables.specs.Plan.{PlanState};
-ghost use Rattle.flow_access.specs.Kept.{NeighboursAgree};
+ghost use Rattle.label_flow.specs.flow_access.Kept.{NeighboursAgree};
 ghost use Rattle.call_report.specs.Report.{Folder, Versions, Report};
 ghost use Rattle.call_report.specs.Output.{Output};
 ghost use Rattle.netlabel_run.specs.declared.command.Command.{Command};

@@ -8,7 +8,7 @@ ghost use Rattle.std.specs.Process.{exit_status};
 ghost use Rattle.call_report.specs.CallEnds.{MayEnd};
 ghost use Rattle.netlabel_run.specs.Commands.{netlabel_says};
 
-use command_words::words_of;
+use label_commands::words_of;
 use label_flow::OpenGate;
 use net_io::{RealDepot, RealSink};
 use std::alloc::AllocError;

@@ -2,7 +2,7 @@
 
 ghost use Rattle.std.specs.Prelude.{◌≡◌, ◌<◌, ◌≤◌, ℕ, List, Some};
 ghost use Rattle.call_report.specs.Outside.{Outside};
-ghost use Rattle.flow_lines.specs.declared.flow.FlowLine.{FlowLine};
+ghost use Rattle.label_commands.specs.declared.flow_lines.flow.FlowLine.{FlowLine};
 ghost use Rattle.label_commands.specs.Sound.{IsSoundScript};
 ghost use Rattle.script_run.specs.Ends.{ScriptEnds};
 ghost use Rattle.call_report.specs.Status.{status_number};
@@ -12,11 +12,10 @@ ghost use Rattle.call_report.specs.CallEnds.{CallEnds};
 ghost use Rattle.netlabel_run.specs.Commands.{netlabel_says};
 
 use crate::outcome::Outcome;
-use call_report::Status;
+use call_report::{Status, script_of};
 use label_commands::Script;
 use label_flow::Gate;
 use net_io::{Depot, OutOfMemory, Sink};
-use script_input::script_of;
 use script_run::run_script;
 use std::alloc::Global;
 use std::sync::Wait;

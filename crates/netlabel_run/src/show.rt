@@ -11,15 +11,14 @@ ghost use Rattle.call_report.specs.Status.{status_number};
 ghost use Rattle.call_report.specs.Printing.{HandsOn, Printed};
 ghost use Rattle.netlabel_run.specs.inside.Stopping.{stop_line, stop_status};
 
-use call_report::{Report, Status, packets_limit, write_capture, write_packet, write_packets_end};
-use capture_reader::{CaptureReader, FileFault, ReadStop};
+use call_report::{
+    PACKETS_LIMIT, Report, Status, packets_limit, write_capture, write_packet, write_packets_end,
+};
+use captures::{CaptureReader, FileFault, ReadStop};
+use label_flow::{Octets, PacketIn};
 use mls_label::{Label, OutOfMemory};
 use net_io::{Depot, IoFault, Sink};
-use packet_walk::{Octets, PacketIn};
 use std::alloc::Global;
-
-/// The most packets that one call reads.
-const PACKETS_LIMIT: u64 = 1_048_576;
 
 /// Prints what each packet of a capture carries. One packet is held at a time, in memory that is kept from packet to packet.
 pub(crate) fn show<D: Depot, S: Sink>(

@@ -1,15 +1,15 @@
 //! Worked words and failing calls, over a folder and a stream in memory; packets stand in `packets`, captures in
-//! `captures`, those of the pcapng format in `pcapng`, one in both formats in `three`, those that are made in `making`, scripts in `scripts`,
+//! `shown`, those of the pcapng format in `pcapng`, one in both formats in `three`, those that are made in `making`, scripts in `scripts`,
 //! hops that are compared in `agreement`, flows that run in `flows` and `gates`.
 
 mod agreement;
-mod captures;
 mod flows;
 mod gates;
 mod making;
 mod packets;
 mod pcapng;
 mod scripts;
+mod shown;
 mod three;
 
 use crate::top::netlabel;

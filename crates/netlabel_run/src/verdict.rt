@@ -1,21 +1,20 @@
 //! What is decided of one packet: a node is set up for it, which receives it.
 
 ghost use Rattle.std.specs.Prelude.{◌≡◌, [], ◌∷◌, Some, length, map, IfOk, OnOk};
-ghost use Rattle.address_text.specs.Name.{name_of_text};
+ghost use Rattle.domain_map.specs.address_text.Name.{name_of_text};
 ghost use Rattle.packet_label.specs.Packet.{IsOfItsVersion, headers_of};
-ghost use Rattle.command_values.specs.Ranges.{range_below};
+ghost use Rattle.script_lines.specs.command_values.Ranges.{range_below};
 ghost use Rattle.node_tables.specs.Effect.{applied};
 ghost use Rattle.netlabel_run.specs.Judge.{protocol_in, judge_node, IsVerdict};
 ghost use Rattle.call_report.specs.Lines.Denial.{with_label};
 
-use address_text::{Name, read_name};
-use command_values::{Doi, MapProtocol, Tags};
+use domain_map::{Name, read_name};
 use label_receive::{Room, destination_of, fault_denial, receive_marked};
 use mls_label::{Label, OutOfMemory, Tag};
 use mls_range::{KeptRange, Range};
 use node_tables::Network;
 use packet_label::{Denial, Packet, carried_into};
-use script_lines::{Command, Step};
+use script_lines::{Command, Doi, MapProtocol, Step, Tags};
 use std::alloc::Global;
 
 /// Judges the packet at the front of the octets for a receiver of this level, by a node that is set up for it. Of the room that is

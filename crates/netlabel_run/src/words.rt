@@ -3,17 +3,14 @@
 ghost use Rattle.std.specs.Prelude.{◌≡◌, ◌≤◌, ℕ, [], ◌∷◌, codes, IsTrue, IfSome, IfNone};
 ghost use Rattle.std.specs.Fmt.{decimal};
 ghost use Rattle.mls_label.specs.declared.label.Label.{Label as LabelValue};
-ghost use Rattle.command_words.specs.Words.{texts_of};
+ghost use Rattle.label_commands.specs.command_words.Words.{texts_of};
 ghost use Rattle.netlabel_run.specs.Words.{IsAsked, IsLevel};
 
 use crate::command::{Command, Level};
-use command_words::{FileName, NamedDoi, NamedVersions, Workers, read_number};
-use mls_label::Label;
+use call_report::PACKETS_LIMIT;
+use label_commands::{NamedDoi, NamedFile, NamedVersions, Workers, read_number};
+use mls_label::{Label, read_decimal};
 use mls_range::read_label_into;
-use octet_grammar::read_decimal;
-
-/// As many packets as `make` makes at the most.
-const MADE_LIMIT: u64 = 1_048_576;
 
 /// Reads the words, without the program's name. The label that is lent takes the level, where they have one.
 pub(crate) fn read_words<'a>(words: &'a [String], label: &'a mut Label) -> Option<Command<'a>>
@@ -31,7 +28,7 @@ pub(crate) fn read_words<'a>(words: &'a [String], label: &'a mut Label) -> Optio
 fn read_two<'a>(command: &str, file: &'a str) -> Option<Command<'a>>
     ensures { IsAsked (command.now ∷ file.now ∷ []) result }
 {
-    let file = FileName::named(file)?;
+    let file = NamedFile::named(file)?;
     if command == "show" {
         return Some(Command::Show { file });
     }
@@ -55,7 +52,7 @@ fn read_three<'a>(command: &str, file: &'a str, flow: &str) -> Option<Command<'a
         return None;
     }
     let flow = read_number(flow)?;
-    let file = FileName::named(file)?;
+    let file = NamedFile::named(file)?;
     Some(Command::Agree {
         file,
         flow,
@@ -95,7 +92,7 @@ fn read_run<'a>(file: &'a str, flag: &str, number: &str) -> Option<Command<'a>>
     if flag != "-w" {
         return None;
     }
-    let file = FileName::named(file)?;
+    let file = NamedFile::named(file)?;
     let workers = Workers::named(number)?;
     Some(Command::Run { file, workers })
 }
@@ -106,7 +103,7 @@ fn read_agree<'a>(file: &'a str, flow: &str, versions: &'a str) -> Option<Comman
 {
     let flow = read_number(flow)?;
     let versions = NamedVersions::named(versions)?;
-    let file = FileName::named(file)?;
+    let file = NamedFile::named(file)?;
     Some(Command::Agree {
         file,
         flow,
@@ -120,7 +117,7 @@ fn read_make<'a>(number: &str, count: &str, file: &'a str) -> Option<Command<'a>
 {
     let seed = read_decimal(number.as_bytes())?;
     let count = read_count(count)?;
-    let file = FileName::named(file)?;
+    let file = NamedFile::named(file)?;
     Some(Command::Make { seed, count, file })
 }
 
@@ -131,7 +128,7 @@ fn read_count(word: &str) -> Option<u32>
         ((count : ℕ) → count ≤ 1048576 → word.now ≡ decimal count → ⊥) }
 {
     let count = read_decimal(word.as_bytes())?;
-    if count > MADE_LIMIT {
+    if count > PACKETS_LIMIT {
         return None;
     }
     Some(count as u32)
@@ -147,7 +144,7 @@ fn read_judge<'a>(
     ensures { IsAsked (codes "judge" ∷ doi.now ∷ level.now ∷ file.now ∷ []) result }
 {
     let doi = NamedDoi::named(doi)?;
-    let file = FileName::named(file)?;
+    let file = NamedFile::named(file)?;
     if !read_level(level, label) {
         return None;
     }

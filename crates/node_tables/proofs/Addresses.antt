@@ -1,10 +1,10 @@
 -- Addresses as keys.
 use Rattle.std.proofs.Common.{◌≡◌, refl, sym, ◌∙◌}
-use Rattle.address_text.specs.declared.address.Address.{Address}
-use Rattle.address_text.specs.declared.address.Address.TheVariants.{V4, V6}
+use Rattle.domain_map.specs.declared.address_text.address.Address.{Address}
+use Rattle.domain_map.specs.declared.address_text.address.Address.TheVariants.{V4, V6}
 use Rattle.std.proofs.lemmas.Cmp.{nat_list_eq_equiv}
-use Rattle.address_text.specs.Address.{same_address}
-use Rattle.address_text.specs.contracts.address.AddressPartialEq.TheImpl.{ghosts}
+use Rattle.domain_map.specs.address_text.Address.{same_address}
+use Rattle.domain_map.specs.contracts.address_text.address.AddressPartialEq.TheImpl.{ghosts}
 
 -- a map compares them as the definitions do
 pub address_eq_is : (a b : Address) → ghosts.eq a b ≡ same_address a b

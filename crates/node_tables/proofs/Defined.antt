@@ -8,7 +8,7 @@ use Rattle.mls_label.specs.declared.label.Proto.{Proto}
 use Rattle.mls_label.specs.declared.label.Proto.TheVariants as Of
 use Rattle.doi_table.specs.declared.plan.DoiPlan.{DoiPlan}
 use Rattle.doi_table.specs.Table.{Entries, same_proto, same_doi, definition_of, with_definition, without_definition, add_fault}
-use Rattle.address_text.specs.Prefix.{AddressBlock}
+use Rattle.domain_map.specs.address_text.Prefix.{AddressBlock}
 use Rattle.domain_map.specs.declared.protocol.Protocol.{Protocol}
 use Rattle.domain_map.specs.declared.protocol.Protocol.TheVariants.{Unlbl, Cipso, Calipso}
 use Rattle.domain_map.specs.declared.fault.MapFault.{MapFault}
@@ -19,7 +19,7 @@ use Rattle.node_tables.specs.declared.reply.Refusal.TheVariants.{DoiUnknown, Doi
 use Rattle.node_tables.specs.Refusal.{doi_refusal}
 use Rattle.node_tables.specs.Change.{definition_added, definition_deleted, is_defined, refused_map, entry_added, or_refused, entry_deleted}
 use Rattle.node_tables.specs.Coherence.{NamesDefined, IsCoherent}
-use Rattle.octet_grammar.specs.declared.memory.OutOfMemory.{OutOfMemory}
+use Rattle.mls_label.specs.declared.octet_grammar.memory.OutOfMemory.{OutOfMemory}
 use Rattle.node_tables.specs.declared.stop.Stop.{Stop}
 use Rattle.node_tables.specs.declared.stop.Stop.TheVariants as Stopped
 use Rattle.node_tables.specs.inside.Turns.{Turns}

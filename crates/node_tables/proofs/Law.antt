@@ -7,11 +7,11 @@ use Rattle.mls_label.specs.Label.{IsLabel}
 use Rattle.mls_range.specs.Range.{LabelRange}
 use Rattle.doi_table.specs.declared.plan.DoiPlan.{DoiPlan}
 use Rattle.doi_table.specs.Table.{Entries, definition_of}
-use Rattle.address_text.specs.declared.address.Address.{Address}
+use Rattle.domain_map.specs.declared.address_text.address.Address.{Address}
 use Rattle.domain_map.specs.declared.protocol.Protocol.{Protocol}
 use Rattle.domain_map.specs.Protocol.{has_doi}
 use Rattle.domain_map.specs.Domains.{Domains, find_of}
-use Rattle.command_values.specs.Ranges.{IsMlsRange}
+use Rattle.script_lines.specs.command_values.Ranges.{IsMlsRange}
 use Rattle.script_lines.specs.declared.command.Command.{Command}
 use Rattle.script_lines.specs.declared.command.Step.{Step}
 use Rattle.script_lines.specs.Bounded.{IsBounded}

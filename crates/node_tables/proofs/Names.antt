@@ -7,8 +7,8 @@ use Rattle.std.proofs.lemmas.Bool.{or_cases, or_left, or_right}
 use Rattle.std.proofs.lemmas.List.Folds.{list_any-append}
 use Rattle.indexmap.specs.IndexMap.{insert_entry}
 use Rattle.mls_label.specs.declared.label.Proto.{Proto}
-use Rattle.address_text.specs.declared.address.Address.{Address}
-use Rattle.address_text.specs.Prefix.{AddressBlock, same_block, holds}
+use Rattle.domain_map.specs.declared.address_text.address.Address.{Address}
+use Rattle.domain_map.specs.address_text.Prefix.{AddressBlock, same_block, holds}
 use Rattle.domain_map.specs.declared.protocol.Protocol.{Protocol}
 use Rattle.domain_map.specs.declared.rule.Rule.{Rule}
 use Rattle.domain_map.specs.declared.rule.Rule.TheVariants.{Plain, Addresses}

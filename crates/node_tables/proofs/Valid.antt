@@ -22,8 +22,8 @@ use Rattle.doi_table.specs.declared.fault.DoiFault.{DoiFault}
 use Rattle.doi_table.specs.declared.fault.DoiFault.TheVariants.{Exists, TooManyPairs, NotOneToOne, Full}
 use Rattle.doi_table.specs.Definition.{AreBelow, IsPlan, is_plan_one_to_one}
 use Rattle.doi_table.specs.Table.{Entries, same_proto, same_doi, definition_of, with_definition, count_of, add_fault}
-use Rattle.address_text.specs.Address.{same_address}
-use Rattle.address_text.specs.Prefix.{AddressBlock, same_block}
+use Rattle.domain_map.specs.address_text.Address.{same_address}
+use Rattle.domain_map.specs.address_text.Prefix.{AddressBlock, same_block}
 use Rattle.domain_map.specs.declared.protocol.Protocol.{Protocol}
 use Rattle.domain_map.specs.declared.rule.Rule.{Rule}
 use Rattle.domain_map.specs.declared.rule.Rule.TheVariants.{Addresses}
@@ -34,9 +34,9 @@ use Rattle.domain_map.specs.declared.static_map.StaticEntry.{StaticEntry}
 use Rattle.domain_map.specs.Addresses.{map_ok}
 use Rattle.domain_map.specs.Domains.{Domain, Domains, same_domain, rule_of, first_rule, fuller, added, with_addresses, fewer, deleted, names_doi_of}
 use Rattle.domain_map.specs.Statics.{Statics, static_place, static_added, static_deleted}
-use Rattle.command_values.specs.Doi.{is_doi}
-use Rattle.command_values.specs.Pairs.{IsPairWithin}
-use Rattle.command_values.specs.Ranges.{IsMlsRange}
+use Rattle.script_lines.specs.command_values.Doi.{is_doi}
+use Rattle.script_lines.specs.command_values.Pairs.{IsPairWithin}
+use Rattle.script_lines.specs.command_values.Ranges.{IsMlsRange}
 use Rattle.script_lines.specs.declared.command.Command.{Command}
 use Rattle.script_lines.specs.declared.command.Command.TheVariants.{CipsoAddPass, CipsoAddTrans, CalipsoAddPass, CalipsoAddTrans, CipsoDel, CalipsoDel, CipsoList, CalipsoList, MapAdd, MapDel, MapList, AcceptOn, AcceptOff, UnlblAdd, UnlblDel, UnlblList, ReceiverAdd, ReceiverDel, RangeAdd, RangeDel, PairAdd, PairDel, MgmtVersion, MgmtProtocols}
 use Rattle.script_lines.specs.declared.command.Step.{Step}

@@ -7,9 +7,9 @@ use Rattle.mls_label.specs.declared.label.Proto.TheVariants as Of
 use Rattle.mls_range.specs.Range.{LabelRange}
 use Rattle.doi_table.specs.declared.plan.DoiPlan.{DoiPlan}
 use Rattle.doi_table.specs.Table.{Entries, definition_of, with_definition, without_definition, add_fault}
-use Rattle.address_text.specs.declared.address.Address.{Address}
-use Rattle.address_text.specs.Address.{same_address}
-use Rattle.address_text.specs.Prefix.{AddressBlock}
+use Rattle.domain_map.specs.declared.address_text.address.Address.{Address}
+use Rattle.domain_map.specs.address_text.Address.{same_address}
+use Rattle.domain_map.specs.address_text.Prefix.{AddressBlock}
 use Rattle.domain_map.specs.declared.protocol.Protocol.{Protocol}
 use Rattle.domain_map.specs.declared.protocol.Protocol.TheVariants.{Unlbl, Cipso, Calipso}
 use Rattle.domain_map.specs.declared.fault.MapFault.{MapFault}

@@ -4,8 +4,8 @@ use Rattle.std.specs.Map.{lookup}
 use Rattle.std.specs.Str.{bytes_eq}
 use Rattle.mls_range.specs.Range.{LabelRange}
 use Rattle.doi_table.specs.Table.{Entries}
-use Rattle.address_text.specs.declared.address.Address.{Address}
-use Rattle.address_text.specs.Address.{same_address}
+use Rattle.domain_map.specs.declared.address_text.address.Address.{Address}
+use Rattle.domain_map.specs.address_text.Address.{same_address}
 use Rattle.domain_map.specs.Domains.{Domain, Domains, same_domain}
 use Rattle.domain_map.specs.Statics.{Statics}
 use Rattle.node_tables.specs.declared.receiver.Receiver.{Receiver}

@@ -8,13 +8,13 @@ use Rattle.mls_range.specs.Range.{LabelRange}
 use Rattle.doi_table.specs.declared.plan.DoiPlan.{DoiPlan}
 use Rattle.doi_table.specs.Definition.{IsDefinition}
 use Rattle.doi_table.specs.Table.{Entries, same_doi, count_of}
-use Rattle.address_text.specs.declared.address.Address.{Address}
-use Rattle.address_text.specs.Address.{same_address}
-use Rattle.address_text.specs.Prefix.{same_block}
+use Rattle.domain_map.specs.declared.address_text.address.Address.{Address}
+use Rattle.domain_map.specs.address_text.Address.{same_address}
+use Rattle.domain_map.specs.address_text.Prefix.{same_block}
 use Rattle.domain_map.specs.declared.static_map.StaticEntry.{StaticEntry}
 use Rattle.domain_map.specs.Domains.{Domain, Domains, same_domain}
 use Rattle.domain_map.specs.Statics.{Statics}
-use Rattle.command_values.specs.Ranges.{IsMlsRange}
+use Rattle.script_lines.specs.command_values.Ranges.{IsMlsRange}
 use Rattle.node_tables.specs.declared.receiver.Receiver.{Receiver}
 use Rattle.node_tables.specs.Tables.{Receivers, Ranges, AddressPairs, TableState}
 use Rattle.node_tables.specs.Coherence.{NamesDefined}

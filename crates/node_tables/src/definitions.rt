@@ -11,11 +11,10 @@ ghost use Rattle.node_tables.specs.inside.Kept.{IsGiven, AreGiven};
 use crate::list_text::ListText;
 use crate::reply::Refusal;
 use crate::stop::Stop;
-use command_values::{CategoryPairs, Doi, LevelPairs, Tags};
 use doi_table::{DoiDef, DoiFault, DoiPlan, DoiTable, Listed};
 use domain_map::DomainMap;
 use mls_label::{OutOfMemory, Proto, Tag};
-use script_lines::Command;
+use script_lines::{CategoryPairs, Command, Doi, LevelPairs, Tags};
 use std::alloc::Global;
 
 /// A plan under which the numbers on the wire are the node's own.

@@ -10,11 +10,10 @@ use crate::key::key_of;
 use crate::list_text::ListText;
 use crate::reply::Refusal;
 use crate::stop::Stop;
-use command_values::{Doi, MapProtocol};
 use doi_table::DoiTable;
 use domain_map::{DomainMap, MapFault, Name, Prefix, Protocol};
 use mls_label::{OutOfMemory, Proto};
-use script_lines::Command;
+use script_lines::{Command, Doi, MapProtocol};
 use std::alloc::Global;
 
 /// Adds an entry, or an address to one, whose protocol has no DOI or one that is defined.

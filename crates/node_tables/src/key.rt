@@ -2,7 +2,7 @@
 
 ghost use Rattle.std.specs.Prelude.{◌≡◌, ◌<◌, Some, length, slice_get, option_copied};
 
-use address_text::Name;
+use domain_map::Name;
 use indexmap::IndexMap;
 use std::hash::Hash;
 

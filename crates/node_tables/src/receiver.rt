@@ -1,6 +1,6 @@
 //! Receivers.
 
-use address_text::Name;
+use domain_map::Name;
 use mls_label::Label;
 
 /// Who receives at an address: the domain whose map has to agree, and the labels that it may have, from a low end to its level,

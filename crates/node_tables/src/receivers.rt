@@ -11,7 +11,7 @@ use crate::key::entry_at;
 use crate::receiver::Receiver;
 use crate::reply::Refusal;
 use crate::stop::Stop;
-use address_text::{Address, Name};
+use domain_map::{Address, Name};
 use indexmap::IndexMap;
 use mls_label::{Label, OutOfMemory};
 use mls_range::Range;

@@ -4,7 +4,7 @@ ghost use Rattle.std.specs.Prelude.{◌≡◌, ℕ, List, IfOk, IfSome, IsOk, On
 ghost use Rattle.mls_label.specs.Label.{Dominates};
 ghost use Rattle.mls_label.specs.declared.label.Proto.TheVariants.{Cipso};
 ghost use Rattle.doi_table.specs.Definition.{IsPlan};
-ghost use Rattle.command_values.specs.Tags.{AreTags};
+ghost use Rattle.script_lines.specs.command_values.Tags.{AreTags};
 ghost use Rattle.script_lines.specs.declared.command.Command.TheVariants.{MapAdd, MapDel, MapList, UnlblAdd, UnlblDel, UnlblList, ReceiverAdd, ReceiverDel, RangeAdd, RangeDel, PairAdd, PairDel, MgmtVersion, MgmtProtocols};
 ghost use Rattle.node_tables.specs.declared.reply.Reply.TheVariants.{Listed};
 ghost use Rattle.node_tables.specs.Tables.{fresh, find_receiver_of, find_range_of, six_of, four_of};
@@ -26,14 +26,12 @@ use crate::receiver::Receiver;
 use crate::receivers::{KeptReceiver, add_receiver, copy_receivers, del_receiver, find_receiver};
 use crate::reply::{Refusal, Reply};
 use crate::stop::Stop;
-use address_text::{Address, Name, Prefix};
-use command_values::{CategoryPairs, Doi, LevelPairs};
 use doi_table::{DoiPlan, DoiTable};
-use domain_map::{DomainMap, Protocol, StaticMap};
+use domain_map::{Address, DomainMap, Name, Prefix, Protocol, StaticMap};
 use indexmap::IndexMap;
 use mls_label::{OutOfMemory, Proto, Tag};
 use mls_range::{KeptRange, Range};
-use script_lines::Command;
+use script_lines::{CategoryPairs, Command, Doi, LevelPairs};
 use std::alloc::Global;
 use std::marker::Model;
 

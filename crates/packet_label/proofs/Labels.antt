@@ -1,12 +1,12 @@
 -- What a label option says is a label.
 use Rattle.std.proofs.Common.{◌≡◌, List, ℕ, Option, None, Some, sym, subst}
-use Rattle.octet_grammar.specs.Octets.{IsOctets}
+use Rattle.mls_label.specs.octet_grammar.Octets.{IsOctets}
 use Rattle.mls_label.specs.declared.label.Tag.{Tag}
 use Rattle.mls_label.specs.declared.label.Tag.TheVariants.{One, Two, Five}
 use Rattle.mls_label.specs.Cats.{IsCats}
 use Rattle.mls_label.specs.Label.{IsLabel}
 use Rattle.mls_label.proofs.Law.{tests_give_sets}
-use Rattle.category_bitmap.specs.Bitmap.{has_bit}
+use Rattle.mls_label.specs.category_bitmap.Bitmap.{has_bit}
 use Rattle.cipso_tags.specs.Body.{IsBody, covers}
 use Rattle.cipso_option.specs.declared.cipso.Cipso.{Cipso}
 use Rattle.cipso_option.specs.Cipso.{IsCipso}

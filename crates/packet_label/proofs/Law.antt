@@ -1,7 +1,7 @@
 -- The laws of src/laws.rt under their names, for the crates above.
 use Rattle.std.proofs.Common.{◌≡◌, ℕ, ◌<◌, ◌≤◌, List, length, Option, None, Some, Ok}
 use Rattle.std.specs.Prelude.{IfSome, IfErr}
-use Rattle.octet_grammar.specs.Octets.{IsOctets}
+use Rattle.mls_label.specs.octet_grammar.Octets.{IsOctets}
 use Rattle.mls_label.specs.Label.{IsLabel}
 use Rattle.ip_headers.specs.declared.version.Version.{Version}
 use Rattle.ip_headers.specs.Packet.{ParsedPacket, Headers, relabelled}

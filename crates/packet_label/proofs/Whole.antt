@@ -2,16 +2,16 @@
 use Rattle.std.proofs.Common.{◌≡◌, ℕ, suc, ◌+◌, ◌*◌, ◌/◌, ◌%◌, ◌<◌, ◌≤◌, List, [], ◌∷◌, ◌++◌, length, get_or, drop, refl, sym, ap, subst, ◌∙◌, arith, inl, inr}
 use Rattle.std.specs.Int.{w16, w32, to_be_bytes, to_le_bytes, from_le_bytes}
 use Rattle.std.proofs.lemmas.Bool.{cases_lt, cases_eq}
-use Rattle.octet_grammar.specs.Octets.{IsOctets}
-use Rattle.octet_grammar.specs.Numbers.{u32_at}
-use Rattle.octet_grammar.proofs.Octets.{octets-cons, octets-drop}
-use Rattle.octet_grammar.proofs.Numbers.{u32_octets, u32_small, u32_written}
-use Rattle.octet_grammar.proofs.Layouts.{firsts_rest}
+use Rattle.mls_label.specs.octet_grammar.Octets.{IsOctets}
+use Rattle.mls_label.specs.octet_grammar.Numbers.{u32_at}
+use Rattle.mls_label.proofs.octet_grammar.Octets.{octets-cons, octets-drop}
+use Rattle.mls_label.proofs.octet_grammar.Numbers.{u32_octets, u32_small, u32_written}
+use Rattle.mls_label.proofs.octet_grammar.Layouts.{firsts_rest}
 use Rattle.mls_label.specs.declared.label.Tag.{Tag}
 use Rattle.mls_label.specs.declared.label.Tag.TheVariants.{One, Two, Five}
 use Rattle.mls_label.specs.declared.label.Label.{Label}
 use Rattle.mls_label.specs.Cats.{Ascends, IsCats, cats_where}
-use Rattle.category_bitmap.specs.Bitmap.{bitmap_cats}
+use Rattle.mls_label.specs.category_bitmap.Bitmap.{bitmap_cats}
 use Rattle.cipso_tags.specs.Body.{words, IsNumbers, Descends, covers, IsBody}
 use Rattle.cipso_tags.specs.Tag.{tag_type, IsTag}
 use Rattle.cipso_tags.proofs.Law.{tags_have_4_to_34_octets, each_tag_has_its_type}

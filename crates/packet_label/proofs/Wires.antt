@@ -1,12 +1,12 @@
 -- Label options: each has one content or one first fault, and its length is known.
 use Rattle.std.proofs.Common.{◌≡◌, ℕ, ◌+◌, ◌≤◌, List, [], ◌++◌, length, take, drop, Option, Some, None, refl, sym, ap, subst, ◌∙◌, arith, inl, inr}
 use Rattle.std.proofs.lemmas.List.{append-nil, take_all, take-append-drop, length-take-le}
-use Rattle.octet_grammar.specs.declared.fault.WireFault.{WireFault}
-use Rattle.octet_grammar.specs.declared.fault.WireKind.{WireKind}
-use Rattle.octet_grammar.specs.declared.fault.WireKind.TheVariants.{Octet, End}
-use Rattle.octet_grammar.specs.Front.{IsPrefixFree}
-use Rattle.octet_grammar.specs.Fault.{StopsAt}
-use Rattle.octet_grammar.proofs.Faults.{fault_once}
+use Rattle.mls_label.specs.declared.octet_grammar.fault.WireFault.{WireFault}
+use Rattle.mls_label.specs.declared.octet_grammar.fault.WireKind.{WireKind}
+use Rattle.mls_label.specs.declared.octet_grammar.fault.WireKind.TheVariants.{Octet, End}
+use Rattle.mls_label.specs.octet_grammar.Front.{IsPrefixFree}
+use Rattle.mls_label.specs.octet_grammar.Fault.{StopsAt}
+use Rattle.mls_label.proofs.octet_grammar.Faults.{fault_once}
 use Rattle.cipso_option.specs.Cipso.{IsCipso}
 use Rattle.cipso_option.proofs.Law.{one_value_for_each_option as cipso_free, options_have_10_to_40_octets}
 use Rattle.calipso_option.specs.declared.calipso.Calipso.{Calipso as CalipsoValue}

@@ -2,8 +2,8 @@
 use Rattle.std.proofs.Common.{◌≡◌, ℕ, ◌+◌, ◌/◌, ◌%◌, ◌<◌, ◌≤◌, Bool, true, false, List, [], ◌∷◌, length, get_or, Option, Some, None, Ok, refl, sym, ap, subst, ◌∙◌, arith}
 use Rattle.std.specs.Prelude.{IfSome}
 use Rattle.std.specs.Option.{option_map}
-use Rattle.octet_grammar.specs.Octets.{IsOctets}
-use Rattle.octet_grammar.proofs.Octets.{octets-cons, octets-zeros}
+use Rattle.mls_label.specs.octet_grammar.Octets.{IsOctets}
+use Rattle.mls_label.proofs.octet_grammar.Octets.{octets-cons, octets-zeros}
 use Rattle.mls_label.specs.declared.label.Tag.{Tag}
 use Rattle.mls_label.specs.declared.label.Tag.TheVariants.{One, Two, Five}
 use Rattle.mls_label.specs.declared.label.Label.{Label}

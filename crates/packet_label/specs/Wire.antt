@@ -1,8 +1,8 @@
 -- What a label option says: a CIPSO option in version 4 (FIPS 188; CIPSO draft 2.2), a CALIPSO option in version 6
 -- (RFC 5570).
 use Rattle.std.specs.Prelude.{◌≡◌, ℕ, ◌+◌, ◌≤◌, ◌⊎◌, List, length, Option, Some, None, IfSome}
-use Rattle.octet_grammar.specs.declared.fault.WireKind.{WireKind}
-use Rattle.octet_grammar.specs.Fault.{FailsFront}
+use Rattle.mls_label.specs.declared.octet_grammar.fault.WireKind.{WireKind}
+use Rattle.mls_label.specs.octet_grammar.Fault.{FailsFront}
 use Rattle.mls_label.specs.declared.label.Label.{Label}
 use Rattle.cipso_option.specs.Cipso.{IsCipso}
 use Rattle.calipso_option.specs.Calipso.{IsCalipso, IsCalipsoShape}

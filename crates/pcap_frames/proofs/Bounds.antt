@@ -3,7 +3,7 @@ use Rattle.std.proofs.Common.{arith, ◌≡◌, ◌≤◌, ◌<◌, ◌+◌, ℕ
 use Rattle.std.proofs.lemmas.Bool.{cases_lt}
 use Rattle.std.proofs.lemmas.Bool.Decides.{nat_tests}
 use Rattle.std.proofs.lemmas.List.{length-drop, length-take}
-use Rattle.file_window.specs.declared.order.OctetOrder.{OctetOrder}
+use Rattle.net_io.specs.declared.file_window.order.OctetOrder.{OctetOrder}
 use Rattle.pcap_frames.specs.declared.header.CaptureHeader.{CaptureHeader}
 use Rattle.pcap_frames.specs.declared.record.RecordHead.{RecordHead}
 use Rattle.pcap_frames.specs.declared.fault.CaptureFault.{CaptureFault}

@@ -1,7 +1,7 @@
 -- Records one behind another: as many steps as there are octets are enough.
 use Rattle.std.proofs.Common.{arith, ◌≡◌, ◌≤◌, ◌+◌, ℕ, zero, suc, List, [], ◌∷◌, length, drop, Result, Ok, Err, Option, Some, None, refl, ap, sym, ◌∙◌}
 use Rattle.std.proofs.lemmas.List.{length-drop, nil_from_length}
-use Rattle.file_window.specs.declared.order.OctetOrder.{OctetOrder}
+use Rattle.net_io.specs.declared.file_window.order.OctetOrder.{OctetOrder}
 use Rattle.pcap_frames.specs.declared.fault.CaptureFault.{CaptureFault}
 use Rattle.pcap_frames.specs.Record.{Frame, head_at, record_at, record_size}
 use Rattle.pcap_frames.specs.Capture.{Records, go_on, records_within, records_at}

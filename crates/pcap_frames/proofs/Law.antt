@@ -1,8 +1,8 @@
 -- The laws, each under the name of its function.
 use Rattle.std.proofs.Common.{◌≡◌, ◌≤◌, ◌+◌, ℕ, Bool, List, [], ◌∷◌, ◌++◌, length, drop, All, Ok, Err, Some, None, refl, ap, sym, ◌∙◌, append_assoc}
 use Rattle.std.proofs.lemmas.List.{drop-drop}
-use Rattle.file_window.specs.declared.order.OctetOrder.{OctetOrder}
-use Rattle.file_window.specs.declared.order.OctetOrder.TheVariants.{Little}
+use Rattle.net_io.specs.declared.file_window.order.OctetOrder.{OctetOrder}
+use Rattle.net_io.specs.declared.file_window.order.OctetOrder.TheVariants.{Little}
 use Rattle.pcap_frames.specs.declared.fault.CaptureFault.{CaptureFault}
 use Rattle.pcap_frames.specs.Record.{Frame, record_at, record_size}
 use Rattle.pcap_frames.specs.Capture.{Capture, Records, go_on, records_at, capture_by, capture_of, fault_of, IsCapture}

@@ -2,12 +2,12 @@
 use Rattle.std.proofs.Common.{arith, ◌≡◌, ◌≤◌, ◌+◌, ℕ, List, [], ◌∷◌, ◌++◌, length, take, drop, Result, Ok, Err, Option, Some, None, refl, ap, sym, ◌∙◌}
 use Rattle.std.proofs.lemmas.Bool.Decides.{nat_tests}
 use Rattle.std.proofs.lemmas.List.{take_at, take-append-le, drop-append-le, length-drop}
-use Rattle.file_window.specs.declared.order.OctetOrder.{OctetOrder}
+use Rattle.net_io.specs.declared.file_window.order.OctetOrder.{OctetOrder}
 use Rattle.pcap_frames.specs.declared.record.RecordHead.{RecordHead}
 use Rattle.pcap_frames.specs.declared.fault.CaptureFault.{CaptureFault}
 use Rattle.pcap_frames.specs.Record.{Frame, head_at, behind_head, record_at, record_size}
 use Rattle.pcap_frames.specs.Reader.{Reader, AreRecords, ReaderStandsIn}
-use Rattle.file_window.proofs.Law.{a_window_has_no_more_than_the_rest}
+use Rattle.net_io.proofs.file_window.Law.{a_window_has_no_more_than_the_rest}
 use Rattle.pcap_frames.proofs.Windows.{head_longer, header_longer, held_octets}
 use Rattle.pcap_frames.proofs.Bounds.{record_fits, header_long, place_within}
 

@@ -1,11 +1,11 @@
 -- A reader that goes behind a record stands in the file as before.
 use Rattle.std.proofs.Common.{arith, ◌≡◌, ◌+◌, ℕ, List, [], ◌∷◌, ◌++◌, length, drop, Result, Ok, Err, Option, Some, None, ap, sym, subst}
 use Rattle.std.specs.Prelude.{IfOk, OnErr, is_some, option_map, if◌then◌else◌}
-use Rattle.file_window.specs.declared.order.OctetOrder.{OctetOrder}
+use Rattle.net_io.specs.declared.file_window.order.OctetOrder.{OctetOrder}
 use Rattle.pcap_frames.specs.declared.record.FrameHead.{FrameHead}
 use Rattle.pcap_frames.specs.declared.fault.FrameStop.{FrameStop}
 use Rattle.pcap_frames.specs.Record.{Frame, record_at, record_size}
-use Rattle.file_window.specs.Window.{IsFrom}
+use Rattle.net_io.specs.file_window.Window.{IsFrom}
 use Rattle.pcap_frames.specs.Reader.{Reader, AreRecords, ReaderStandsIn, IsAnswerOf}
 
 one_more : (order : OctetOrder) (file : List ℕ) (from : ℕ) (frames : List Frame) (to : ℕ) (frame : Frame) → AreRecords order file from frames to

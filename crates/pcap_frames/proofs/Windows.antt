@@ -2,10 +2,10 @@
 use Rattle.std.proofs.Common.{arith, ◌≡◌, ◌≤◌, ◌<◌, ◌+◌, ℕ, List, ◌++◌, length, take, drop, Ok, Some}
 use Rattle.std.proofs.lemmas.Bool.Decides.{nat_tests}
 use Rattle.std.proofs.lemmas.List.{length-append}
-use Rattle.file_window.specs.declared.order.OctetOrder.{OctetOrder}
-use Rattle.file_window.specs.declared.order.OctetOrder.TheVariants.{Little, Big}
-use Rattle.file_window.specs.Window.{IsFrom}
-use Rattle.file_window.proofs.Law.{a_window_has_no_more_than_the_rest, octets_of_a_window_are_the_files, what_a_window_tells_the_file_tells, a_number_reads_its_own_octets as number_front, a_number_behind_reads_its_own_octets as number_behind}
+use Rattle.net_io.specs.declared.file_window.order.OctetOrder.{OctetOrder}
+use Rattle.net_io.specs.declared.file_window.order.OctetOrder.TheVariants.{Little, Big}
+use Rattle.net_io.specs.file_window.Window.{IsFrom}
+use Rattle.net_io.proofs.file_window.Law.{a_window_has_no_more_than_the_rest, octets_of_a_window_are_the_files, what_a_window_tells_the_file_tells, a_number_reads_its_own_octets as number_front, a_number_behind_reads_its_own_octets as number_behind}
 use Rattle.pcap_frames.specs.declared.record.RecordHead.{RecordHead}
 use Rattle.pcap_frames.specs.Header.{capture_header, magic_of}
 use Rattle.pcap_frames.specs.Record.{head_at, behind_head}

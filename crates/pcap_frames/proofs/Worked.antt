@@ -1,8 +1,8 @@
 -- The definitions at values worked by hand: one packet of 28 octets, written at second 1, and changes of that file.
 use Rattle.std.proofs.Common.{◌≡◌, ℕ, true, false, List, [], ◌∷◌, ◌++◌, take, Ok, Some, None, refl}
-use Rattle.file_window.specs.declared.order.OctetOrder.TheVariants.{Little, Big}
+use Rattle.net_io.specs.declared.file_window.order.OctetOrder.TheVariants.{Little, Big}
 use Rattle.pcap_frames.specs.declared.fault.CaptureKind.TheVariants.{SnapCut, Short}
-use Rattle.file_window.specs.Numbers.{ordered_number}
+use Rattle.net_io.specs.file_window.Numbers.{ordered_number}
 use Rattle.pcap_frames.specs.Header.{magic_of, capture_header}
 use Rattle.pcap_frames.specs.Record.{Frame, head_at}
 use Rattle.pcap_frames.specs.Capture.{records_within, records_at, capture_of, fault_of}

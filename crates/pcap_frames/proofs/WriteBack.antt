@@ -3,14 +3,14 @@ use Rattle.std.proofs.Common.{arith, ◌≡◌, ◌≤◌, ◌<◌, ◌+◌, ◌
 use Rattle.std.proofs.lemmas.Bool.Decides.{nat_tests}
 use Rattle.std.proofs.lemmas.List.{length-append, take_at, drop_at}
 use Rattle.byteorder.specs.Endian.{little_bytes}
-use Rattle.file_window.specs.declared.order.OctetOrder.TheVariants.{Little}
+use Rattle.net_io.specs.declared.file_window.order.OctetOrder.TheVariants.{Little}
 use Rattle.pcap_frames.specs.declared.record.FrameHead.{FrameHead}
-use Rattle.file_window.specs.Numbers.{ordered_number}
+use Rattle.net_io.specs.file_window.Numbers.{ordered_number}
 use Rattle.pcap_frames.specs.Header.{capture_header, magic_of}
 use Rattle.pcap_frames.specs.Record.{Frame, head_at, behind_head, record_at, record_size}
 use Rattle.pcap_frames.specs.Capture.{Records, go_on, records_at, capture_by, capture_of}
 use Rattle.pcap_frames.specs.Written.{IsWritableFrame, capture_head_octets, frame_octets, frames_octets, capture_octets}
-use Rattle.file_window.proofs.Law.{a_written_number_reads_back as written_number}
+use Rattle.net_io.proofs.file_window.Law.{a_written_number_reads_back as written_number}
 use Rattle.pcap_frames.proofs.Windows.{header_longer}
 use Rattle.pcap_frames.proofs.Chains.{one_and_more, none_at_end}
 

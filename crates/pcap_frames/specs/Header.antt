@@ -1,11 +1,11 @@
 -- The header of a capture, its first 24 octets (the libpcap file format, version 2.4).
 use Rattle.std.specs.Prelude.{ℕ, Bool, true, false, not, ◌&&◌, ◌||◌, ◌==◌, nat_lt, if◌then◌else◌, List, length, drop, Option, Some, None, Result, Ok, Err}
-use Rattle.file_window.specs.declared.order.OctetOrder.{OctetOrder}
-use Rattle.file_window.specs.declared.order.OctetOrder.TheVariants.{Little, Big}
+use Rattle.net_io.specs.declared.file_window.order.OctetOrder.{OctetOrder}
+use Rattle.net_io.specs.declared.file_window.order.OctetOrder.TheVariants.{Little, Big}
 use Rattle.pcap_frames.specs.declared.header.CaptureHeader.{CaptureHeader}
 use Rattle.pcap_frames.specs.declared.fault.CaptureFault.{CaptureFault}
 use Rattle.pcap_frames.specs.declared.fault.CaptureKind.TheVariants.{Magic, Version, LinkType, Short}
-use Rattle.file_window.specs.Numbers.{ordered_number}
+use Rattle.net_io.specs.file_window.Numbers.{ordered_number}
 
 -- whether the magic, read in this order, says nanoseconds; none where it is no magic
 abbrev pub nanos_in : OctetOrder → List ℕ → Option Bool

@@ -1,7 +1,7 @@
 -- The IP packet of a frame, by the capture's link type (Ethernet with at most one tag of IEEE 802.1Q, or a packet alone).
 use Rattle.std.specs.Prelude.{ℕ, Bool, ◌&&◌, ◌||◌, ◌==◌, nat_lt, nat_le, if◌then◌else◌, List, length, drop, Option, Some, None}
-use Rattle.file_window.specs.declared.order.OctetOrder.TheVariants.{Big}
-use Rattle.file_window.specs.Numbers.{ordered_number}
+use Rattle.net_io.specs.declared.file_window.order.OctetOrder.TheVariants.{Big}
+use Rattle.net_io.specs.file_window.Numbers.{ordered_number}
 
 -- what follows an EtherType of IPv4 or IPv6
 abbrev pub typed_part : List ℕ → Option (List ℕ)

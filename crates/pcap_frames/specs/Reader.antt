@@ -1,8 +1,8 @@
 -- A reader of a capture, and how its answers follow from the file.
 use Rattle.std.specs.Prelude.{◌≡◌, ℕ, ◌+◌, IsTrue, IsSome, List, [], ◌∷◌, drop, Option, Some, Result, Ok, Err}
 use Rattle.net_io.specs.Depot.{DepotState, octets_of}
-use Rattle.file_window.specs.declared.order.OctetOrder.{OctetOrder}
-use Rattle.file_window.specs.Window.{IsFrom}
+use Rattle.net_io.specs.declared.file_window.order.OctetOrder.{OctetOrder}
+use Rattle.net_io.specs.file_window.Window.{IsFrom}
 use Rattle.pcap_frames.specs.declared.header.CaptureHeader.{CaptureHeader}
 use Rattle.pcap_frames.specs.declared.fault.CaptureFault.{CaptureFault}
 use Rattle.pcap_frames.specs.declared.fault.FrameStop.{FrameStop}

@@ -8,8 +8,7 @@ ghost use Rattle.pcap_frames.specs.Reader.{IsReady, IsAnswerOf, SpeaksOf};
 use crate::header::CAPTURE_HEAD;
 use crate::reading::{read_record, read_start};
 use crate::{CaptureHeader, FrameHead, FrameStop};
-use file_window::Window;
-use net_io::Depot;
+use net_io::{Depot, Window};
 use std::alloc::Global;
 use std::marker::Model;
 

@@ -1,7 +1,7 @@
 //! Laws over the definitions of captures.
 ghost use Rattle.std.specs.Prelude.{◌≡◌, ◌≤◌, ℕ, Bool, List, ◌++◌, length, drop, All, Some, None, Ok, Err};
-ghost use Rattle.file_window.specs.declared.order.OctetOrder.{OctetOrder};
-ghost use Rattle.file_window.specs.declared.order.OctetOrder.TheVariants.{Little};
+ghost use Rattle.net_io.specs.declared.file_window.order.OctetOrder.{OctetOrder};
+ghost use Rattle.net_io.specs.declared.file_window.order.OctetOrder.TheVariants.{Little};
 ghost use Rattle.pcap_frames.specs.declared.fault.CaptureFault.{CaptureFault};
 ghost use Rattle.pcap_frames.specs.Record.{Frame, record_at};
 ghost use Rattle.pcap_frames.specs.Capture.{Capture, go_on, records_at, capture_of, fault_of, IsCapture};

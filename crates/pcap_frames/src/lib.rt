@@ -13,9 +13,9 @@ mod record;
 mod write;
 
 pub use fault::{CaptureFault, CaptureKind, FrameStop};
-pub use file_window::OctetOrder;
 pub use frames::Frames;
 pub use header::CaptureHeader;
 pub use ip::ip_part;
+pub use net_io::OctetOrder;
 pub use record::FrameHead;
 pub use write::{write_frame, write_head};

@@ -1,7 +1,7 @@
 //! Reading the header and the records of a capture through a window of its file.
 ghost use Rattle.std.specs.Prelude.{◌≡◌, ◌+◌, ◌-◌, ◌<◌, ◌≤◌, ◌^◌, IsTrue, [], length, drop, take, min, ◌++◌, Option, Some, None, Ok, option_map, is_ok, is_some, if◌then◌else◌, vec_len, vec_capacity, OnOk, OnErr, IfOk, IfSome};
 ghost use Rattle.net_io.specs.Depot.{octets_of, OnlyReads};
-ghost use Rattle.file_window.specs.Window.{IsFrom};
+ghost use Rattle.net_io.specs.file_window.Window.{IsFrom};
 ghost use Rattle.pcap_frames.specs.Header.{capture_header};
 ghost use Rattle.pcap_frames.specs.Record.{head_at, behind_head, record_at};
 ghost use Rattle.pcap_frames.specs.Reader.{IsAnswerOf, SpeaksOf};
@@ -9,8 +9,7 @@ ghost use Rattle.pcap_frames.specs.Reader.{IsAnswerOf, SpeaksOf};
 use crate::header::{CAPTURE_HEAD, read_header};
 use crate::record::{RECORD_HEAD, RecordHead, read_record_head};
 use crate::{CaptureFault, CaptureHeader, CaptureKind, FrameHead, FrameStop, OctetOrder};
-use file_window::{WINDOW, Window, take_behind};
-use net_io::Depot;
+use net_io::{Depot, WINDOW, Window, take_behind};
 
 /// The file ends at this octet, too early.
 fn short(octet: u64) -> FrameStop

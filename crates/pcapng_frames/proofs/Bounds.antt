@@ -4,8 +4,8 @@ use Rattle.std.specs.List.{slice_get}
 use Rattle.std.proofs.lemmas.Bool.Decides.{nat_tests}
 use Rattle.std.proofs.lemmas.List.{length-drop}
 use Rattle.std.specs.Option.{option_or}
-use Rattle.file_window.specs.declared.order.OctetOrder.{OctetOrder}
-use Rattle.file_window.specs.Numbers.{ordered_number}
+use Rattle.net_io.specs.declared.file_window.order.OctetOrder.{OctetOrder}
+use Rattle.net_io.specs.file_window.Numbers.{ordered_number}
 use Rattle.pcapng_frames.specs.declared.interface.Interface.{Interface}
 use Rattle.pcapng_frames.specs.declared.head.BlockHead.{BlockHead}
 use Rattle.pcapng_frames.specs.declared.options.BlockOption.{BlockOption}

@@ -5,7 +5,7 @@ use Rattle.std.proofs.lemmas.List.{length-drop, drop-drop, nil_from_length}
 use Rattle.pcapng_frames.specs.declared.head.BlockHead.{BlockHead}
 use Rattle.pcapng_frames.specs.declared.packet.NgHead.{NgHead}
 use Rattle.pcapng_frames.specs.declared.packet.PacketHead.{PacketHead}
-use Rattle.file_window.specs.declared.order.OctetOrder.{OctetOrder}
+use Rattle.net_io.specs.declared.file_window.order.OctetOrder.{OctetOrder}
 use Rattle.pcapng_frames.specs.declared.fault.NgFault.{NgFault}
 use Rattle.pcapng_frames.specs.Section.{Section}
 use Rattle.pcapng_frames.specs.Head.{head_by, block_order, block_head_at, whole_at}

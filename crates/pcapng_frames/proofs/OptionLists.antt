@@ -4,9 +4,9 @@ use Rattle.std.specs.Prelude.{slice_index, unwrap_or}
 use Rattle.std.proofs.lemmas.Bool.Decides.{nat_tests}
 use Rattle.std.proofs.lemmas.List.{drop-drop, get_or_append_left}
 use Rattle.std.specs.Option.{option_or}
-use Rattle.file_window.specs.declared.order.OctetOrder.{OctetOrder}
-use Rattle.file_window.specs.Numbers.{ordered_number}
-use Rattle.file_window.proofs.Law.{what_a_window_tells_the_file_tells, a_number_reads_its_own_octets as number_front, a_number_behind_reads_its_own_octets as number_behind}
+use Rattle.net_io.specs.declared.file_window.order.OctetOrder.{OctetOrder}
+use Rattle.net_io.specs.file_window.Numbers.{ordered_number}
+use Rattle.net_io.proofs.file_window.Law.{what_a_window_tells_the_file_tells, a_number_reads_its_own_octets as number_front, a_number_behind_reads_its_own_octets as number_behind}
 use Rattle.pcapng_frames.specs.declared.options.BlockOption.{BlockOption}
 use Rattle.pcapng_frames.specs.declared.head.BlockHead.{BlockHead}
 use Rattle.pcapng_frames.specs.declared.fault.NgFault.{NgFault}

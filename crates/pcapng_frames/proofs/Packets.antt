@@ -2,9 +2,9 @@
 use Rattle.std.proofs.Common.{arith, ◌≡◌, ◌≤◌, ◌+◌, ◌-◌, min, ℕ, List, ◌++◌, length, take, drop, Result, Ok, Option, Some, None, refl, ap, sym, ◌∙◌}
 use Rattle.std.specs.List.{slice_get}
 use Rattle.std.proofs.lemmas.List.{take_all}
-use Rattle.file_window.specs.declared.order.OctetOrder.{OctetOrder}
-use Rattle.file_window.specs.Numbers.{ordered_number}
-use Rattle.file_window.proofs.Law.{what_a_window_tells_the_file_tells, a_number_behind_reads_its_own_octets as number_behind}
+use Rattle.net_io.specs.declared.file_window.order.OctetOrder.{OctetOrder}
+use Rattle.net_io.specs.file_window.Numbers.{ordered_number}
+use Rattle.net_io.proofs.file_window.Law.{what_a_window_tells_the_file_tells, a_number_behind_reads_its_own_octets as number_behind}
 use Rattle.pcapng_frames.specs.declared.interface.Interface.{Interface}
 use Rattle.pcapng_frames.specs.declared.head.BlockHead.{BlockHead}
 use Rattle.pcapng_frames.specs.declared.packet.PacketHead.{PacketHead}

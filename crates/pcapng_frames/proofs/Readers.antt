@@ -3,11 +3,11 @@ use Rattle.std.proofs.Common.{arith, ◌≡◌, ◌+◌, ◌-◌, ℕ, true, Lis
 use Rattle.std.proofs.lemmas.Slice.Eq.{bytes_eq-Decides}
 use Rattle.std.proofs.lemmas.Bool.Decides.{nat_tests}
 use Rattle.std.proofs.lemmas.List.{take-append-drop}
-use Rattle.file_window.specs.declared.order.OctetOrder.{OctetOrder}
-use Rattle.file_window.specs.declared.order.OctetOrder.TheVariants.{Little, Big}
-use Rattle.file_window.specs.Numbers.{ordered_number}
-use Rattle.file_window.specs.Window.{IsFrom}
-use Rattle.file_window.proofs.Law.{a_number_reads_its_own_octets as number_front}
+use Rattle.net_io.specs.declared.file_window.order.OctetOrder.{OctetOrder}
+use Rattle.net_io.specs.declared.file_window.order.OctetOrder.TheVariants.{Little, Big}
+use Rattle.net_io.specs.file_window.Numbers.{ordered_number}
+use Rattle.net_io.specs.file_window.Window.{IsFrom}
+use Rattle.net_io.proofs.file_window.Law.{a_number_reads_its_own_octets as number_front}
 use Rattle.pcapng_frames.specs.declared.head.BlockHead.{BlockHead}
 use Rattle.pcapng_frames.specs.declared.blocks.Turn.{Turn}
 use Rattle.pcapng_frames.specs.declared.blocks.Turn.TheVariants.{End, Passed, Frame}

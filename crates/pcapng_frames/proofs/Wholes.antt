@@ -3,7 +3,7 @@ use Rattle.std.proofs.Common.{arith, ◌≡◌, ◌≤◌, ◌+◌, ◌-◌, min
 use Rattle.std.specs.Prelude.{◌==◌, if◌then◌else◌}
 use Rattle.std.proofs.lemmas.Bool.Decides.{nat_tests}
 use Rattle.std.proofs.lemmas.List.{length-drop, drop-drop, take_all}
-use Rattle.file_window.specs.Numbers.{ordered_number}
+use Rattle.net_io.specs.file_window.Numbers.{ordered_number}
 use Rattle.pcapng_frames.specs.declared.head.BlockHead.{BlockHead}
 use Rattle.pcapng_frames.specs.declared.fault.NgFault.{NgFault}
 use Rattle.pcapng_frames.specs.declared.fault.NgStop.{NgStop}
@@ -12,7 +12,7 @@ use Rattle.pcapng_frames.specs.declared.fault.NgKind.TheVariants.{Trailer}
 use Rattle.pcapng_frames.specs.Head.{whole_at}
 use Rattle.pcapng_frames.specs.Reader.{IsNgAnswer}
 use Rattle.pcapng_frames.specs.inside.Parts.{enough_at, trailer_at}
-use Rattle.file_window.proofs.Law.{a_number_of_a_window_is_the_files}
+use Rattle.net_io.proofs.file_window.Law.{a_number_of_a_window_is_the_files}
 
 -- a file that has too few octets hasn't the whole block
 pub whole_short : (need at : ℕ) (rest : List ℕ) (head : BlockHead) → need ≤ head.total → (fault : NgFault) → enough_at need at rest ≡ Err fault → whole_at at rest head ≡ Err fault

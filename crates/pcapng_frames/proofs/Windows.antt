@@ -2,9 +2,9 @@
 use Rattle.std.proofs.Common.{arith, ◌≡◌, ◌≤◌, ◌<◌, ℕ, List, ◌++◌, length, take, Some, None, Option, refl, ap, ◌∙◌}
 use Rattle.std.proofs.lemmas.Bool.Decides.{nat_tests}
 use Rattle.std.proofs.lemmas.List.{length-append}
-use Rattle.file_window.specs.declared.order.OctetOrder.{OctetOrder}
-use Rattle.file_window.specs.declared.order.OctetOrder.TheVariants.{Little, Big}
-use Rattle.file_window.proofs.Law.{what_a_window_tells_the_file_tells, a_number_reads_its_own_octets as number_front, a_number_behind_reads_its_own_octets as number_behind}
+use Rattle.net_io.specs.declared.file_window.order.OctetOrder.{OctetOrder}
+use Rattle.net_io.specs.declared.file_window.order.OctetOrder.TheVariants.{Little, Big}
+use Rattle.net_io.proofs.file_window.Law.{what_a_window_tells_the_file_tells, a_number_reads_its_own_octets as number_front, a_number_behind_reads_its_own_octets as number_behind}
 use Rattle.pcapng_frames.specs.Head.{section_order, block_order, head_by, block_head_at}
 
 order_longer : (order : OctetOrder) (xs ys : List ℕ) → 12 ≤ length xs → block_order order (xs ++ ys) ≡ block_order order xs

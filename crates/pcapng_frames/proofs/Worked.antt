@@ -1,6 +1,6 @@
 -- The definitions at values worked by hand: one packet of 28 octets at second 1, in the form that is written, and changes of that file.
 use Rattle.std.proofs.Common.{◌≡◌, ℕ, List, [], ◌∷◌, ◌++◌, take, Some, None, refl}
-use Rattle.file_window.specs.Numbers.{ordered_number}
+use Rattle.net_io.specs.file_window.Numbers.{ordered_number}
 use Rattle.pcapng_frames.specs.declared.fault.NgKind.TheVariants.{Short, Trailer, Interface as NoInterface}
 use Rattle.pcapng_frames.specs.Head.{section_order, block_head_at, whole_at}
 use Rattle.pcapng_frames.specs.Options.{option_at, resolution_within, resolution_at}

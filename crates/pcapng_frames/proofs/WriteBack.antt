@@ -3,10 +3,10 @@ use Rattle.std.proofs.Common.{arith, ◌≡◌, ◌≤◌, ◌<◌, ◌+◌, ◌
 use Rattle.std.proofs.lemmas.Bool.Decides.{nat_tests}
 use Rattle.std.proofs.lemmas.List.{length-append, take_at, drop_at}
 use Rattle.byteorder.specs.Endian.{little_bytes}
-use Rattle.file_window.specs.declared.order.OctetOrder.TheVariants.{Little}
+use Rattle.net_io.specs.declared.file_window.order.OctetOrder.TheVariants.{Little}
 use Rattle.pcap_frames.specs.declared.record.FrameHead.{FrameHead}
-use Rattle.file_window.specs.Numbers.{ordered_number}
-use Rattle.file_window.proofs.Law.{a_written_number_reads_back as written_number}
+use Rattle.net_io.specs.file_window.Numbers.{ordered_number}
+use Rattle.net_io.proofs.file_window.Law.{a_written_number_reads_back as written_number}
 use Rattle.pcapng_frames.specs.declared.head.BlockHead.{BlockHead}
 use Rattle.pcapng_frames.specs.declared.packet.NgHead.{NgHead}
 use Rattle.pcapng_frames.specs.Numbers.{padded}

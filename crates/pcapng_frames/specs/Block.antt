@@ -1,6 +1,6 @@
 -- What one block says.
 use Rattle.std.specs.Prelude.{ℕ, ◌+◌, ◌-◌, not, ◌||◌, ◌==◌, if◌then◌else◌, List, [], ◌∷◌, ◌++◌, take, drop, Option, Some, None, Result, Ok, Err}
-use Rattle.file_window.specs.Numbers.{ordered_number}
+use Rattle.net_io.specs.file_window.Numbers.{ordered_number}
 use Rattle.pcapng_frames.specs.declared.head.BlockHead.{BlockHead}
 use Rattle.pcapng_frames.specs.declared.packet.NgHead.{NgHead}
 use Rattle.pcapng_frames.specs.declared.packet.PacketHead.{PacketHead}

@@ -1,8 +1,8 @@
 -- The options of an interface description block: a code, a length and a value padded to a multiple of 4 each.
 use Rattle.std.specs.Prelude.{ℕ, zero, suc, ◌+◌, ◌-◌, not, ◌&&◌, ◌||◌, ◌==◌, nat_lt, if◌then◌else◌, List, drop, slice_index, Option, Some, None, unwrap_or, Result, Ok, Err}
 use Rattle.std.specs.Option.{option_or}
-use Rattle.file_window.specs.declared.order.OctetOrder.{OctetOrder}
-use Rattle.file_window.specs.Numbers.{ordered_number}
+use Rattle.net_io.specs.declared.file_window.order.OctetOrder.{OctetOrder}
+use Rattle.net_io.specs.file_window.Numbers.{ordered_number}
 use Rattle.pcapng_frames.specs.declared.options.BlockOption.{BlockOption}
 use Rattle.pcapng_frames.specs.declared.fault.NgFault.{NgFault}
 use Rattle.pcapng_frames.specs.declared.fault.NgKind.TheVariants.{Options}

@@ -1,8 +1,8 @@
 -- The enhanced packet block.
 use Rattle.std.specs.Prelude.{ℕ, ◌+◌, ◌*◌, ◌/◌, ◌%◌, ◌^◌, not, ◌||◌, ◌==◌, nat_lt, nat_le, if◌then◌else◌, List, drop, Option, Some, None, Result, Ok, Err}
 use Rattle.std.specs.List.{slice_get}
-use Rattle.file_window.specs.declared.order.OctetOrder.{OctetOrder}
-use Rattle.file_window.specs.Numbers.{ordered_number}
+use Rattle.net_io.specs.declared.file_window.order.OctetOrder.{OctetOrder}
+use Rattle.net_io.specs.file_window.Numbers.{ordered_number}
 use Rattle.pcap_frames.specs.Header.{is_link}
 use Rattle.pcapng_frames.specs.declared.interface.Interface.{Interface}
 use Rattle.pcapng_frames.specs.declared.packet.NgHead.{NgHead}

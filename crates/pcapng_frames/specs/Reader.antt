@@ -1,7 +1,7 @@
 -- A reader of a pcapng file, and how its answers follow from the file.
 use Rattle.std.specs.Prelude.{◌≡◌, ℕ, zero, suc, ◌+◌, IsTrue, List, [], ◌∷◌, length, drop, Option, Some, None, Result, Ok, Err}
 use Rattle.net_io.specs.Depot.{DepotState, octets_of}
-use Rattle.file_window.specs.Window.{IsFrom}
+use Rattle.net_io.specs.file_window.Window.{IsFrom}
 use Rattle.pcapng_frames.specs.declared.packet.NgHead.{NgHead}
 use Rattle.pcapng_frames.specs.declared.fault.NgFault.{NgFault}
 use Rattle.pcapng_frames.specs.declared.fault.NgStop.{NgStop}

@@ -1,7 +1,7 @@
 -- What the blocks so far say of the present section.
 use Rattle.std.specs.Prelude.{List, []}
-use Rattle.file_window.specs.declared.order.OctetOrder.{OctetOrder}
-use Rattle.file_window.specs.declared.order.OctetOrder.TheVariants.{Little}
+use Rattle.net_io.specs.declared.file_window.order.OctetOrder.{OctetOrder}
+use Rattle.net_io.specs.declared.file_window.order.OctetOrder.TheVariants.{Little}
 use Rattle.pcapng_frames.specs.declared.interface.Interface.{Interface}
 
 -- A section: the order of octets in its numbers, and the interfaces that it has described, which packets name by place.

@@ -1,7 +1,7 @@
 //! Whole blocks: one, and those up to the next frame.
 ghost use Rattle.std.specs.Prelude.{◌≡◌, ◌+◌, ◌-◌, ◌<◌, ◌≤◌, ◌^◌, IsTrue, [], None, length, drop, min, vec_len, vec_capacity, option_map, OnOk, IfOk, IfSome};
 ghost use Rattle.net_io.specs.Depot.{octets_of, OnlyReads};
-ghost use Rattle.file_window.specs.Window.{IsFrom};
+ghost use Rattle.net_io.specs.file_window.Window.{IsFrom};
 ghost use Rattle.pcapng_frames.specs.Head.{least_total, whole_at};
 ghost use Rattle.pcapng_frames.specs.Block.{said_by, block_at};
 ghost use Rattle.pcapng_frames.specs.Capture.{frames_at};
@@ -16,8 +16,7 @@ use crate::reading::{check_whole, read_head};
 use crate::section::SectionTable;
 use crate::taking::take_packet;
 use crate::{NgHead, NgKind, NgStop};
-use file_window::Window;
-use net_io::Depot;
+use net_io::{Depot, Window};
 
 /// What one block was to a reader of frames.
 #[derive(Clone, Copy, Debug, PartialEq, Eq)]

@@ -1,7 +1,7 @@
 //! Section headers and interface descriptions.
 ghost use Rattle.std.specs.Prelude.{◌≡◌, ◌+◌, ◌-◌, ◌<◌, ◌≤◌, ◌^◌, ℕ, IsTrue, None, List, length, drop, min, OnOk, OnErr, IfOk, IfSome};
 ghost use Rattle.net_io.specs.Depot.{octets_of, OnlyReads};
-ghost use Rattle.file_window.specs.Window.{IsFrom};
+ghost use Rattle.net_io.specs.file_window.Window.{IsFrom};
 ghost use Rattle.pcapng_frames.specs.Options.{option_at, resolution_at};
 ghost use Rattle.pcapng_frames.specs.Block.{section_block, interface_block};
 ghost use Rattle.pcapng_frames.specs.Reader.{IsNgAnswer};
@@ -13,8 +13,7 @@ use crate::look::have;
 use crate::options::{BlockOption, read_option};
 use crate::section::SectionTable;
 use crate::{Interface, NgFault, NgKind, NgStop};
-use file_window::{OctetOrder, Window};
-use net_io::Depot;
+use net_io::{Depot, OctetOrder, Window};
 
 /// The resolution where no option tells it: microseconds.
 const MICROSECONDS: u8 = 6;

@@ -1,7 +1,7 @@
 //! A reader of one pcapng capture.
 ghost use Rattle.std.specs.Prelude.{◌≡◌, ◌+◌, ◌<◌, ◌≤◌, ◌^◌, IsTrue, true, [], None, length, drop, option_map, vec_len, vec_capacity, OnOk, OnErr, IfOk, IfSome};
 ghost use Rattle.net_io.specs.Depot.{octets_of, OnlyReads};
-ghost use Rattle.file_window.specs.Window.{IsFrom};
+ghost use Rattle.net_io.specs.file_window.Window.{IsFrom};
 ghost use Rattle.pcapng_frames.specs.Section.{no_section};
 ghost use Rattle.pcapng_frames.specs.Block.{block_at};
 ghost use Rattle.pcapng_frames.specs.Capture.{is_pcapng, frames_at};
@@ -12,8 +12,7 @@ use crate::blocks::{Turn, read_block, read_frame};
 use crate::look::stop_at;
 use crate::section::SectionTable;
 use crate::{NgHead, NgKind, NgStop};
-use file_window::Window;
-use net_io::Depot;
+use net_io::{Depot, Window};
 use std::alloc::Global;
 use std::marker::Model;
 

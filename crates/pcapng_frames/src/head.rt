@@ -3,7 +3,7 @@ ghost use Rattle.std.specs.Prelude.{◌≡◌, ◌+◌, ◌<◌, ◌≤◌, ◌^
 ghost use Rattle.pcapng_frames.specs.Head.{is_section_header, section_order, block_order, least_total, is_total, block_head_at};
 
 use crate::{NgFault, NgKind};
-use file_window::OctetOrder;
+use net_io::OctetOrder;
 
 /// How many octets a block has at least: type, total length, and total length again.
 pub const LEAST_BLOCK: usize = 12;

@@ -1,13 +1,12 @@
 //! Octets of a file that a reader needs: through its window, or by a read of their own.
 ghost use Rattle.std.specs.Prelude.{◌≡◌, ◌+◌, ◌<◌, ◌≤◌, ◌^◌, IsTrue, length, drop, nat_lt, OnOk, IfOk};
 ghost use Rattle.net_io.specs.Depot.{octets_of, OnlyReads};
-ghost use Rattle.file_window.specs.Window.{IsFrom};
+ghost use Rattle.net_io.specs.file_window.Window.{IsFrom};
 ghost use Rattle.pcapng_frames.specs.Reader.{IsNgAnswer};
 ghost use Rattle.pcapng_frames.specs.inside.Parts.{rest_at, IsAhead, enough_at};
 
 use crate::{NgFault, NgKind, NgStop};
-use file_window::Window;
-use net_io::{Depot, IoFault, read_full};
+use net_io::{Depot, IoFault, Window, read_full};
 
 /// The file is no pcapng capture, at this octet.
 pub fn stop_at(octet: u64, kind: NgKind) -> NgStop

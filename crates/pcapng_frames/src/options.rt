@@ -4,7 +4,7 @@ ghost use Rattle.pcapng_frames.specs.Numbers.{padded};
 ghost use Rattle.pcapng_frames.specs.Options.{option_at};
 
 use crate::{NgFault, NgKind};
-use file_window::OctetOrder;
+use net_io::OctetOrder;
 
 /// The code that ends a list of options.
 const END_OF_OPTIONS: u16 = 0;

@@ -8,7 +8,7 @@ ghost use Rattle.pcapng_frames.specs.Packet.{units_of, units_in_second, nanos_in
 use crate::options::padded_length;
 use crate::section::SectionTable;
 use crate::{Interface, NgFault, NgKind};
-use file_window::OctetOrder;
+use net_io::OctetOrder;
 
 /// How many octets stand in front of a packet's octets.
 pub const PACKET_HEAD: usize = 28;

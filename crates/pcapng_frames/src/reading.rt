@@ -1,7 +1,7 @@
 //! Reading the head of a block and its trailer through a window of its file.
 ghost use Rattle.std.specs.Prelude.{◌≡◌, ◌+◌, ◌-◌, ◌<◌, ◌≤◌, ◌==◌, ◌^◌, IsTrue, if◌then◌else◌, length, drop, min, Ok, Err, OnOk, IfOk, IfSome};
 ghost use Rattle.net_io.specs.Depot.{octets_of, OnlyReads};
-ghost use Rattle.file_window.specs.Window.{IsFrom};
+ghost use Rattle.net_io.specs.file_window.Window.{IsFrom};
 ghost use Rattle.pcapng_frames.specs.Head.{least_total, block_head_at, whole_at};
 ghost use Rattle.pcapng_frames.specs.Reader.{IsNgAnswer};
 ghost use Rattle.pcapng_frames.specs.inside.Parts.{rest_at, IsAhead, trailer_at};
@@ -9,8 +9,7 @@ ghost use Rattle.pcapng_frames.specs.inside.Parts.{rest_at, IsAhead, trailer_at}
 use crate::head::{BlockHead, LEAST_BLOCK, read_block_head};
 use crate::look::{find_end, have, stop_at};
 use crate::{NgHead, NgKind, NgStop};
-use file_window::{OctetOrder, WINDOW, Window};
-use net_io::{Depot, read_full};
+use net_io::{Depot, OctetOrder, WINDOW, Window, read_full};
 
 /// Reads the head of the block at `place`; None at the file's end.
 pub fn read_head<D: Depot>(

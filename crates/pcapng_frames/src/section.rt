@@ -5,7 +5,7 @@ ghost use Rattle.pcapng_frames.specs.Section.{no_section};
 ghost use Rattle.pcapng_frames.specs.inside.Table.{Table, KeepsTable, IsMark};
 
 use crate::Interface;
-use file_window::OctetOrder;
+use net_io::OctetOrder;
 use std::alloc::{AllocError, Global};
 use std::marker::Model;
 

@@ -1,7 +1,7 @@
 //! Packets and their octets.
 ghost use Rattle.std.specs.Prelude.{◌≡◌, ◌+◌, ◌-◌, ◌<◌, ◌≤◌, ◌++◌, ◌^◌, IsTrue, [], Ok, length, take, drop, min, vec_len, vec_capacity, OnOk, IfOk};
 ghost use Rattle.net_io.specs.Depot.{octets_of, OnlyReads};
-ghost use Rattle.file_window.specs.Window.{IsFrom};
+ghost use Rattle.net_io.specs.file_window.Window.{IsFrom};
 ghost use Rattle.pcapng_frames.specs.Packet.{packet_at};
 ghost use Rattle.pcapng_frames.specs.Block.{packet_block};
 ghost use Rattle.pcapng_frames.specs.Reader.{IsNgAnswer};
@@ -12,8 +12,7 @@ use crate::look::stop_at;
 use crate::packet::{NgHead, PACKET_HEAD, read_packet_head};
 use crate::section::SectionTable;
 use crate::{NgKind, NgStop};
-use file_window::{Window, take_behind};
-use net_io::Depot;
+use net_io::{Depot, Window, take_behind};
 
 /// Takes the octets of a packet.
 fn take_octets<D: Depot>(

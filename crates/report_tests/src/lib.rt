@@ -2,6 +2,8 @@
 #![tactic(auto)]
 
 #[cfg(test)]
-mod reading;
+mod of_call_report;
 #[cfg(test)]
-mod telling;
+mod of_report_file;
+#[cfg(test)]
+mod of_report_lines;

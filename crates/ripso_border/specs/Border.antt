@@ -1,6 +1,6 @@
 -- The label that option 130 says, in a packet and in its octets.
 use Rattle.std.specs.Prelude.{ℕ, List, [], ◌∷◌, Option, Some, None, Result, Ok, Err}
-use Rattle.octet_grammar.specs.declared.fault.WireFault.{WireFault}
+use Rattle.mls_label.specs.declared.octet_grammar.fault.WireFault.{WireFault}
 use Rattle.mls_label.specs.declared.label.Label.{Label}
 use Rattle.ripso_option.specs.Reading.{ripso_of}
 use Rattle.ip_headers.specs.declared.fault.HeadFault.{HeadFault}

@@ -1,7 +1,7 @@
 //! Laws over the definitions of the border.
 
 ghost use Rattle.std.specs.Prelude.{ℕ, ◌≡◌, ◌≢◌, ◌<◌, ◌≤◌, ◌^◌, List, length, false, Option, None, Some, Err, Ok};
-ghost use Rattle.octet_grammar.specs.Octets.{IsOctets};
+ghost use Rattle.mls_label.specs.octet_grammar.Octets.{IsOctets};
 ghost use Rattle.ip_headers.specs.Packet.{ParsedPacket};
 ghost use Rattle.ip_headers.specs.Written.{packet_octets};
 ghost use Rattle.packet_label.specs.declared.packet.Wire.{Wire};

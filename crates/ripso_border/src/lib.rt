@@ -11,6 +11,3 @@ mod swap;
 
 pub use border::{Border, Way};
 pub use crossing::cross;
-
-#[cfg(test)]
-mod tests;

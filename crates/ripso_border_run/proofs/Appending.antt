@@ -3,7 +3,7 @@ use Rattle.std.proofs.Common.{◌≡◌, ℕ, List, [], Option, Some, None, Ok, 
 use Rattle.std.specs.Prelude.{IsTrue, IsSome}
 use Rattle.std.proofs.lemmas.List.{append-nil}
 use Rattle.net_io.specs.Depot.{DepotState}
-use Rattle.capture_output.specs.Output.{HasAppended}
+use Rattle.captures.specs.Output.{HasAppended}
 
 some_of : (o : Option (List ℕ)) → IsSome o → (held : List ℕ) × (o ≡ Some held)
 some_of None there = absurd (cc)

@@ -17,11 +17,11 @@ use Rattle.pcap_frames.specs.Capture.{capture_by, capture_of}
 use Rattle.pcap_frames.specs.Reader.{Reader}
 use Rattle.pcap_frames.specs.Written.{capture_head_octets}
 use Rattle.doi_table.specs.declared.plan.DoiPlan.{DoiPlan}
-use Rattle.capture_reader.specs.declared.fault.FileFault.{FileFault}
-use Rattle.capture_reader.specs.declared.fault.FileFault.TheVariants as fault
-use Rattle.capture_reader.specs.declared.reader.AnyFrames.TheVariants as reads
-use Rattle.capture_reader.specs.CaptureFile.{CaptureFile, by_pcap}
-use Rattle.capture_reader.specs.Reader.{left_of}
+use Rattle.captures.specs.declared.fault.FileFault.{FileFault}
+use Rattle.captures.specs.declared.fault.FileFault.TheVariants as fault
+use Rattle.captures.specs.declared.reader.AnyFrames.TheVariants as reads
+use Rattle.captures.specs.CaptureFile.{CaptureFile, by_pcap}
+use Rattle.captures.specs.Reader.{left_of}
 use Rattle.call_report.specs.declared.status.Status.{Status}
 use Rattle.call_report.specs.declared.status.Status.TheVariants.{WrongCapture}
 use Rattle.call_report.specs.CallEnds.{CallEnds}

@@ -7,8 +7,8 @@ use Rattle.net_io.specs.Faults.{SameCounts}
 use Rattle.net_io.specs.Sink.{SinkState, WritesPrefix}
 use Rattle.pcap_frames.specs.Capture.{capture_of}
 use Rattle.doi_table.specs.declared.plan.DoiPlan.{DoiPlan}
-use Rattle.capture_reader.specs.declared.fault.FileFault.{FileFault}
-use Rattle.capture_reader.specs.CaptureFile.{CaptureFile, by_pcap}
+use Rattle.captures.specs.declared.fault.FileFault.{FileFault}
+use Rattle.captures.specs.CaptureFile.{CaptureFile, by_pcap}
 use Rattle.label_commands.specs.declared.script.Script.{Script}
 use Rattle.label_commands.specs.declared.stop.ScriptStop.{ScriptStop}
 use Rattle.call_report.specs.declared.status.Status.{Status}
@@ -23,7 +23,7 @@ use Rattle.call_report.specs.Report.{Folder, Report, late_report}
 use Rattle.call_report.specs.Stages.{Stage}
 use Rattle.call_report.specs.Status.{status_number}
 use Rattle.call_report.proofs.Law.{HasLeft, Keeps, Begins, asks, none_when_done, ends_printed, makes_nothing}
-use Rattle.script_input.specs.ScriptFile.{script_read, ByAnswer, ByScript, script_stop_status}
+use Rattle.call_report.specs.script_input.ScriptFile.{script_read, ByAnswer, ByScript, script_stop_status}
 use Rattle.ripso_border_run.specs.declared.task.Task.{Task}
 use Rattle.ripso_border_run.specs.Definition.{border_definition}
 use Rattle.ripso_border_run.specs.Frames.{border_report}

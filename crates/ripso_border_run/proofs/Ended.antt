@@ -13,15 +13,15 @@ use Rattle.pcap_frames.specs.declared.fault.CaptureFault.{CaptureFault}
 use Rattle.pcap_frames.specs.Reader.{Reader}
 use Rattle.pcap_frames.specs.Record.{Frame, record_at}
 use Rattle.doi_table.specs.declared.plan.DoiPlan.{DoiPlan}
-use Rattle.capture_reader.specs.declared.fault.FileFault.{FileFault}
-use Rattle.capture_reader.specs.declared.fault.FileFault.TheVariants as fault
-use Rattle.capture_reader.specs.declared.format.CaptureFormat.TheVariants as format
-use Rattle.capture_reader.specs.declared.reader.AnyFrames.TheVariants as reads
-use Rattle.capture_reader.specs.Frame.{CapturedFrame}
-use Rattle.capture_reader.specs.CaptureFile.{CaptureFile}
-use Rattle.capture_reader.specs.Reader.{FramesLeft, left_of}
-use Rattle.capture_reader.specs.Written.{file_octets}
-use Rattle.capture_output.specs.Output.{HasAppended}
+use Rattle.captures.specs.declared.fault.FileFault.{FileFault}
+use Rattle.captures.specs.declared.fault.FileFault.TheVariants as fault
+use Rattle.captures.specs.declared.format.CaptureFormat.TheVariants as format
+use Rattle.captures.specs.declared.reader.AnyFrames.TheVariants as reads
+use Rattle.captures.specs.Frame.{CapturedFrame}
+use Rattle.captures.specs.CaptureFile.{CaptureFile}
+use Rattle.captures.specs.Reader.{FramesLeft, left_of}
+use Rattle.captures.specs.Written.{file_octets}
+use Rattle.captures.specs.Output.{HasAppended}
 use Rattle.call_report.specs.declared.status.Status.{Status}
 use Rattle.call_report.specs.declared.status.Status.TheVariants.{Done, WrongCapture, Limit}
 use Rattle.call_report.specs.CallEnds.{CallEnds}

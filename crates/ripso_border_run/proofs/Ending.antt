@@ -22,14 +22,14 @@ use Rattle.pcap_frames.specs.Written.{frame_octets}
 use Rattle.pcap_frames.proofs.Law.{records_come_one_behind_another}
 use Rattle.packet_label.specs.declared.denial.Denial.{Denial}
 use Rattle.doi_table.specs.declared.plan.DoiPlan.{DoiPlan}
-use Rattle.capture_reader.specs.declared.fault.FileFault.TheVariants as fault
-use Rattle.capture_reader.specs.declared.format.CaptureFormat.TheVariants as format
-use Rattle.capture_reader.specs.declared.reader.AnyFrames.TheVariants as reads
-use Rattle.capture_reader.specs.Frame.{CapturedFrame}
-use Rattle.capture_reader.specs.CaptureFile.{CaptureFile, frame_of_record, by_pcap}
-use Rattle.capture_reader.specs.Reader.{FramesLeft, left_of}
-use Rattle.capture_reader.specs.Written.{file_octets, file_frames}
-use Rattle.capture_output.specs.Output.{HasAppended}
+use Rattle.captures.specs.declared.fault.FileFault.TheVariants as fault
+use Rattle.captures.specs.declared.format.CaptureFormat.TheVariants as format
+use Rattle.captures.specs.declared.reader.AnyFrames.TheVariants as reads
+use Rattle.captures.specs.Frame.{CapturedFrame}
+use Rattle.captures.specs.CaptureFile.{CaptureFile, frame_of_record, by_pcap}
+use Rattle.captures.specs.Reader.{FramesLeft, left_of}
+use Rattle.captures.specs.Written.{file_octets, file_frames}
+use Rattle.captures.specs.Output.{HasAppended}
 use Rattle.call_report.specs.declared.status.Status.{Status}
 use Rattle.call_report.specs.declared.status.Status.TheVariants.{ReadFault}
 use Rattle.call_report.specs.CallEnds.{CallEnds}

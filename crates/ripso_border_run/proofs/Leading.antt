@@ -7,13 +7,13 @@ use Rattle.pcap_frames.specs.Capture.{capture_of}
 use Rattle.pcap_frames.specs.Reader.{Reader}
 use Rattle.pcap_frames.specs.Record.{Frame}
 use Rattle.doi_table.specs.declared.plan.DoiPlan.{DoiPlan}
-use Rattle.capture_reader.specs.declared.fault.FileFault.{FileFault}
-use Rattle.capture_reader.specs.declared.format.CaptureFormat.TheVariants as format
-use Rattle.capture_reader.specs.Frame.{CapturedFrame}
-use Rattle.capture_reader.specs.CaptureFile.{CaptureFile, by_pcap}
-use Rattle.capture_reader.specs.Reader.{FramesLeft}
-use Rattle.capture_reader.specs.Written.{file_frames, file_octets, file_head}
-use Rattle.capture_reader.proofs.Law.{frames_of_a_file_are_written_in_their_order}
+use Rattle.captures.specs.declared.fault.FileFault.{FileFault}
+use Rattle.captures.specs.declared.format.CaptureFormat.TheVariants as format
+use Rattle.captures.specs.Frame.{CapturedFrame}
+use Rattle.captures.specs.CaptureFile.{CaptureFile, by_pcap}
+use Rattle.captures.specs.Reader.{FramesLeft}
+use Rattle.captures.specs.Written.{file_frames, file_octets, file_head}
+use Rattle.captures.proofs.Law.{frames_of_a_file_are_written_in_their_order}
 use Rattle.call_report.specs.Event.{Event, packets_limit, capture_event}
 use Rattle.call_report.specs.Outside.{Outside}
 use Rattle.call_report.specs.Report.{Folder}

@@ -13,7 +13,7 @@ use Rattle.ripso_border_run.specs.inside.Course.{shown_of}
 use Rattle.packet_label.proofs.Law.{octets_are_a_packet_or_have_one_fault}
 use Rattle.doi_table.specs.declared.plan.DoiPlan.{DoiPlan}
 use Rattle.label_receive.specs.Judged.{judged_by}
-use Rattle.capture_reader.specs.Frame.{CapturedFrame}
+use Rattle.captures.specs.Frame.{CapturedFrame}
 use Rattle.ripso_border.specs.declared.border.Way.{Way}
 use Rattle.ripso_border.specs.declared.border.Way.TheVariants as way
 use Rattle.ripso_border.specs.In.{border_in}

@@ -1,7 +1,7 @@
 -- The origin of a packet that came in over a border.
 use Rattle.std.proofs.Common.{◌≡◌, ℕ, ◌^◌, ◌<◌, false, List, [], ◌∷◌, refl, sym, ap, subst, ◌∙◌}
 use Rattle.std.specs.Prelude.{Some, Result, Ok, Err}
-use Rattle.octet_grammar.specs.Octets.{IsOctets}
+use Rattle.mls_label.specs.octet_grammar.Octets.{IsOctets}
 use Rattle.mls_label.specs.declared.label.Label.{Label}
 use Rattle.ip_headers.specs.Packet.{ParsedPacket}
 use Rattle.ip_headers.specs.Written.{packet_octets}
@@ -11,14 +11,14 @@ use Rattle.packet_label.specs.declared.packet.Wire.{Wire}
 use Rattle.packet_label.specs.Written.{written, IsReadAs}
 use Rattle.doi_table.specs.declared.plan.DoiPlan.{DoiPlan}
 use Rattle.doi_table.specs.Definition.{IsDefinition}
-use Rattle.flow_lines.specs.declared.hop.Hop.{Hop}
-use Rattle.flow_lines.specs.declared.hop.Hop.TheVariants.{Send, Forward, Receive}
-use Rattle.flow_lines.specs.Hop.{is_send}
+use Rattle.label_commands.specs.declared.flow_lines.hop.Hop.{Hop}
+use Rattle.label_commands.specs.declared.flow_lines.hop.Hop.TheVariants.{Send, Forward, Receive}
+use Rattle.label_commands.specs.flow_lines.Hop.{is_send}
 use Rattle.node_tables.specs.Tables.{TableState}
 use Rattle.label_receive.specs.Incoming.{label_of}
 use Rattle.shared_tables.specs.Plan.{PlanState}
-use Rattle.flow_access.specs.Labels.{high_of, taken_at, hop_label, hop_tables}
-use Rattle.flow_access.specs.Sound.{IsOrigin}
+use Rattle.label_flow.specs.flow_access.Labels.{high_of, taken_at, hop_label, hop_tables}
+use Rattle.label_flow.specs.flow_access.Sound.{IsOrigin}
 use Rattle.ripso_border.specs.Laws.{HasLocalLabel}
 use Rattle.ripso_border.specs.In.{border_in}
 use Rattle.ripso_border.specs.Written.{border_octets}

@@ -18,9 +18,9 @@ use Rattle.call_report.specs.Printing.{Printed}
 use Rattle.call_report.specs.Report.{Folder}
 use Rattle.call_report.specs.Status.{status_number}
 use Rattle.call_report.proofs.Law.{Keeps}
-use Rattle.script_input.specs.ScriptFile.{script_read, ByAnswer, ByScript, script_stop_status}
-use Rattle.script_input.proofs.Law.{in_file, content_of, content_holds, content_told}
-use Rattle.script_input.specs.Ends.{HasScript, HasNoScript, refused as text_refused, unread as text_unread, without_memory as text_without_memory, IsScriptEnd, script_due}
+use Rattle.call_report.specs.script_input.ScriptFile.{script_read, ByAnswer, ByScript, script_stop_status}
+use Rattle.call_report.proofs.script_input.Law.{in_file, content_of, content_holds, content_told}
+use Rattle.call_report.specs.script_input.Ends.{HasScript, HasNoScript, refused as text_refused, unread as text_unread, without_memory as text_without_memory, IsScriptEnd, script_due}
 use Rattle.ripso_border_run.specs.declared.task.Task.{Task}
 use Rattle.ripso_border_run.specs.Definition.{last_tables, first_definition, border_definition}
 use Rattle.ripso_border_run.specs.Lines.{name_twice_line, no_doi_line}

@@ -14,9 +14,9 @@ use Rattle.pcap_frames.specs.Reader.{Reader, IsReady}
 use Rattle.packet_label.specs.declared.denial.Denial.{Denial}
 use Rattle.ripso_border_run.specs.declared.lines.Counts.{Counts}
 use Rattle.ripso_border_run.specs.inside.Course.{none_counted, after_counting, IsStanding}
-use Rattle.capture_reader.specs.declared.reader.AnyFrames.TheVariants as reads
-use Rattle.capture_reader.proofs.Law.{a_reader_goes_on_in_a_kept_file}
-use Rattle.capture_output.specs.Output.{HasAppended}
+use Rattle.captures.specs.declared.reader.AnyFrames.TheVariants as reads
+use Rattle.captures.proofs.Law.{a_reader_goes_on_in_a_kept_file}
+use Rattle.captures.specs.Output.{HasAppended}
 use Rattle.ripso_border_run.specs.declared.task.Task.{Task}
 use Rattle.ripso_border_run.specs.Outcome.{is_named_twice}
 

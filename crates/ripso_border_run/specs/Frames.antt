@@ -3,7 +3,7 @@ use Rattle.std.specs.Prelude.{◌≡◌, ℕ, ◌+◌, List, [], ◌∷◌, ◌+
 use Rattle.std.specs.List.{concat, range_with_len}
 use Rattle.pcap_frames.specs.Ip.{ip_part_of}
 use Rattle.pcap_frames.specs.Record.{Frame}
-use Rattle.capture_reader.specs.Frame.{CapturedFrame}
+use Rattle.captures.specs.Frame.{CapturedFrame}
 use Rattle.doi_table.specs.declared.plan.DoiPlan.{DoiPlan}
 use Rattle.ripso_border.specs.declared.border.Way.{Way}
 use Rattle.ripso_border.specs.Crossing.{Crossed, Crosses}

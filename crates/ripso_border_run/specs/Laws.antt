@@ -5,11 +5,11 @@ use Rattle.mls_label.specs.declared.label.Proto.TheVariants.{Cipso}
 use Rattle.doi_table.specs.declared.plan.DoiPlan.{DoiPlan}
 use Rattle.doi_table.specs.Table.{definition_of}
 use Rattle.doi_table.specs.Translation.{local_label}
-use Rattle.flow_lines.specs.declared.hop.Hop.{Hop}
-use Rattle.flow_lines.specs.Hop.{is_send}
+use Rattle.label_commands.specs.declared.flow_lines.hop.Hop.{Hop}
+use Rattle.label_commands.specs.flow_lines.Hop.{is_send}
 use Rattle.node_tables.specs.Tables.{TableState}
 use Rattle.shared_tables.specs.Plan.{PlanState}
-use Rattle.flow_access.specs.Labels.{hop_tables}
+use Rattle.label_flow.specs.flow_access.Labels.{hop_tables}
 use Rattle.ripso_border.specs.Border.{border_label}
 
 -- these tables pass all numbers of the DOI, with the tags of the border's definition

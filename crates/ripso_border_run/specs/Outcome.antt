@@ -3,9 +3,9 @@ use Rattle.std.specs.Prelude.{◌≡◌, ℕ, ◌||◌, Bool, List, [], ◌∷�
 use Rattle.std.specs.Option.{option_map_or}
 use Rattle.std.specs.Str.{bytes_eq}
 use Rattle.pcap_frames.specs.Capture.{capture_of}
-use Rattle.capture_reader.specs.declared.fault.FileFault.{FileFault}
-use Rattle.capture_reader.specs.CaptureFile.{CaptureFile, by_pcap}
-use Rattle.capture_reader.specs.Written.{file_octets}
+use Rattle.captures.specs.declared.fault.FileFault.{FileFault}
+use Rattle.captures.specs.CaptureFile.{CaptureFile, by_pcap}
+use Rattle.captures.specs.Written.{file_octets}
 use Rattle.doi_table.specs.declared.plan.DoiPlan.{DoiPlan}
 use Rattle.label_commands.specs.declared.script.Script.{Script}
 use Rattle.call_report.specs.Event.{Event, packets_limit, capture_event}
@@ -13,7 +13,7 @@ use Rattle.call_report.specs.Lines.Capture.{capture_line}
 use Rattle.call_report.specs.Lines.Script.{script_stop_line}
 use Rattle.call_report.specs.Output.{Output}
 use Rattle.call_report.specs.Report.{Folder, Report, late_report}
-use Rattle.script_input.specs.ScriptFile.{ByScript, script_stop_status}
+use Rattle.call_report.specs.script_input.ScriptFile.{ByScript, script_stop_status}
 use Rattle.ripso_border_run.specs.declared.task.Task.{Task}
 use Rattle.ripso_border_run.specs.Definition.{border_definition}
 use Rattle.ripso_border_run.specs.Frames.{AreMadeOf, written_frames, border_report}

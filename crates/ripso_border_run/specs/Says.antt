@@ -5,7 +5,7 @@ use Rattle.call_report.specs.Says.{Says, reading, usage_says}
 use Rattle.call_report.specs.Stages.{Stage, reading_stage}
 use Rattle.ripso_border_run.specs.declared.task.Task.{Task}
 use Rattle.ripso_border_run.specs.Lines.{border_usage_line}
-use Rattle.script_input.specs.ScriptFile.{ByScript}
+use Rattle.call_report.specs.script_input.ScriptFile.{ByScript}
 use Rattle.ripso_border_run.specs.Definition.{border_definition}
 use Rattle.ripso_border_run.specs.Outcome.{Outcome, IsOutcome, is_named_twice}
 

@@ -1,8 +1,8 @@
 -- What the words of the command line, without the program's name, ask for.
 use Rattle.std.specs.Prelude.{ℕ, List, [], ◌∷◌, codes, Option, Some, None, option_map, option_and_then, if◌then◌else◌}
 use Rattle.std.specs.Str.{bytes_eq}
-use Rattle.command_values.specs.Doi.{doi_of_text}
-use Rattle.flow_lines.specs.FileName.{file_name_of_text}
+use Rattle.script_lines.specs.command_values.Doi.{doi_of_text}
+use Rattle.label_commands.specs.flow_lines.FileName.{file_name_of_text}
 use Rattle.ripso_border.specs.declared.border.Way.{Way}
 use Rattle.ripso_border.specs.declared.border.Way.TheVariants.{In, Out}
 use Rattle.ripso_border_run.specs.declared.task.Task.{Task}

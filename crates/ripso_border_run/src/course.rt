@@ -2,19 +2,22 @@
 
 ghost use Rattle.std.specs.Prelude.{◌≡◌, ◌≤◌, ◌<◌, ◌^◌, length, IsTrue, IsSome, IfOk, OnOk};
 ghost use Rattle.call_report.specs.Printing.{HandsOn};
-ghost use Rattle.capture_output.specs.Output.{HasAppended};
+ghost use Rattle.captures.specs.Output.{HasAppended};
 ghost use Rattle.ripso_border_run.specs.Frames.{IsMadeOf};
 ghost use Rattle.ripso_border_run.specs.inside.Course.{made_of, shown_of, kept_of, after_counting};
 
 use crate::lines::{Counts, write_made};
 use call_report::Report;
-use capture_output::add_frame;
+use captures::{CaptureFormat, add_frame};
 use label_receive::Room;
 use mls_label::{Label, OutOfMemory};
 use net_io::{Depot, IoFault, Sink};
 use packet_label::{Denial, Stop};
 use pcap_frames::{FrameHead, ip_part};
 use ripso_border::{Border, cross};
+
+/// The output's frames: they are the same whatever its fractions of a second are.
+const FRAMES: CaptureFormat = CaptureFormat::Pcap { nanos: false };
 
 /// What becomes of the packet in a frame of this link type; `packet` becomes what is written.
 pub(crate) fn verdict_of(
@@ -70,7 +73,7 @@ pub(crate) fn add_kept<D: Depot>(
         waits.old.items waits.new.items (D.state depot.old) (D.state depot.new) }
 {
     match verdict {
-        Ok(()) => add_frame(depot, output, head, packet, waits),
+        Ok(()) => add_frame(depot, output, FRAMES, head, packet, waits),
         Err(_) => Ok(()),
     }
 }

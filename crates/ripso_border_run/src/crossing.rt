@@ -3,7 +3,7 @@
 ghost use Rattle.std.specs.Prelude.{◌≡◌, ◌≢◌, ◌<◌, ◌+◌, ◌++◌, [], IsTrue, IsSome, OnOk};
 ghost use Rattle.net_io.specs.Sink.{SinkState};
 ghost use Rattle.pcap_frames.specs.Reader.{IsReady};
-ghost use Rattle.capture_reader.specs.declared.fault.FileFault.TheVariants.{Pcap};
+ghost use Rattle.captures.specs.declared.fault.FileFault.TheVariants.{Pcap};
 ghost use Rattle.doi_table.specs.declared.plan.DoiPlan.{DoiPlan};
 ghost use Rattle.call_report.specs.Lines.Capture.{capture_line};
 ghost use Rattle.call_report.specs.Outside.{Outside};
@@ -14,18 +14,14 @@ ghost use Rattle.ripso_border_run.specs.inside.Course.{none_counted, in_hand, Is
 use crate::course::{add_kept, add_line, counted, verdict_of};
 use crate::lines::{Counts, write_end};
 use crate::task::Task;
-use call_report::{Report, Status, packets_limit, write_capture};
-use capture_output::append_rest;
-use capture_reader::FileFault;
+use call_report::{PACKETS_LIMIT, Report, Status, packets_limit, write_capture};
+use captures::{FileFault, append_rest};
 use label_receive::Room;
 use mls_label::OutOfMemory;
 use net_io::{Depot, IoFault, Sink};
 use pcap_frames::{CaptureFault, FrameHead, FrameStop, Frames};
 use ripso_border::Border;
 use std::alloc::Global;
-
-/// The most packets that one call reads.
-const PACKETS_LIMIT: u64 = 1_048_576;
 
 /// The number of the input among the captures of a call.
 pub(crate) const INPUT: u64 = 1;

@@ -1,13 +1,13 @@
 //! Laws over the definitions of a border and of flows behind it.
 
 ghost use Rattle.std.specs.Prelude.{◌≡◌, ◌<◌, ◌^◌, ℕ, List, Some, Ok};
-ghost use Rattle.octet_grammar.specs.Octets.{IsOctets};
+ghost use Rattle.mls_label.specs.octet_grammar.Octets.{IsOctets};
 ghost use Rattle.mls_label.specs.declared.label.Label.{Label};
 ghost use Rattle.doi_table.specs.declared.plan.DoiPlan.{DoiPlan};
 ghost use Rattle.doi_table.specs.Definition.{IsDefinition};
-ghost use Rattle.flow_lines.specs.declared.hop.Hop.{Hop};
+ghost use Rattle.label_commands.specs.declared.flow_lines.hop.Hop.{Hop};
 ghost use Rattle.shared_tables.specs.Plan.{PlanState};
-ghost use Rattle.flow_access.specs.Sound.{IsOrigin};
+ghost use Rattle.label_flow.specs.flow_access.Sound.{IsOrigin};
 ghost use Rattle.ripso_border.specs.In.{border_in};
 ghost use Rattle.ripso_border.specs.Written.{border_octets};
 ghost use Rattle.ripso_border_run.specs.Laws.{BeginsBehind, SaysOrigin};

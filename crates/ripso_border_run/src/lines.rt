@@ -5,8 +5,7 @@ ghost use Rattle.ripso_border_run.specs.Lines.{counts_text, crossed_end_line, na
 ghost use Rattle.ripso_border_run.specs.inside.Course.{shown_of};
 
 use call_report::write_verdict;
-use mls_label::{Label, OutOfMemory};
-use octet_grammar::write_decimal;
+use mls_label::{Label, OutOfMemory, write_decimal};
 use packet_label::Denial;
 
 /// How many packets there were, and how many of them were written and denied.

@@ -17,7 +17,7 @@ mod run;
 mod task;
 mod top;
 
-use command_words::words_of;
+use label_commands::words_of;
 use net_io::{RealDepot, RealSink};
 use std::alloc::AllocError;
 use std::io;

@@ -1,7 +1,7 @@
 //! A capture whose packets cross a border, one by one.
 
 ghost use Rattle.std.specs.Prelude.{◌≡◌, ◌<◌, [], Some, false};
-ghost use Rattle.capture_reader.specs.declared.fault.FileFault.TheVariants.{Pcap};
+ghost use Rattle.captures.specs.declared.fault.FileFault.TheVariants.{Pcap};
 ghost use Rattle.call_report.specs.CallEnds.{CallEnds};
 ghost use Rattle.call_report.specs.Lines.Capture.{capture_line};
 ghost use Rattle.call_report.specs.Outside.{Outside};
@@ -14,8 +14,7 @@ ghost use Rattle.ripso_border_run.specs.inside.Course.{IsPlanned, IsStanding, Is
 use crate::crossing::{Crossing, INPUT};
 use crate::task::Task;
 use call_report::{Report, Status, write_capture};
-use capture_output::create_capture;
-use capture_reader::FileFault;
+use captures::{CaptureFormat, FileFault, create_capture};
 use mls_label::OutOfMemory;
 use net_io::{Depot, IoFault, Sink};
 use pcap_frames::{CaptureFault, FrameStop, Frames};
@@ -46,7 +45,10 @@ pub(crate) fn cross_capture<D: Depot, S: Sink>(
         Err(FrameStop::ReadFault) => return Status::ReadFault,
         Err(FrameStop::OutOfMemory) => return Status::OutOfMemory,
     };
-    match create_capture(alloc, depot, task.output.as_str(), frames.nanos()) {
+    let format = CaptureFormat::Pcap {
+        nanos: frames.nanos(),
+    };
+    match create_capture(alloc, depot, task.output.as_str(), format) {
         Ok(waits) => cross_frames(alloc, border, task, frames, waits, depot, out),
         Err(IoFault::Failed) => Status::ReadFault,
         Err(IoFault::OutOfMemory) => Status::OutOfMemory,

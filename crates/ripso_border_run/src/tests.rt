@@ -2,8 +2,8 @@
 //! and calls that fail. Packets and captures are worked by hand from RFC 791 and the file format of libpcap.
 
 use crate::border;
+use mls_label::write_decimal;
 use net_io::{MemoryDepot, MemorySink};
-use octet_grammar::write_decimal;
 use std::alloc::Global;
 use std::process::Abort;
 use worked_values::octets_of;

@@ -1,7 +1,7 @@
 //! The one call that the program makes.
 
 ghost use Rattle.std.specs.Prelude.{◌≡◌, ◌<◌, ℕ, List, [], Some, Ok, All, length, IsTrue};
-ghost use Rattle.command_words.specs.Words.{texts_of};
+ghost use Rattle.label_commands.specs.command_words.Words.{texts_of};
 ghost use Rattle.call_report.specs.Outside.{Outside};
 ghost use Rattle.call_report.specs.CallEnds.{CallEnds};
 ghost use Rattle.call_report.specs.Printing.{Printed};
@@ -11,19 +11,18 @@ ghost use Rattle.ripso_border_run.specs.Outcome.{is_named_twice};
 ghost use Rattle.ripso_border_run.specs.Says.{border_says};
 ghost use Rattle.ripso_border_run.specs.Words.{border_asked};
 ghost use Rattle.ripso_border_run.specs.inside.Course.{IsUnmoved};
-ghost use Rattle.script_input.specs.ScriptFile.{script_read};
+ghost use Rattle.call_report.specs.script_input.ScriptFile.{script_read};
 ghost use Rattle.script_lines.specs.declared.command.Step.{Step as StepValue};
 
 use crate::definition::{first_definition, last_tables};
 use crate::lines::{border_usage, name_twice, no_doi};
 use crate::run::cross_capture;
 use crate::task::{Task, read_task};
-use call_report::{Report, Status};
+use call_report::{Report, Status, script_of};
 use label_commands::Script;
 use mls_label::OutOfMemory;
 use net_io::{Depot, Sink};
 use ripso_border::Border;
-use script_input::script_of;
 use std::alloc::Global;
 
 /// Reads the capture that the words name, and makes another one of what becomes of its packets at a border: packets with option 130 become

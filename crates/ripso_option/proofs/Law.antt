@@ -1,9 +1,9 @@
 -- The laws of src/laws.rt under their names, for the crates above.
 use Rattle.std.proofs.Common.{◌≡◌, ℕ, ◌≤◌, List, length, sym}
 use Rattle.std.specs.Prelude.{slice_index, Ok, MatchResult}
-use Rattle.octet_grammar.specs.Octets.{IsOctets}
-use Rattle.octet_grammar.specs.Front.{IsPrefixFree, ReadsFront}
-use Rattle.octet_grammar.specs.Fault.{FailsFront}
+use Rattle.mls_label.specs.octet_grammar.Octets.{IsOctets}
+use Rattle.mls_label.specs.octet_grammar.Front.{IsPrefixFree, ReadsFront}
+use Rattle.mls_label.specs.octet_grammar.Fault.{FailsFront}
 use Rattle.mls_label.specs.declared.label.Label.{Label}
 use Rattle.mls_label.specs.Cats.{IsCats}
 use Rattle.mls_label.specs.Label.{IsLabel}

@@ -3,10 +3,10 @@ use Rattle.std.proofs.Common.{◌≡◌, ℕ, suc, ◌+◌, ◌-◌, ◌%◌, �
 use Rattle.std.specs.Int.{from_bool}
 use Rattle.std.proofs.lemmas.Bool.Decides.{nat_tests}
 use Rattle.std.proofs.lemmas.List.{append-nil, length-append}
-use Rattle.octet_grammar.specs.Octets.{IsOctets}
-use Rattle.octet_grammar.specs.Front.{IsFront}
-use Rattle.octet_grammar.proofs.Fronts.{front_of_member}
-use Rattle.octet_grammar.proofs.Layouts.{ArePassed, octets_passed, Passes, HasPlaces}
+use Rattle.mls_label.specs.octet_grammar.Octets.{IsOctets}
+use Rattle.mls_label.specs.octet_grammar.Front.{IsFront}
+use Rattle.mls_label.proofs.octet_grammar.Fronts.{front_of_member}
+use Rattle.mls_label.proofs.octet_grammar.Layouts.{ArePassed, octets_passed, Passes, HasPlaces}
 use Rattle.mls_label.specs.declared.label.Label.{Label}
 use Rattle.mls_label.specs.Cats.{cats_where, IsCats}
 use Rattle.mls_label.specs.Label.{IsLabel}

@@ -1,7 +1,7 @@
 -- The Basic Security Option of IPv4: the set of whole octet strings that are one, each with its label. The layout is this
 -- project's own choice after RFC 1108.
 use Rattle.std.specs.Prelude.{ℕ, ◌≡◌, ◌+◌, ◌≤◌, List, [], ◌∷◌, length, IsTrue}
-use Rattle.octet_grammar.specs.Octets.{IsOctets}
+use Rattle.mls_label.specs.octet_grammar.Octets.{IsOctets}
 use Rattle.mls_label.specs.declared.label.Label.{Label}
 use Rattle.ripso_option.specs.declared.bounds.TheConstants.{OPTION_TYPE, HEADER_OCTETS, MOST_FLAG_OCTETS}
 use Rattle.ripso_option.specs.Rules.{is_class, is_flag_octet}

@@ -1,10 +1,10 @@
 //! Laws over the definitions of options.
 
 ghost use Rattle.std.specs.Prelude.{ℕ, ◌≡◌, ◌≤◌, List, [], ◌∷◌, length, slice_index, Ok, Err, MatchResult};
-ghost use Rattle.octet_grammar.specs.declared.fault.WireKind.TheVariants.{Octet, End};
-ghost use Rattle.octet_grammar.specs.Octets.{IsOctets};
-ghost use Rattle.octet_grammar.specs.Front.{IsPrefixFree, ReadsFront};
-ghost use Rattle.octet_grammar.specs.Fault.{FailsFront};
+ghost use Rattle.mls_label.specs.declared.octet_grammar.fault.WireKind.TheVariants.{Octet, End};
+ghost use Rattle.mls_label.specs.octet_grammar.Octets.{IsOctets};
+ghost use Rattle.mls_label.specs.octet_grammar.Front.{IsPrefixFree, ReadsFront};
+ghost use Rattle.mls_label.specs.octet_grammar.Fault.{FailsFront};
 ghost use Rattle.mls_label.specs.declared.label.Label.{Label};
 ghost use Rattle.mls_label.specs.Label.{IsLabel};
 ghost use Rattle.mls_label.specs.Cats.{IsCats};

@@ -9,8 +9,6 @@ mod flags;
 pub mod laws;
 mod layout;
 mod read;
-#[cfg(test)]
-mod tests;
 mod write;
 
 pub use bounds::{HIGHEST_FLAG, MOST_OCTETS, OPTION_TYPE};

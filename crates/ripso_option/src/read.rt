@@ -1,8 +1,8 @@
 //! Whole options.
 
 ghost use Rattle.std.specs.Prelude.{◌≡◌, ◌≤◌, IfOk, IfErr, OnErr, length};
-ghost use Rattle.octet_grammar.specs.Front.{ReadsFront};
-ghost use Rattle.octet_grammar.specs.Fault.{FailsFront};
+ghost use Rattle.mls_label.specs.octet_grammar.Front.{ReadsFront};
+ghost use Rattle.mls_label.specs.octet_grammar.Fault.{FailsFront};
 ghost use Rattle.ripso_option.specs.Ripso.{IsRipso};
 ghost use Rattle.ripso_option.specs.Reading.{ripso_of, answered_with};
 

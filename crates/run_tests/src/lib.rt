@@ -2,6 +2,8 @@
 #![tactic(auto)]
 
 #[cfg(test)]
-mod flow;
+mod of_flow_run;
 #[cfg(test)]
-mod flows;
+mod of_script_run;
+#[cfg(test)]
+mod of_static_law;

@@ -1,8 +1,8 @@
 -- A command's numbers and labels are within their bounds where each of its parameters has a value of its form.
 use Rattle.std.proofs.Common.{ℕ, List, Option, Some, None, arith, All}
 use Rattle.std.specs.Prelude.{IfSome}
-use Rattle.command_values.specs.List.{AreEntries}
-use Rattle.command_values.specs.Pairs.{IsPairWithin}
+use Rattle.script_lines.specs.command_values.List.{AreEntries}
+use Rattle.script_lines.specs.command_values.Pairs.{IsPairWithin}
 use Rattle.script_lines.specs.declared.parameter.Parameter.TheVariants.{Doi}
 use Rattle.script_lines.specs.declared.form.Slot.{Slot}
 use Rattle.script_lines.specs.Form.{must}

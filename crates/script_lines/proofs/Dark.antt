@@ -21,20 +21,20 @@ use Rattle.mls_range.specs.RangeText.{range_text, same_label}
 use Rattle.mls_range.proofs.Law.{label_texts_have_few_octets, written_label_reads_back}
 use Rattle.domain_map.specs.declared.protocol.Protocol.{Protocol as Carried}
 use Rattle.domain_map.specs.declared.protocol.Protocol.TheVariants as Map
-use Rattle.address_text.specs.declared.address.Address.{Address as Host}
-use Rattle.address_text.specs.declared.address.Address.TheVariants.{V4, V6}
-use Rattle.address_text.specs.Address.{IsAddress, IsOctetsOf, address_text, width_of}
-use Rattle.address_text.specs.Name.{IsNameText, is_name_octet}
-use Rattle.address_text.specs.Prefix.{AddressBlock, IsBlock, prefix_text}
+use Rattle.domain_map.specs.declared.address_text.address.Address.{Address as Host}
+use Rattle.domain_map.specs.declared.address_text.address.Address.TheVariants.{V4, V6}
+use Rattle.domain_map.specs.address_text.Address.{IsAddress, IsOctetsOf, address_text, width_of}
+use Rattle.domain_map.specs.address_text.Name.{IsNameText, is_name_octet}
+use Rattle.domain_map.specs.address_text.Prefix.{AddressBlock, IsBlock, prefix_text}
 use Rattle.script_lines.specs.Octet.{is_blank, is_plain}
 use Rattle.script_lines.specs.Word.{has_octets, begins_comment, is_word_text, placed, words_of_line}
 use Rattle.script_lines.proofs.LineWords.{words_joined}
-use Rattle.command_values.specs.Doi.{is_doi}
-use Rattle.command_values.specs.List.{AreEntries, list_text}
-use Rattle.command_values.specs.Pairs.{IsPairWithin, pair_text}
-use Rattle.command_values.specs.Tags.{AreTags, tag_number_text}
-use Rattle.command_values.specs.MapProtocol.{is_map_protocol, map_protocol_text}
-use Rattle.command_values.specs.Ranges.{IsMlsLabel, IsMlsRange, lowest_label, receiver_range_text}
+use Rattle.script_lines.specs.command_values.Doi.{is_doi}
+use Rattle.script_lines.specs.command_values.List.{AreEntries, list_text}
+use Rattle.script_lines.specs.command_values.Pairs.{IsPairWithin, pair_text}
+use Rattle.script_lines.specs.command_values.Tags.{AreTags, tag_number_text}
+use Rattle.script_lines.specs.command_values.MapProtocol.{is_map_protocol, map_protocol_text}
+use Rattle.script_lines.specs.command_values.Ranges.{IsMlsLabel, IsMlsRange, lowest_label, receiver_range_text}
 use Rattle.script_lines.specs.declared.row.Row.{Row}
 use Rattle.script_lines.specs.declared.row.Row.TheVariants.{CipsoAddPass, CipsoAddTrans, CalipsoAddPass, CipsoDel, CalipsoDel, CipsoList, CalipsoList, MapAdd, MapDel, MapList, AcceptOn, AcceptOff, UnlblAdd, UnlblDel, UnlblList, ReceiverAdd, ReceiverDel, RangeAdd, RangeDel, PairAdd, PairDel, MgmtVersion, MgmtProtocols, CalipsoAddTrans, Reading}
 use Rattle.script_lines.specs.declared.parameter.Parameter.{Parameter}

@@ -11,7 +11,7 @@ use Rattle.script_lines.specs.declared.stop.ScriptKind.TheVariants.{Word, Value,
 use Rattle.script_lines.specs.declared.stop.LineStop.{LineStop}
 use Rattle.script_lines.specs.Word.{LineWord}
 use Rattle.script_lines.specs.Stop.{fault, and_next}
-use Rattle.command_values.proofs.Law.{labels_stay_static_ranges, labels_stay_receiver_ranges}
+use Rattle.script_lines.proofs.command_values.Law.{labels_stay_static_ranges, labels_stay_receiver_ranges}
 use Rattle.script_lines.specs.declared.row.Row.{Row}
 use Rattle.script_lines.specs.declared.row.Row.TheVariants.{CipsoAddPass, CipsoAddTrans, CalipsoAddPass, CipsoDel, CalipsoDel, CipsoList, CalipsoList, MapAdd, MapDel, MapList, AcceptOn, AcceptOff, UnlblAdd, UnlblDel, UnlblList, ReceiverAdd, ReceiverDel, RangeAdd, RangeDel, PairAdd, PairDel, MgmtVersion, MgmtProtocols, CalipsoAddTrans, Reading}
 use Rattle.script_lines.specs.declared.parameter.Parameter.{Parameter}

@@ -8,24 +8,24 @@ use Rattle.std.proofs.lemmas.Option.{none-some, IfSome_then}
 use Rattle.mls_range.specs.RangeText.{range_text}
 use Rattle.mls_range.specs.Computed.{range_of_text}
 use Rattle.mls_range.proofs.Law.{written_range_computes}
-use Rattle.address_text.specs.declared.address.Address.TheVariants.{V4, V6}
-use Rattle.address_text.specs.Address.{address_of_text, address_text}
-use Rattle.address_text.specs.Name.{IsNameText, is_name, name_of_text}
-use Rattle.address_text.specs.Prefix.{block_of_text, prefix_text}
-use Rattle.address_text.proofs.Law.{address_texts_compute, written_address_reads_back, written_prefix_reads_back}
+use Rattle.domain_map.specs.declared.address_text.address.Address.TheVariants.{V4, V6}
+use Rattle.domain_map.specs.address_text.Address.{address_of_text, address_text}
+use Rattle.domain_map.specs.address_text.Name.{IsNameText, is_name, name_of_text}
+use Rattle.domain_map.specs.address_text.Prefix.{block_of_text, prefix_text}
+use Rattle.domain_map.proofs.address_text.Law.{address_texts_compute, written_address_reads_back, written_prefix_reads_back}
 use Rattle.script_lines.specs.declared.stop.ScriptKind.TheVariants as Kind
 use Rattle.script_lines.specs.declared.stop.LineStop.{LineStop}
 use Rattle.script_lines.specs.Octet.{is_blank}
 use Rattle.script_lines.specs.Word.{LineWord, placed, words_of_line}
 use Rattle.script_lines.specs.Stop.{fault, and_next}
-use Rattle.command_values.specs.Doi.{doi_of_text}
-use Rattle.command_values.specs.List.{list_of_text, list_text}
-use Rattle.command_values.specs.Pairs.{pair_of_text, pair_text}
-use Rattle.command_values.specs.Tags.{tags_of_text, tag_number_text}
-use Rattle.command_values.specs.MapProtocol.{map_protocol_of_text, map_protocol_text}
-use Rattle.command_values.specs.Ranges.{static_range_of_text, receiver_range_of_text, receiver_range_text}
-use Rattle.command_values.specs.Addresses.{four_of_text, sixteen_of_text}
-use Rattle.command_values.proofs.Law.{written_doi_reads_back, written_tags_read_back, written_pairs_read_back, written_map_protocol_reads_back, written_static_range_reads_back, written_receiver_range_reads_back, written_four_octets_read_back, written_sixteen_octets_read_back}
+use Rattle.script_lines.specs.command_values.Doi.{doi_of_text}
+use Rattle.script_lines.specs.command_values.List.{list_of_text, list_text}
+use Rattle.script_lines.specs.command_values.Pairs.{pair_of_text, pair_text}
+use Rattle.script_lines.specs.command_values.Tags.{tags_of_text, tag_number_text}
+use Rattle.script_lines.specs.command_values.MapProtocol.{map_protocol_of_text, map_protocol_text}
+use Rattle.script_lines.specs.command_values.Ranges.{static_range_of_text, receiver_range_of_text, receiver_range_text}
+use Rattle.script_lines.specs.command_values.Addresses.{four_of_text, sixteen_of_text}
+use Rattle.script_lines.proofs.command_values.Law.{written_doi_reads_back, written_tags_read_back, written_pairs_read_back, written_map_protocol_reads_back, written_static_range_reads_back, written_receiver_range_reads_back, written_four_octets_read_back, written_sixteen_octets_read_back}
 use Rattle.script_lines.specs.declared.row.Row.{Row}
 use Rattle.script_lines.specs.declared.parameter.Parameter.{Parameter}
 use Rattle.script_lines.specs.declared.parameter.Parameter.TheVariants.{Doi, Tags, Levels, Categories, Domain, Interface, Prefix, Protocol, Label, Address, Home, Level, Range, Four, Six, ReadingLevels, ReadingCategories}

@@ -9,7 +9,7 @@ use Rattle.script_lines.specs.declared.stop.ScriptKind.TheVariants.{Word, Value,
 use Rattle.script_lines.specs.declared.stop.LineStop.{LineStop}
 use Rattle.script_lines.specs.Word.{words_of_line}
 use Rattle.script_lines.specs.Stop.{fault}
-use Rattle.address_text.specs.Address.{address_of_text}
+use Rattle.domain_map.specs.address_text.Address.{address_of_text}
 use Rattle.mls_range.specs.LabelText.{cats_of_terms}
 use Rattle.mls_range.specs.Range.{LabelRange}
 use Rattle.mls_range.specs.Computed.{terms_of_text, label_of_text, range_of_text}

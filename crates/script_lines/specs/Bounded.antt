@@ -1,8 +1,8 @@
 -- What the numbers and labels of a command keep that it brings into tables. It follows from `IsCommand`, and says nothing of names, tags and addresses.
 use Rattle.std.specs.Prelude.{ℕ, List, All, Option, IsTrue, IfSome}
-use Rattle.command_values.specs.Doi.{is_doi}
-use Rattle.command_values.specs.Pairs.{IsPairWithin}
-use Rattle.command_values.specs.Ranges.{IsMlsRange}
+use Rattle.script_lines.specs.command_values.Doi.{is_doi}
+use Rattle.script_lines.specs.command_values.Pairs.{IsPairWithin}
+use Rattle.script_lines.specs.command_values.Ranges.{IsMlsRange}
 use Rattle.script_lines.specs.declared.command.Command.{Command}
 use Rattle.script_lines.specs.declared.command.Command.TheVariants.{CipsoAddPass, CipsoAddTrans, CalipsoAddPass, CalipsoAddTrans, UnlblAdd, ReceiverAdd, RangeAdd}
 

@@ -3,16 +3,16 @@ use Rattle.std.specs.Prelude.{ℕ, Bool, List, codes, Option, Some, None, option
 use Rattle.std.specs.Str.{bytes_eq}
 use Rattle.mls_range.specs.Range.{LabelRange}
 use Rattle.mls_range.specs.Computed.{label_of_text, lone_range, range_of_text}
-use Rattle.address_text.specs.Address.{address_of_text}
-use Rattle.address_text.specs.Name.{name_of_text}
-use Rattle.address_text.specs.Prefix.{block_of_text}
-use Rattle.command_values.specs.Doi.{doi_of_text}
-use Rattle.command_values.specs.List.{list_of_text}
-use Rattle.command_values.specs.Pairs.{pair_of_text}
-use Rattle.command_values.specs.Tags.{tags_of_text}
-use Rattle.command_values.specs.MapProtocol.{map_protocol_of_text}
-use Rattle.command_values.specs.Ranges.{in_context, static_range_of_text, range_below, receiver_range_of_text}
-use Rattle.command_values.specs.Addresses.{four_of_text, sixteen_of_text}
+use Rattle.domain_map.specs.address_text.Address.{address_of_text}
+use Rattle.domain_map.specs.address_text.Name.{name_of_text}
+use Rattle.domain_map.specs.address_text.Prefix.{block_of_text}
+use Rattle.script_lines.specs.command_values.Doi.{doi_of_text}
+use Rattle.script_lines.specs.command_values.List.{list_of_text}
+use Rattle.script_lines.specs.command_values.Pairs.{pair_of_text}
+use Rattle.script_lines.specs.command_values.Tags.{tags_of_text}
+use Rattle.script_lines.specs.command_values.MapProtocol.{map_protocol_of_text}
+use Rattle.script_lines.specs.command_values.Ranges.{in_context, static_range_of_text, range_below, receiver_range_of_text}
+use Rattle.script_lines.specs.command_values.Addresses.{four_of_text, sixteen_of_text}
 use Rattle.script_lines.specs.declared.parameter.Parameter.{Parameter}
 use Rattle.script_lines.specs.declared.parameter.Parameter.TheVariants.{Doi, Tags, Levels, Categories, Domain, Interface, Prefix, Protocol, Label, Address, Home, Level, Range, Four, Six, ReadingLevels, ReadingCategories}
 use Rattle.script_lines.specs.declared.fields.Fields.{Fields}

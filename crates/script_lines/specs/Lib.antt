@@ -8,3 +8,4 @@ pub mod Value
 pub mod Command
 pub mod Bounded
 pub mod inside
+pub mod command_values

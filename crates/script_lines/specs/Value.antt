@@ -3,16 +3,16 @@ use Rattle.std.specs.Prelude.{ℕ, Bool, true, false, List, [], ◌++◌, codes,
 use Rattle.std.specs.Fmt.{decimal}
 use Rattle.std.specs.Option.{option_map_or}
 use Rattle.mls_range.specs.RangeText.{range_text}
-use Rattle.address_text.specs.declared.address.Address.TheVariants.{V4, V6}
-use Rattle.address_text.specs.Address.{address_text, IsAddress, IsOctetsOf}
-use Rattle.address_text.specs.Name.{IsNameText}
-use Rattle.address_text.specs.Prefix.{prefix_text, IsBlock}
-use Rattle.command_values.specs.Doi.{is_doi}
-use Rattle.command_values.specs.List.{list_text, AreEntries}
-use Rattle.command_values.specs.Pairs.{pair_text, IsPairWithin}
-use Rattle.command_values.specs.Tags.{tag_number_text, AreTags}
-use Rattle.command_values.specs.MapProtocol.{is_map_protocol, map_protocol_text}
-use Rattle.command_values.specs.Ranges.{receiver_range_text, IsMlsRange}
+use Rattle.domain_map.specs.declared.address_text.address.Address.TheVariants.{V4, V6}
+use Rattle.domain_map.specs.address_text.Address.{address_text, IsAddress, IsOctetsOf}
+use Rattle.domain_map.specs.address_text.Name.{IsNameText}
+use Rattle.domain_map.specs.address_text.Prefix.{prefix_text, IsBlock}
+use Rattle.script_lines.specs.command_values.Doi.{is_doi}
+use Rattle.script_lines.specs.command_values.List.{list_text, AreEntries}
+use Rattle.script_lines.specs.command_values.Pairs.{pair_text, IsPairWithin}
+use Rattle.script_lines.specs.command_values.Tags.{tag_number_text, AreTags}
+use Rattle.script_lines.specs.command_values.MapProtocol.{is_map_protocol, map_protocol_text}
+use Rattle.script_lines.specs.command_values.Ranges.{receiver_range_text, IsMlsRange}
 use Rattle.script_lines.specs.declared.parameter.Parameter.{Parameter}
 use Rattle.script_lines.specs.declared.parameter.Parameter.TheVariants.{Doi, Tags, Levels, Categories, Domain, Interface, Prefix, Protocol, Label, Address, Home, Level, Range, Four, Six, ReadingLevels, ReadingCategories}
 use Rattle.script_lines.specs.declared.fields.Fields.{Fields}

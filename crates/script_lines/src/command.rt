@@ -3,11 +3,11 @@
 ghost use Rattle.std.specs.Prelude.{◌≡◌, IfOk};
 ghost use Rattle.script_lines.specs.Command.{said_of};
 
+use crate::command_values::{CategoryPairs, Doi, LevelPairs, MapProtocol, Tags};
 use crate::made::command_of;
 use crate::row::Row;
 use crate::shown::Shown;
-use address_text::{Address, Name, Prefix};
-use command_values::{CategoryPairs, Doi, LevelPairs, MapProtocol, Tags};
+use domain_map::{Address, Name, Prefix};
 use mls_label::OutOfMemory;
 use mls_range::KeptRange;
 use std::alloc::Global;

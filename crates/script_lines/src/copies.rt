@@ -2,8 +2,8 @@
 
 ghost use Rattle.std.specs.Prelude.{◌≡◌, IfOk, option_copied, option_map};
 
-use address_text::Name;
-use command_values::{CommaList, ListEntry, Tags};
+use crate::command_values::{CommaList, ListEntry, Tags};
+use domain_map::Name;
 use mls_label::OutOfMemory;
 use mls_range::KeptRange;
 use std::alloc::Global;

@@ -5,13 +5,13 @@ ghost use Rattle.mls_range.specs.Computed.{range_of_text};
 ghost use Rattle.script_lines.specs.Form.{with_translations};
 ghost use Rattle.script_lines.specs.Fields.{no_fields, is_given, fields_with, named_or_default, with_value};
 
-use crate::parameter::Parameter;
-use address_text::{Address, Name, Prefix, read_address, read_name, read_prefix};
-use command_values::{
+use crate::command_values::{
     CategoryPairs, CommaList, Doi, LevelPairs, MapProtocol, ReadingCategories, ReadingLevels, Tags,
     is_word, read_doi, read_four, read_map_protocol, read_receiver_range, read_six,
     read_static_range,
 };
+use crate::parameter::Parameter;
+use domain_map::{Address, Name, Prefix, read_address, read_name, read_prefix};
 use mls_label::OutOfMemory;
 use mls_range::{KeptRange, Range, read_range_into};
 use std::alloc::Global;

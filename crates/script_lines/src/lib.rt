@@ -6,6 +6,7 @@
 #![tactic(auto)]
 
 mod command;
+pub mod command_values;
 mod copies;
 mod fields;
 mod form;
@@ -22,6 +23,12 @@ mod values;
 mod word;
 mod writing;
 
+pub use crate::command_values::{
+    CategoryPairs, CommaList, Doi, LevelPairs, ListEntry, MapProtocol, ReadingCategories,
+    ReadingLevels, Tags, around, is_word, read_doi, read_four, read_map_protocol,
+    read_receiver_range, read_six, read_static_range, write_map_protocol, write_receiver_range,
+    write_static_range,
+};
 pub use command::{Command, Step};
 pub use fields::Fields;
 pub use form::{Form, Slot};

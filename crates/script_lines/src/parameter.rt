@@ -3,7 +3,7 @@
 ghost use Rattle.std.specs.Prelude.{◌≡◌};
 ghost use Rattle.script_lines.specs.Form.{key_text, has_default, is_key};
 
-use command_values::is_word;
+use crate::command_values::is_word;
 
 /// A parameter: how its words begin, and the form of its value.
 #[derive(Clone, Copy, Debug, PartialEq, Eq)]

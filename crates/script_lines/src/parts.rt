@@ -4,8 +4,8 @@ ghost use Rattle.std.specs.Prelude.{◌≡◌, option_copied, option_map};
 ghost use Rattle.script_lines.specs.Command.{said_of};
 
 use crate::command::Command;
-use address_text::{Address, Name, Prefix};
-use command_values::{CategoryPairs, Doi, LevelPairs, MapProtocol, Tags};
+use crate::command_values::{CategoryPairs, Doi, LevelPairs, MapProtocol, Tags};
+use domain_map::{Address, Name, Prefix};
 use mls_range::KeptRange;
 
 impl Command {

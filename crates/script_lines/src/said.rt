@@ -6,13 +6,13 @@ ghost use Rattle.script_lines.specs.Stop.{IsStopOf};
 ghost use Rattle.script_lines.specs.Form.{with_translations, form_of, line_rows};
 ghost use Rattle.script_lines.specs.Said.{begins_line, first_is, is_spelled, unfit_or_missing, read_row, key_of, slot_of, with_word, with_parameter, is_complete, read_fields, read_said};
 
+use crate::command_values::is_word;
 use crate::fields::Fields;
 use crate::form::Slot;
 use crate::parameter::Parameter;
 use crate::row::{Row, line_rows};
 use crate::stop::{LineStop, ScriptKind};
 use crate::word::Word;
-use command_values::is_word;
 use std::alloc::Global;
 
 /// A row of the table and what its parameters give.

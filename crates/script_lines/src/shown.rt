@@ -7,11 +7,11 @@ ghost use Rattle.script_lines.specs.Value.{is_default, key_by};
 ghost use Rattle.script_lines.specs.Command.{said_of};
 
 use crate::command::Command;
+use crate::command_values::{CategoryPairs, Doi, LevelPairs, MapProtocol, Tags};
 use crate::copies::{copied_domain, copied_list, copied_name, copied_range, copied_tags};
 use crate::fields::Fields;
 use crate::parameter::Parameter;
-use address_text::{Address, Name, Prefix};
-use command_values::{CategoryPairs, Doi, LevelPairs, MapProtocol, Tags};
+use domain_map::{Address, Name, Prefix};
 use mls_label::OutOfMemory;
 use mls_range::KeptRange;
 use std::alloc::Global;

@@ -3,28 +3,27 @@
 ghost use Rattle.std.specs.Prelude.{◌≡◌, ◌++◌, IfSome, IsTrue, OnOk, OnErr, option_copied, option_map};
 ghost use Rattle.std.specs.Fmt.{decimal};
 ghost use Rattle.mls_range.specs.RangeText.{range_text};
-ghost use Rattle.address_text.specs.declared.address.Address.TheVariants.{V4, V6};
-ghost use Rattle.address_text.specs.Address.{address_text, IsAddress, IsOctetsOf};
-ghost use Rattle.address_text.specs.Name.{IsNameText};
-ghost use Rattle.address_text.specs.Prefix.{prefix_text, IsBlock};
-ghost use Rattle.command_values.specs.Doi.{is_doi};
-ghost use Rattle.command_values.specs.List.{list_text, AreEntries};
-ghost use Rattle.command_values.specs.MapProtocol.{is_map_protocol, map_protocol_text};
-ghost use Rattle.command_values.specs.Ranges.{receiver_range_text, IsMlsRange};
-ghost use Rattle.command_values.specs.Tags.{tag_number_text, AreTags};
+ghost use Rattle.domain_map.specs.declared.address_text.address.Address.TheVariants.{V4, V6};
+ghost use Rattle.domain_map.specs.address_text.Address.{address_text, IsAddress, IsOctetsOf};
+ghost use Rattle.domain_map.specs.address_text.Name.{IsNameText};
+ghost use Rattle.domain_map.specs.address_text.Prefix.{prefix_text, IsBlock};
+ghost use Rattle.script_lines.specs.command_values.Doi.{is_doi};
+ghost use Rattle.script_lines.specs.command_values.List.{list_text, AreEntries};
+ghost use Rattle.script_lines.specs.command_values.MapProtocol.{is_map_protocol, map_protocol_text};
+ghost use Rattle.script_lines.specs.command_values.Ranges.{receiver_range_text, IsMlsRange};
+ghost use Rattle.script_lines.specs.command_values.Tags.{tag_number_text, AreTags};
 ghost use Rattle.script_lines.specs.Value.{text_or_none, value_text, IsValue};
 ghost use Rattle.script_lines.specs.inside.Extends.{Extends};
 
-use crate::parameter::Parameter;
-use crate::shown::Shown;
-use address_text::{Address, Name, Prefix, write_address, write_prefix};
-use command_values::{
+use crate::command_values::{
     CommaList, Doi, ListEntry, MapProtocol, Tags, write_map_protocol, write_receiver_range,
     write_static_range,
 };
-use mls_label::OutOfMemory;
+use crate::parameter::Parameter;
+use crate::shown::Shown;
+use domain_map::{Address, Name, Prefix, write_address, write_prefix};
+use mls_label::{OutOfMemory, write_decimal};
 use mls_range::KeptRange;
-use octet_grammar::write_decimal;
 
 /// Appends the value of a parameter, if it is given.
 pub(crate) fn append_value(

@@ -5,16 +5,16 @@ use Rattle.std.specs.List.{list_all}
 use Rattle.std.proofs.lemmas.Bool.{and_parts, eqb-true, false≢true}
 use Rattle.std.proofs.lemmas.Option.{slice_get_within}
 use Rattle.std.proofs.lemmas.List.Elements.{All-head, All-tail}
-use Rattle.flow_lines.specs.declared.flow.FlowLine.{FlowLine}
+use Rattle.label_commands.specs.declared.flow_lines.flow.FlowLine.{FlowLine}
 use Rattle.label_commands.specs.declared.script.Script.{Script}
 use Rattle.label_commands.specs.Script.{before}
 use Rattle.label_flow.specs.Schedule.{AreLawful, versions_in}
 use Rattle.label_flow.proofs.Law.{versions_without_steps_are_forced}
 use Rattle.call_report.specs.Report.{Folder, Versions}
 use Rattle.call_report.specs.Event.{Event, packets_limit}
-use Rattle.flow_run.specs.Input.{FlowInput, packets_in}
-use Rattle.flow_run.specs.Run.{FlowRun, IsRun, is_judged, goes_on}
-use Rattle.flow_access.specs.Valid.{plan_of}
+use Rattle.script_run.specs.flow_run.Input.{FlowInput, packets_in}
+use Rattle.script_run.specs.flow_run.Run.{FlowRun, IsRun, is_judged, goes_on}
+use Rattle.label_flow.specs.flow_access.Valid.{plan_of}
 use Rattle.script_run.specs.Runs.{AreRuns, AreWholeRuns, IsLawfulRun, HasNoneBeside, last_event}
 use Rattle.script_run.proofs.Runs.{event_stops}
 use Rattle.script_run.proofs.Starting.{above_is}

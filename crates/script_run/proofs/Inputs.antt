@@ -1,11 +1,11 @@
 -- Flows know no more of a folder than the files that they read.
 use Rattle.std.proofs.Common.{◌≡◌, ℕ, ◌+◌, ◌-◌, List, [], ◌∷◌, length, All, ap, ◌∙◌}
 use Rattle.std.proofs.lemmas.List.Elements.{All-head, All-tail}
-use Rattle.flow_lines.specs.declared.flow.FlowLine.{FlowLine}
+use Rattle.label_commands.specs.declared.flow_lines.flow.FlowLine.{FlowLine}
 use Rattle.shared_tables.specs.Plan.{PlanState}
 use Rattle.call_report.specs.Report.{Folder, Versions}
-use Rattle.flow_run.specs.Input.{flow_input}
-use Rattle.flow_run.specs.Run.{FlowRun}
+use Rattle.script_run.specs.flow_run.Input.{flow_input}
+use Rattle.script_run.specs.flow_run.Run.{FlowRun}
 use Rattle.script_run.specs.Runs.{AreRuns}
 
 pub in_another : (plan : PlanState) (held other : Folder) (number most : ℕ) (flows : List FlowLine) (seen : Versions) (runs : List FlowRun) → All (λ (flow : FlowLine). held flow.input ≡ other flow.input) flows

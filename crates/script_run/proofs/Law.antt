@@ -3,13 +3,13 @@ use Rattle.std.proofs.Common.{◌≡◌, ◌<◌, ℕ, List, length, Some}
 use Rattle.std.specs.Prelude.{All, IsTrue, ◌==◌}
 use Rattle.std.specs.List.{list_all}
 use Rattle.std.proofs.lemmas.Bool.{and_parts, eqb-true}
-use Rattle.flow_lines.specs.declared.flow.FlowLine.{FlowLine}
+use Rattle.label_commands.specs.declared.flow_lines.flow.FlowLine.{FlowLine}
 use Rattle.label_commands.specs.declared.script.Script.{Script}
 use Rattle.shared_tables.specs.Plan.{PlanState}
 use Rattle.call_report.specs.Report.{Folder, Versions}
 use Rattle.call_report.specs.Event.{Event, packets_limit}
-use Rattle.flow_run.specs.Run.{FlowRun, goes_on}
-use Rattle.flow_access.specs.Valid.{plan_of}
+use Rattle.script_run.specs.flow_run.Run.{FlowRun, goes_on}
+use Rattle.label_flow.specs.flow_access.Valid.{plan_of}
 use Rattle.script_run.specs.Runs.{AreRuns, AreWholeRuns, IsLawfulRun, HasNoneBeside, is_done, last_event, FlowsStatus}
 use Rattle.script_run.proofs.Forced.{forced}
 use Rattle.script_run.proofs.Inputs.{in_another}

@@ -7,9 +7,9 @@ use Rattle.std.proofs.lemmas.Bool.{both_ways}
 use Rattle.std.proofs.lemmas.Option.{none-some, same_Some, slice_get-map}
 use Rattle.std.proofs.lemmas.Map.Keys.{any_passes_from_place}
 use Rattle.std.proofs.lemmas.Slice.Eq.{bytes_eq-Decides}
-use Rattle.flow_lines.specs.declared.flow.FlowLine.{FlowLine}
-use Rattle.flow_lines.specs.Flow.{inputs_of, outputs_of, is_among}
-use Rattle.flow_lines.specs.Apart.{AreApart}
+use Rattle.label_commands.specs.declared.flow_lines.flow.FlowLine.{FlowLine}
+use Rattle.label_commands.specs.flow_lines.Flow.{inputs_of, outputs_of, is_among}
+use Rattle.label_commands.specs.flow_lines.Apart.{AreApart}
 
 -- a flow's output is among the outputs
 module _ (x : FlowLine) (xs : List FlowLine) (n : List ℕ) where

@@ -7,14 +7,14 @@ use Rattle.std.proofs.lemmas.List.{append-nil, map-append}
 use Rattle.std.proofs.lemmas.List.Elements.{All-nil, All-cons, All-head, All-tail}
 use Rattle.std.proofs.lemmas.List.Folds.{concat-append}
 use Rattle.std.proofs.lemmas.Option.{none-some, same_Some}
-use Rattle.flow_lines.specs.declared.flow.FlowLine.{FlowLine}
+use Rattle.label_commands.specs.declared.flow_lines.flow.FlowLine.{FlowLine}
 use Rattle.label_commands.specs.declared.script.Script.{Script}
 use Rattle.shared_tables.specs.Plan.{PlanState}
 use Rattle.call_report.specs.Report.{Folder, Versions}
 use Rattle.call_report.specs.Event.{Event}
 use Rattle.call_report.specs.Output.{Output}
-use Rattle.flow_run.specs.Input.{flow_input}
-use Rattle.flow_run.specs.Run.{FlowRun, IsRun, is_judged, goes_on, run_text, run_end, output_capture, run_output}
+use Rattle.script_run.specs.flow_run.Input.{flow_input}
+use Rattle.script_run.specs.flow_run.Run.{FlowRun, IsRun, is_judged, goes_on, run_text, run_end, output_capture, run_output}
 use Rattle.script_run.specs.Runs.{AreRuns, is_done, last_event}
 use Rattle.script_run.specs.Report.{first_replies, replies_behind, turn_text, text_so_far, pause_text, runs_outputs}
 use Rattle.script_run.specs.Ends.{last_of}

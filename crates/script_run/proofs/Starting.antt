@@ -9,7 +9,7 @@ use Rattle.net_io.specs.Faults.{Rose, SameCounts}
 use Rattle.net_io.specs.Sink.{SinkState}
 use Rattle.label_commands.specs.declared.script.Script.{Script}
 use Rattle.label_commands.specs.Script.{before}
-use Rattle.flow_lines.specs.declared.flow.FlowLine.{FlowLine}
+use Rattle.label_commands.specs.declared.flow_lines.flow.FlowLine.{FlowLine}
 use Rattle.call_report.specs.Lines.Fixed.{done_line}
 use Rattle.call_report.specs.declared.status.Status.{Status}
 use Rattle.call_report.specs.declared.status.Status.TheVariants.{Done, OutOfMemory}
@@ -17,8 +17,8 @@ use Rattle.call_report.specs.Report.{Versions}
 use Rattle.call_report.specs.Output.{Output, IsBegun, IsMade}
 use Rattle.call_report.specs.Outside.{Outside, NoneFailed}
 use Rattle.call_report.specs.Printing.{Printed}
-use Rattle.flow_run.specs.Run.{FlowRun, goes_on}
-use Rattle.flow_access.specs.Valid.{plan_of}
+use Rattle.script_run.specs.flow_run.Run.{FlowRun, goes_on}
+use Rattle.label_flow.specs.flow_access.Valid.{plan_of}
 use Rattle.script_run.specs.Runs.{IsLawfulRun, is_done}
 use Rattle.script_run.specs.Report.{first_replies, runs_outputs}
 use Rattle.script_run.specs.Ends.{flow_in_hand, IsCauseOf, ScriptEnds}

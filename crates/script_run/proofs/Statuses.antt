@@ -5,16 +5,16 @@ use Rattle.std.specs.List.{list_all}
 use Rattle.std.proofs.lemmas.Bool.{and_parts, eqb-true, false≢true}
 use Rattle.std.proofs.lemmas.List.{length-map}
 use Rattle.std.proofs.lemmas.Option.{none-some, same_Some}
-use Rattle.flow_lines.specs.declared.flow.FlowLine.{FlowLine}
+use Rattle.label_commands.specs.declared.flow_lines.flow.FlowLine.{FlowLine}
 use Rattle.shared_tables.specs.Plan.{PlanState}
 use Rattle.label_flow.specs.Pair.{PairState}
 use Rattle.label_flow.specs.Walked.{AreWalked}
 use Rattle.label_flow.proofs.Law.{walked_packets_are_determined}
-use Rattle.capture_reader.specs.declared.format.CaptureFormat.{CaptureFormat}
+use Rattle.captures.specs.declared.format.CaptureFormat.{CaptureFormat}
 use Rattle.call_report.specs.Report.{Folder, Versions}
 use Rattle.call_report.specs.Event.{Event}
-use Rattle.flow_run.specs.Input.{FlowInput, flow_input, packets_in}
-use Rattle.flow_run.specs.Run.{FlowRun, IsRun, is_judged, goes_on}
+use Rattle.script_run.specs.flow_run.Input.{FlowInput, flow_input, packets_in}
+use Rattle.script_run.specs.flow_run.Run.{FlowRun, IsRun, is_judged, goes_on}
 use Rattle.script_run.specs.Runs.{AreRuns, last_event, StatusOr, FlowsStatus}
 
 -- ---- one way

@@ -16,8 +16,8 @@ use Rattle.node_tables.specs.Steps.{tables_after}
 use Rattle.call_report.specs.Lines.Reply.{replies_text}
 use Rattle.call_report.specs.Lines.Fixed.{done_line, packets_limit_line}
 use Rattle.call_report.specs.Lines.Capture.{capture_line}
-use Rattle.capture_reader.specs.declared.fault.FileFault.{FileFault}
-use Rattle.flow_lines.specs.declared.flow.FlowLine.{FlowLine}
+use Rattle.captures.specs.declared.fault.FileFault.{FileFault}
+use Rattle.label_commands.specs.declared.flow_lines.flow.FlowLine.{FlowLine}
 use Rattle.label_commands.specs.declared.script.Script.{Script}
 use Rattle.label_commands.specs.Script.{before}
 use Rattle.label_commands.specs.Sound.{IsSoundScript}
@@ -29,15 +29,15 @@ use Rattle.call_report.specs.Event.{Event}
 use Rattle.call_report.specs.Outside.{Outside, NoneFailed, NoFileFailed, NoInputFailed, NoWriteFailed}
 use Rattle.call_report.specs.Printing.{HandsOn, Printed}
 use Rattle.call_report.proofs.Law.{texts_join}
-use Rattle.flow_run.specs.declared.end.FlowEnd.{FlowEnd}
-use Rattle.flow_run.specs.declared.end.FlowEnd.TheVariants.{GoesOn, Broken, TooMany, Stopped}
-use Rattle.flow_run.specs.declared.end.FlowStop.{FlowStop}
-use Rattle.flow_run.specs.declared.end.FlowStop.TheVariants as stop
-use Rattle.flow_run.specs.Run.{FlowRun, is_judged, goes_on, run_text, run_end}
-use Rattle.flow_run.specs.Ends.{FlowEnds, HasReadInput, IsRunOf, HasSteps}
+use Rattle.script_run.specs.declared.flow_run.end.FlowEnd.{FlowEnd}
+use Rattle.script_run.specs.declared.flow_run.end.FlowEnd.TheVariants.{GoesOn, Broken, TooMany, Stopped}
+use Rattle.script_run.specs.declared.flow_run.end.FlowStop.{FlowStop}
+use Rattle.script_run.specs.declared.flow_run.end.FlowStop.TheVariants as stop
+use Rattle.script_run.specs.flow_run.Run.{FlowRun, is_judged, goes_on, run_text, run_end}
+use Rattle.script_run.specs.flow_run.Ends.{FlowEnds, HasReadInput, IsRunOf, HasSteps}
 use Rattle.shared_tables.specs.Plan.{PlanState}
 use Rattle.script_run.specs.declared.turn.Next.{Next}
-use Rattle.flow_access.specs.Valid.{plan_of}
+use Rattle.label_flow.specs.flow_access.Valid.{plan_of}
 use Rattle.script_run.specs.Runs.{is_done, last_event}
 use Rattle.script_run.specs.Report.{first_replies, replies_behind, turn_text, runs_report}
 use Rattle.script_run.specs.Ends.{IsCauseOf, HasInputs, InputRose, OutputRose, ScriptEnds}

@@ -7,7 +7,7 @@ use Rattle.std.proofs.lemmas.List.Elements.{All-nil, All-cons, All-head, All-tai
 use Rattle.std.proofs.lemmas.Option.{slice_get_within}
 use Rattle.net_io.specs.Faults.{SameCounts}
 use Rattle.net_io.specs.Sink.{SinkState}
-use Rattle.flow_lines.specs.declared.flow.FlowLine.{FlowLine}
+use Rattle.label_commands.specs.declared.flow_lines.flow.FlowLine.{FlowLine}
 use Rattle.label_commands.specs.declared.script.Script.{Script}
 use Rattle.label_commands.specs.Script.{before}
 use Rattle.label_commands.specs.Sound.{IsSoundScript}
@@ -21,11 +21,11 @@ use Rattle.call_report.specs.Output.{Output, IsBegun, IsMade}
 use Rattle.call_report.specs.Outside.{Outside, NoneFailed}
 use Rattle.call_report.specs.Printing.{IsUnderWay, Printed}
 use Rattle.call_report.proofs.Law.{a_report_is_printed, a_report_takes_a_text}
-use Rattle.flow_run.specs.declared.end.FlowEnd.{FlowEnd}
-use Rattle.flow_run.specs.Input.{flow_input, packets_in}
-use Rattle.flow_run.specs.Run.{FlowRun, goes_on, run_output}
-use Rattle.flow_run.specs.Ends.{FlowEnds, IsRunOf, HasEnded}
-use Rattle.flow_access.specs.Valid.{plan_of}
+use Rattle.script_run.specs.declared.flow_run.end.FlowEnd.{FlowEnd}
+use Rattle.script_run.specs.flow_run.Input.{flow_input, packets_in}
+use Rattle.script_run.specs.flow_run.Run.{FlowRun, goes_on, run_output}
+use Rattle.script_run.specs.flow_run.Ends.{FlowEnds, IsRunOf, HasEnded}
+use Rattle.label_flow.specs.flow_access.Valid.{plan_of}
 use Rattle.script_run.specs.Runs.{AreRuns, IsLawfulRun}
 use Rattle.script_run.specs.Report.{first_replies, turn_text, runs_outputs}
 use Rattle.script_run.specs.Ends.{last_of, flow_in_hand, IsCauseOf, IsDue, due_body, due_line, IsPrintedSo, HasFinished, ScriptEnds}

@@ -3,7 +3,7 @@ use Rattle.std.specs.Prelude.{ℕ, ◌≡◌, ◌≢◌, ◌≤◌, ◌⊎◌, �
 use Rattle.net_io.specs.Sink.{SinkState}
 use Rattle.net_io.specs.Faults.{Rose, SameCounts}
 use Rattle.label_commands.specs.declared.script.Script.{Script}
-use Rattle.flow_lines.specs.declared.flow.FlowLine.{FlowLine}
+use Rattle.label_commands.specs.declared.flow_lines.flow.FlowLine.{FlowLine}
 use Rattle.call_report.specs.declared.status.Status.{Status}
 use Rattle.call_report.specs.declared.status.Status.TheVariants.{Done, NoForm, WrongScript, ReadFault, WriteFault, WrongCapture, OutOfMemory, Limit}
 use Rattle.call_report.specs.Report.{Versions}
@@ -11,8 +11,8 @@ use Rattle.call_report.specs.Event.{Event, packets_limit}
 use Rattle.call_report.specs.Outside.{Outside, NoneFailed, NoFileFailed, NoInputFailed, NoWriteFailed}
 use Rattle.call_report.specs.Output.{IsBegun, IsMade}
 use Rattle.call_report.specs.Printing.{Printed}
-use Rattle.flow_run.specs.Run.{FlowRun}
-use Rattle.flow_access.specs.Valid.{plan_of}
+use Rattle.script_run.specs.flow_run.Run.{FlowRun}
+use Rattle.label_flow.specs.flow_access.Valid.{plan_of}
 use Rattle.script_run.specs.Runs.{AreRuns, IsLawfulRun, is_done, last_event}
 use Rattle.script_run.specs.Report.{runs_report, pause_text, runs_outputs}
 

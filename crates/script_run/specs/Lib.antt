@@ -2,3 +2,4 @@ pub mod Runs
 pub mod Report
 pub mod Ends
 pub mod inside
+pub mod flow_run

@@ -8,7 +8,7 @@ use Rattle.call_report.specs.Lines.Reply.{replies_text}
 use Rattle.call_report.specs.Lines.Fixed.{done_line}
 use Rattle.call_report.specs.Report.{Report}
 use Rattle.call_report.specs.Output.{Output}
-use Rattle.flow_run.specs.Run.{FlowRun, goes_on, run_text, run_end, run_output}
+use Rattle.script_run.specs.flow_run.Run.{FlowRun, goes_on, run_text, run_end, run_output}
 use Rattle.script_run.specs.Runs.{is_done, last_event}
 
 -- the replies to the steps above the first flow

@@ -3,15 +3,15 @@ use Rattle.std.specs.Prelude.{ℕ, ◌≡◌, ◌+◌, ◌-◌, ◌<◌, ◌⊎�
 use Rattle.std.specs.List.{list_all}
 use Rattle.label_commands.specs.declared.script.Script.{Script}
 use Rattle.label_commands.specs.Script.{before, after}
-use Rattle.flow_lines.specs.declared.flow.FlowLine.{FlowLine}
+use Rattle.label_commands.specs.declared.flow_lines.flow.FlowLine.{FlowLine}
 use Rattle.shared_tables.specs.Plan.{PlanState}
 use Rattle.label_flow.specs.Schedule.{AreLawful, versions_in}
-use Rattle.capture_reader.specs.declared.format.CaptureFormat.{CaptureFormat}
+use Rattle.captures.specs.declared.format.CaptureFormat.{CaptureFormat}
 use Rattle.call_report.specs.Report.{Folder, Versions}
 use Rattle.call_report.specs.Event.{Event}
-use Rattle.flow_access.specs.Valid.{plan_of}
-use Rattle.flow_run.specs.Input.{flow_input, packets_in}
-use Rattle.flow_run.specs.Run.{FlowRun, IsRun, is_judged, goes_on}
+use Rattle.label_flow.specs.flow_access.Valid.{plan_of}
+use Rattle.script_run.specs.flow_run.Input.{flow_input, packets_in}
+use Rattle.script_run.specs.flow_run.Run.{FlowRun, IsRun, is_judged, goes_on}
 
 -- The first of these flows have run so, numbered from here on, where so many packets may be read: each that has versions, and no other, and each
 -- but the last one up to its end, so that the next one came.

@@ -1,13 +1,13 @@
 //! What the definitions are worth, whatever the code does.
 
 ghost use Rattle.std.specs.Prelude.{◌≡◌, ◌<◌, ℕ, List, All, Some, IsTrue};
-ghost use Rattle.flow_lines.specs.declared.flow.FlowLine.{FlowLine};
+ghost use Rattle.label_commands.specs.declared.flow_lines.flow.FlowLine.{FlowLine};
 ghost use Rattle.label_commands.specs.declared.script.Script.{Script as ScriptValue};
 ghost use Rattle.shared_tables.specs.Plan.{PlanState};
 ghost use Rattle.call_report.specs.Report.{Folder, Versions};
 ghost use Rattle.call_report.specs.Event.{Event, packets_limit};
-ghost use Rattle.flow_run.specs.Run.{FlowRun};
-ghost use Rattle.flow_access.specs.Valid.{plan_of};
+ghost use Rattle.script_run.specs.flow_run.Run.{FlowRun};
+ghost use Rattle.label_flow.specs.flow_access.Valid.{plan_of};
 ghost use Rattle.script_run.specs.Runs.{AreRuns, AreWholeRuns, IsLawfulRun, HasNoneBeside, is_done, last_event, FlowsStatus};
 
 /// Under given versions flows run in one way, and so print one report and make the same files.

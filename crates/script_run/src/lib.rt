@@ -5,11 +5,13 @@
 //! `specs/Ends.antt` where it has a status of its own.
 #![tactic(auto)]
 
+pub mod flow_run;
 pub mod laws;
 mod replies;
 mod run;
 mod turn;
 
+pub use crate::flow_run::{FlowEnd, FlowPlace, FlowStop, Runner, run_flow};
 pub use call_report::{FlowSeen, Report, Seen, Status};
 pub use label_flow::{Gate, OpenGate};
 pub use replies::answer_steps;

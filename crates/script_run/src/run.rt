@@ -13,10 +13,10 @@ ghost use Rattle.script_run.specs.Report.{first_replies};
 ghost use Rattle.script_run.specs.Ends.{ScriptEnds};
 ghost use Rattle.script_run.specs.inside.Turn.{HasFirst};
 
+use crate::flow_run::{FlowPlace, Runner, run_flow};
 use crate::replies::answer_steps;
 use crate::turn::{Next, end_turn};
-use call_report::{OutOfMemory, Report, Seen, Status, done};
-use flow_run::{FlowPlace, Runner, run_flow};
+use call_report::{OutOfMemory, PACKETS_LIMIT, Report, Seen, Status, done};
 use label_commands::Script;
 use label_flow::Gate;
 use net_io::{Depot, Sink};
@@ -24,9 +24,6 @@ use node_tables::Network;
 use std::alloc::Global;
 use std::sync::Wait;
 use std::thread::Threads;
-
-/// The most packets that one call reads.
-const PACKETS_LIMIT: u64 = 1_048_576;
 
 /// Runs the flows of a script, each beside the steps that stand between it and the next one, with so many workers. It prints the replies
 /// to the steps above the first flow, each flow with the replies behind it, and `done`; or, in place of what would come next, the line of
@@ -65,7 +62,7 @@ fn begin<S: Sink>(alloc: Global, script: &Script, out: &mut S) -> Result<Next, S
 {
     let names = script.nodes.as_slice();
     let steps = script.steps.as_slice();
-    let upto = steps_above(script, 0) as usize;
+    let upto = script.steps_above(0) as usize;
     let mut report = Report::new(alloc);
     let Ok(mut network) = Network::fresh(alloc, names.len()) else {
         return Err(Status::OutOfMemory);
@@ -73,17 +70,6 @@ fn begin<S: Sink>(alloc: Global, script: &Script, out: &mut S) -> Result<Next, S
     match answer_steps(names, steps, upto, &mut network, &mut report, out) {
         Ok(()) => Ok(Next { network, report }),
         Err(fault) => Err(Status::after_write(fault)),
-    }
-}
-
-/// How many steps stand above a flow, counted from 0; behind the last flow, all.
-fn steps_above(script: &Script, flow: usize) -> u32
-    requires { length script.now.steps < 2 ^ 32 }
-    ensures { result ≡ before script.now flow }
-{
-    match script.flows.as_slice().get(flow) {
-        Some(line) => line.before,
-        None => script.steps.as_slice().len() as u32,
     }
 }
 
@@ -150,7 +136,7 @@ fn place_of(script: &Script, workers: usize, flow: usize, most: u64) -> FlowPlac
         flow: &flows[flow],
         number: flow as u32 + 1,
         most,
-        upto: steps_above(script, flow + 1),
+        upto: script.steps_above(flow + 1),
         workers,
         names: script.nodes.as_slice(),
         steps: script.steps.as_slice(),

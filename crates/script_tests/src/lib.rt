@@ -2,10 +2,10 @@
 #![tactic(auto)]
 
 #[cfg(test)]
-mod flows;
+mod of_command_words;
 #[cfg(test)]
-mod replies;
+mod of_flow_lines;
 #[cfg(test)]
-mod scripts;
+mod of_label_commands;
 #[cfg(test)]
-mod words;
+mod of_script_lines;

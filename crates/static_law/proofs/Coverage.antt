@@ -5,18 +5,18 @@ use Rattle.std.specs.List.{list_all}
 use Rattle.std.specs.Fmt.{decimal}
 use Rattle.std.proofs.lemmas.Bool.{and_from, and_parts, false≢true}
 use Rattle.std.proofs.lemmas.List.{append-nil}
-use Rattle.flow_lines.specs.declared.hop.Hop.{Hop}
-use Rattle.flow_lines.specs.declared.flow.FlowLine.{FlowLine}
-use Rattle.node_readings.specs.Reading.{NamedMeanings}
+use Rattle.label_commands.specs.declared.flow_lines.hop.Hop.{Hop}
+use Rattle.label_commands.specs.declared.flow_lines.flow.FlowLine.{FlowLine}
+use Rattle.label_commands.specs.node_readings.Reading.{NamedMeanings}
 use Rattle.label_commands.specs.declared.script.Script.{Script}
 use Rattle.shared_tables.specs.Plan.{PlanState}
-use Rattle.flow_access.specs.Valid.{plan_of}
+use Rattle.label_flow.specs.flow_access.Valid.{plan_of}
 use Rattle.call_report.specs.Lines.Agreement.{found_text, hops_line}
 use Rattle.call_report.specs.Lines.Parts.{line_of}
 use Rattle.call_report.specs.Report.{Report}
-use Rattle.script_input.specs.Flow.{flow_numbered, versions_for, AreVersionsOf}
-use Rattle.script_input.specs.Neighbours.{HopState, hop_under, EachTwo}
-use Rattle.script_input.specs.Answer.{HopsAnswer, no_flow, bad_versions, compared}
+use Rattle.call_report.specs.script_input.Flow.{flow_numbered, versions_for, AreVersionsOf}
+use Rattle.call_report.specs.script_input.Neighbours.{HopState, hop_under, EachTwo}
+use Rattle.call_report.specs.script_input.Answer.{HopsAnswer, no_flow, bad_versions, compared}
 use Rattle.static_law.specs.declared.uncovered.Uncovered.{Uncovered}
 use Rattle.static_law.specs.declared.uncovered.Uncovered.TheVariants.{Differ, NoRange, Entry}
 use Rattle.static_law.specs.Covered.{interface_out, interface_in, Covered, NeighboursCovered}

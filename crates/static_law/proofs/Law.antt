@@ -4,20 +4,20 @@ use Rattle.std.specs.Prelude.{All, IsTrue, codes}
 use Rattle.std.proofs.lemmas.Option.{none-some, same_Some, slice_get_within, get_or_from_slice_get}
 use Rattle.std.proofs.lemmas.List.Elements.{All-weaker}
 use Rattle.script_lines.specs.Form.{Edition}
-use Rattle.flow_lines.specs.declared.hop.Hop.{Hop}
-use Rattle.flow_lines.specs.declared.flow.FlowLine.{FlowLine}
-use Rattle.node_readings.specs.Reading.{NamedMeanings}
+use Rattle.label_commands.specs.declared.flow_lines.hop.Hop.{Hop}
+use Rattle.label_commands.specs.declared.flow_lines.flow.FlowLine.{FlowLine}
+use Rattle.label_commands.specs.node_readings.Reading.{NamedMeanings}
 use Rattle.node_tables.specs.Tables.{TableState}
 use Rattle.label_commands.specs.declared.script.Script.{Script}
 use Rattle.label_commands.specs.Script.{IsScript}
 use Rattle.shared_tables.specs.Plan.{PlanState}
-use Rattle.packet_walk.specs.declared.packet.PacketIn.{PacketIn}
-use Rattle.packet_walk.specs.declared.walked.End.{End}
-use Rattle.packet_walk.specs.Walk.{IsWalkOf}
+use Rattle.captures.specs.declared.packet_in.PacketIn.{PacketIn}
+use Rattle.label_flow.specs.declared.packet_walk.walked.End.{End}
+use Rattle.label_flow.specs.packet_walk.Walk.{IsWalkOf}
 use Rattle.label_flow.specs.Pair.{PairState}
 use Rattle.label_flow.specs.Walked.{AreWalked}
-use Rattle.flow_access.specs.Valid.{plan_of, IsValidFlow}
-use Rattle.flow_access.proofs.Law.{flows_of_scripts_are_valid}
+use Rattle.label_flow.specs.flow_access.Valid.{plan_of, IsValidFlow}
+use Rattle.label_flow.proofs.flow_access.Law.{flows_of_scripts_are_valid}
 use Rattle.static_law.specs.declared.uncovered.Uncovered.{Uncovered}
 use Rattle.static_law.specs.Covered.{Covered, NeighboursCovered}
 use Rattle.static_law.specs.Uncovered.{IsUncovered}
@@ -26,8 +26,8 @@ use Rattle.static_law.specs.Climbed.{HaveClimbed}
 use Rattle.call_report.specs.CallEnds.{CallEnds}
 use Rattle.call_report.specs.Outside.{Outside}
 use Rattle.call_report.specs.Report.{Report}
-use Rattle.script_input.specs.Answer.{HopsAnswer}
-use Rattle.script_input.specs.Flow.{flow_numbered, versions_for}
+use Rattle.call_report.specs.script_input.Answer.{HopsAnswer}
+use Rattle.call_report.specs.script_input.Flow.{flow_numbered, versions_for}
 use Rattle.static_law.specs.declared.question.CoverQuestion.{CoverQuestion}
 use Rattle.static_law.specs.Cover.{IsLinkFound, cover_text, cover_says}
 use Rattle.static_law.specs.Told.{TellsCoverage}

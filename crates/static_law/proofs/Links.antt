@@ -6,10 +6,10 @@ use Rattle.mls_label.specs.declared.label.Label.{Label}
 use Rattle.mls_range.specs.Range.{LabelRange}
 use Rattle.domain_map.specs.declared.static_map.StaticEntry.{StaticEntry}
 use Rattle.domain_map.specs.Statics.{Statics, entries_for}
-use Rattle.node_readings.specs.Reading.{NamedMeanings}
-use Rattle.node_readings.specs.Meaning.{meaning_of}
+use Rattle.label_commands.specs.node_readings.Reading.{NamedMeanings}
+use Rattle.label_commands.specs.node_readings.Meaning.{meaning_of}
 use Rattle.node_tables.specs.Tables.{TableState, find_range_of}
-use Rattle.node_agreement.specs.Agreement.{Agree}
+use Rattle.label_flow.specs.node_agreement.Agreement.{Agree}
 use Rattle.static_law.specs.declared.uncovered.Uncovered.TheVariants.{Entry}
 use Rattle.static_law.specs.Covered.{MeansNoLess, Covered}
 use Rattle.static_law.specs.Uncovered.{IsFirstLow, MayLabel, IsUncovered}

@@ -8,8 +8,8 @@ use Rattle.domain_map.specs.declared.static_map.StaticEntry.{StaticEntry}
 use Rattle.domain_map.specs.Domains.{Domain, same_domain}
 use Rattle.domain_map.specs.Statics.{Statics, entries_of}
 use Rattle.domain_map.proofs.Law.{entries_stand_at_their_places}
-use Rattle.node_readings.specs.Reading.{NamedMeanings}
-use Rattle.node_readings.specs.Meaning.{Meaning, meaning_of, MeansDominates}
+use Rattle.label_commands.specs.node_readings.Reading.{NamedMeanings}
+use Rattle.label_commands.specs.node_readings.Meaning.{Meaning, meaning_of, MeansDominates}
 use Rattle.static_law.specs.Covered.{MeansNoLess}
 
 -- what is among these entries, of which none stands anywhere

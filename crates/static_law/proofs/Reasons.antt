@@ -5,11 +5,11 @@ use Rattle.std.proofs.lemmas.List.Elements.{All-contains}
 use Rattle.mls_range.specs.Range.{LabelRange}
 use Rattle.domain_map.specs.declared.static_map.StaticEntry.{StaticEntry}
 use Rattle.domain_map.specs.Statics.{entries_for}
-use Rattle.node_readings.specs.Reading.{NamedMeanings}
-use Rattle.node_readings.specs.Meaning.{meaning_of}
+use Rattle.label_commands.specs.node_readings.Reading.{NamedMeanings}
+use Rattle.label_commands.specs.node_readings.Meaning.{meaning_of}
 use Rattle.node_tables.specs.Tables.{TableState}
-use Rattle.node_agreement.specs.declared.disagree.Disagree.{Disagree}
-use Rattle.node_agreement.proofs.Law.{nodes_agree_without_a_difference, one_difference_is_first}
+use Rattle.label_flow.specs.declared.node_agreement.disagree.Disagree.{Disagree}
+use Rattle.label_flow.proofs.node_agreement.Law.{nodes_agree_without_a_difference, one_difference_is_first}
 use Rattle.static_law.specs.declared.uncovered.Uncovered.{Uncovered}
 use Rattle.static_law.specs.declared.uncovered.Uncovered.TheVariants.{Differ, NoRange, Entry}
 use Rattle.static_law.specs.Covered.{MeansNoLess, AreNoLess, Covered}

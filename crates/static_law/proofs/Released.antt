@@ -6,9 +6,9 @@ use Rattle.packet_label.specs.declared.denial.Carrier.{Carrier}
 use Rattle.packet_label.specs.declared.denial.Denial.{Denial}
 use Rattle.packet_label.specs.declared.fault.CarryFault.{CarryFault}
 use Rattle.packet_label.specs.declared.packet.Wire.{Wire}
-use Rattle.flow_lines.specs.declared.hop.Hop.{Hop}
-use Rattle.flow_lines.specs.declared.hop.Hop.TheVariants.{Send, Forward, Receive}
-use Rattle.flow_lines.specs.Hop.{node_of}
+use Rattle.label_commands.specs.declared.flow_lines.hop.Hop.{Hop}
+use Rattle.label_commands.specs.declared.flow_lines.hop.Hop.TheVariants.{Send, Forward, Receive}
+use Rattle.label_commands.specs.flow_lines.Hop.{node_of}
 use Rattle.node_tables.specs.Tables.{TableState}
 use Rattle.label_receive.specs.declared.receiving.Delivered.{Delivered}
 use Rattle.label_receive.specs.Incoming.{label_of}
@@ -19,8 +19,8 @@ use Rattle.label_send.specs.Send.{Sent, send_octets}
 use Rattle.label_send.proofs.Law.{sent_packets_may_go_out}
 use Rattle.label_gateway.specs.Forward.{Forwarded, forward_of}
 use Rattle.label_gateway.proofs.Law.{forwarded_packets_may_go_on}
-use Rattle.packet_walk.specs.Walk.{goes_on, arrives, verdict_of, tables_of, hop_verdict}
-use Rattle.flow_access.specs.Labels.{high_of, hop_label}
+use Rattle.label_flow.specs.packet_walk.Walk.{goes_on, arrives, verdict_of, tables_of, hop_verdict}
+use Rattle.label_flow.specs.flow_access.Labels.{high_of, hop_label}
 use Rattle.static_law.specs.Covered.{interface_out}
 
 -- the range of the interface, if there is one, holds it together with some low label

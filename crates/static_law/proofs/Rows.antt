@@ -8,16 +8,16 @@ use Rattle.mls_label.specs.Cats.{IsCats}
 use Rattle.mls_range.specs.Range.{LabelRange}
 use Rattle.mls_range.specs.Computed.{lone_range}
 use Rattle.mls_range.proofs.Law.{dominance_computes}
-use Rattle.address_text.specs.declared.address.Address.TheVariants.{V4}
-use Rattle.address_text.specs.Prefix.{AddressBlock}
+use Rattle.domain_map.specs.declared.address_text.address.Address.TheVariants.{V4}
+use Rattle.domain_map.specs.address_text.Prefix.{AddressBlock}
 use Rattle.domain_map.specs.declared.static_map.StaticEntry.{StaticEntry}
 use Rattle.domain_map.specs.Statics.{static_added}
 use Rattle.script_lines.specs.declared.command.Command.TheVariants.{AcceptOn, AcceptOff, UnlblAdd, RangeAdd}
-use Rattle.node_readings.specs.Meaning.{meaning_of, MeansDominates}
-use Rattle.node_readings.proofs.Law.{meaning_follows_dominance}
+use Rattle.label_commands.specs.node_readings.Meaning.{meaning_of, MeansDominates}
+use Rattle.label_commands.proofs.node_readings.Law.{meaning_follows_dominance}
 use Rattle.node_tables.specs.Tables.{TableState, fresh}
 use Rattle.node_tables.specs.Effect.{effect_of, applied}
-use Rattle.node_agreement.specs.Agreement.{Agree}
+use Rattle.label_flow.specs.node_agreement.Agreement.{Agree}
 use Rattle.label_commands.specs.Script.{no_meanings}
 use Rattle.label_commands.proofs.Law.{no_meanings_are_a_reading}
 use Rattle.static_law.specs.declared.uncovered.Uncovered.TheVariants.{NoRange, Entry}

@@ -20,9 +20,9 @@ use Rattle.packet_label.specs.declared.packet.Wire.{Wire}
 use Rattle.packet_label.specs.Choice.{chosen, read_in}
 use Rattle.packet_label.specs.Packet.{IsPacket}
 use Rattle.packet_label.specs.Written.{written, settled_packet, IsReadAs, IsNext}
-use Rattle.flow_lines.specs.declared.hop.Hop.{Hop}
-use Rattle.flow_lines.specs.declared.hop.Hop.TheVariants.{Send, Forward, Receive}
-use Rattle.flow_lines.specs.Hop.{is_send}
+use Rattle.label_commands.specs.declared.flow_lines.hop.Hop.{Hop}
+use Rattle.label_commands.specs.declared.flow_lines.hop.Hop.TheVariants.{Send, Forward, Receive}
+use Rattle.label_commands.specs.flow_lines.Hop.{is_send}
 use Rattle.node_tables.specs.Tables.{TableState}
 use Rattle.version_cross.specs.Cause.{is_fragment, first_cause, cross_cause}
 use Rattle.label_receive.specs.Judged.{judged_by}
@@ -31,7 +31,7 @@ use Rattle.label_send.specs.Send.{Sent, send_octets}
 use Rattle.label_send.proofs.Law.{sent_packets_may_go_out}
 use Rattle.label_gateway.specs.Forward.{Forwarded, forward_of, onward}
 use Rattle.label_gateway.proofs.Law.{forwarded_packets_may_go_on, packets_that_go_on_keep_their_protocol}
-use Rattle.packet_walk.specs.Walk.{Coming, from_outside, from_hop, octets_in, IsReadFrom, goes_on, verdict_of, tables_of, hop_verdict}
+use Rattle.label_flow.specs.packet_walk.Walk.{Coming, from_outside, from_hop, octets_in, IsReadFrom, goes_on, verdict_of, tables_of, hop_verdict}
 use Rattle.static_law.specs.Climbs.{IsExcepted}
 use Rattle.static_law.proofs.Released.{never_on}
 

@@ -9,10 +9,10 @@ use Rattle.call_report.specs.CallEnds.{IsRefusal, CallEnds, PrintsReport}
 use Rattle.call_report.specs.Outside.{Outside}
 use Rattle.call_report.specs.Lines.Script.{script_stop_line}
 use Rattle.call_report.specs.Report.{Report, report_text, late_report}
-use Rattle.script_input.specs.Answer.{HopsAnswer}
-use Rattle.script_input.specs.Neighbours.{HopState}
-use Rattle.script_input.specs.ScriptFile.{script_read, ByAnswer, script_stop_status, ScriptReport, ScriptStatus}
-use Rattle.script_input.proofs.Law.{hops_are_answered, one_answer}
+use Rattle.call_report.specs.script_input.Answer.{HopsAnswer}
+use Rattle.call_report.specs.script_input.Neighbours.{HopState}
+use Rattle.call_report.specs.script_input.ScriptFile.{script_read, ByAnswer, script_stop_status, ScriptReport, ScriptStatus}
+use Rattle.call_report.proofs.script_input.Law.{hops_are_answered, one_answer}
 use Rattle.static_law.specs.declared.question.CoverQuestion.{CoverQuestion}
 use Rattle.static_law.specs.declared.uncovered.Uncovered.{Uncovered}
 use Rattle.static_law.specs.Covered.{interface_out, interface_in}

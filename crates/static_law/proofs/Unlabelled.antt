@@ -10,8 +10,8 @@ use Rattle.mls_label.specs.Label.{Dominates, IsLabel}
 use Rattle.mls_range.specs.Range.{LabelRange}
 use Rattle.mls_range.specs.Computed.{dominates}
 use Rattle.mls_range.proofs.Law.{dominance_computes}
-use Rattle.address_text.specs.declared.address.Address.{Address}
-use Rattle.address_text.specs.Prefix.{holds}
+use Rattle.domain_map.specs.declared.address_text.address.Address.{Address}
+use Rattle.domain_map.specs.address_text.Prefix.{holds}
 use Rattle.domain_map.specs.declared.static_map.StaticEntry.{StaticEntry}
 use Rattle.domain_map.specs.Domains.{Domain, same_domain}
 use Rattle.domain_map.specs.Statics.{counting, entries_for, find_static_of}
@@ -23,19 +23,19 @@ use Rattle.packet_label.specs.declared.denial.Denial.{Denial}
 use Rattle.packet_label.specs.declared.denial.Denial.TheVariants.{Unlabelled, NoStatic}
 use Rattle.packet_label.specs.declared.packet.Wire.{Wire}
 use Rattle.packet_label.specs.Written.{moved_to, settled_packet}
-use Rattle.flow_lines.specs.declared.hop.Hop.{Hop}
-use Rattle.flow_lines.specs.declared.hop.Hop.TheVariants.{Send, Forward, Receive}
-use Rattle.flow_lines.specs.Hop.{is_send}
-use Rattle.node_readings.specs.Reading.{NamedMeanings, IsReading}
-use Rattle.node_readings.specs.Meaning.{meaning_of, MeansDominates}
-use Rattle.node_readings.proofs.Law.{meaning_follows_dominance, dominance_of_meanings_goes_on}
-use Rattle.command_values.specs.Ranges.{IsMlsRange}
+use Rattle.label_commands.specs.declared.flow_lines.hop.Hop.{Hop}
+use Rattle.label_commands.specs.declared.flow_lines.hop.Hop.TheVariants.{Send, Forward, Receive}
+use Rattle.label_commands.specs.flow_lines.Hop.{is_send}
+use Rattle.label_commands.specs.node_readings.Reading.{NamedMeanings, IsReading}
+use Rattle.label_commands.specs.node_readings.Meaning.{meaning_of, MeansDominates}
+use Rattle.label_commands.proofs.node_readings.Law.{meaning_follows_dominance, dominance_of_meanings_goes_on}
+use Rattle.script_lines.specs.command_values.Ranges.{IsMlsRange}
 use Rattle.node_tables.specs.Tables.{Ranges, TableState, range_at, find_range_of}
 use Rattle.node_tables.specs.Valid.{IsBoundedRange, IsBoundedStatic, AreValid}
 use Rattle.node_tables.proofs.Law.{range_ends_are_labels}
 use Rattle.label_receive.specs.Incoming.{Incoming, address_in, static_labels, option_labels, label_of}
 use Rattle.label_receive.specs.Range.{in_range, is_outside}
-use Rattle.flow_access.specs.Labels.{high_of, hop_label}
+use Rattle.label_flow.specs.flow_access.Labels.{high_of, hop_label}
 use Rattle.static_law.specs.Covered.{interface_in, MeansNoLess, AreNoLess, Covered}
 use Rattle.static_law.proofs.Places.{some_contained}
 use Rattle.static_law.proofs.Released.{IsReleased}

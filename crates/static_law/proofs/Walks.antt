@@ -3,27 +3,27 @@ use Rattle.std.proofs.Common.{◌≡◌, ℕ, false, List, ◌∷◌, Option, So
 use Rattle.std.specs.Prelude.{is_some}
 use Rattle.mls_label.specs.declared.label.Label.{Label}
 use Rattle.mls_label.specs.Label.{IsLabel}
-use Rattle.address_text.specs.declared.address.Address.{Address}
+use Rattle.domain_map.specs.declared.address_text.address.Address.{Address}
 use Rattle.ip_headers.specs.Packet.{ParsedPacket}
 use Rattle.packet_label.specs.declared.denial.Carrier.{Carrier}
 use Rattle.packet_label.specs.declared.fault.CarryFault.{CarryFault}
 use Rattle.packet_label.specs.declared.packet.Wire.{Wire}
 use Rattle.packet_label.specs.Written.{IsNext}
-use Rattle.flow_lines.specs.declared.hop.Hop.{Hop}
-use Rattle.flow_lines.specs.Hop.{is_send}
-use Rattle.node_readings.specs.Reading.{NamedMeanings, IsReading}
-use Rattle.node_readings.specs.Meaning.{Meaning, meaning_of, MeansDominates}
-use Rattle.node_readings.proofs.Law.{meanings_dominate_themselves, dominance_of_meanings_goes_on}
+use Rattle.label_commands.specs.declared.flow_lines.hop.Hop.{Hop}
+use Rattle.label_commands.specs.flow_lines.Hop.{is_send}
+use Rattle.label_commands.specs.node_readings.Reading.{NamedMeanings, IsReading}
+use Rattle.label_commands.specs.node_readings.Meaning.{Meaning, meaning_of, MeansDominates}
+use Rattle.label_commands.proofs.node_readings.Law.{meanings_dominate_themselves, dominance_of_meanings_goes_on}
 use Rattle.node_tables.specs.Tables.{TableState}
 use Rattle.node_tables.specs.Valid.{AreValid}
 use Rattle.shared_tables.specs.Plan.{PlanState, network_after}
-use Rattle.packet_walk.specs.declared.packet.PacketIn.{PacketIn}
-use Rattle.packet_walk.specs.declared.walked.End.{End}
-use Rattle.packet_walk.specs.declared.walked.End.TheVariants as the_end
-use Rattle.packet_walk.specs.Walk.{Coming, octets_in, goes_on, hop_verdict, IsWalkOf}
-use Rattle.flow_access.specs.Labels.{hop_label, hop_tables, reading_at}
-use Rattle.flow_access.specs.Valid.{IsValidFlow}
-use Rattle.flow_access.proofs.Law.{hops_say_their_label, options_keep_meanings, GoesWell, DeliversWell, ArrivesWell, arrives_well}
+use Rattle.captures.specs.declared.packet_in.PacketIn.{PacketIn}
+use Rattle.label_flow.specs.declared.packet_walk.walked.End.{End}
+use Rattle.label_flow.specs.declared.packet_walk.walked.End.TheVariants as the_end
+use Rattle.label_flow.specs.packet_walk.Walk.{Coming, octets_in, goes_on, hop_verdict, IsWalkOf}
+use Rattle.label_flow.specs.flow_access.Labels.{hop_label, hop_tables, reading_at}
+use Rattle.label_flow.specs.flow_access.Valid.{IsValidFlow}
+use Rattle.label_flow.proofs.flow_access.Law.{hops_say_their_label, options_keep_meanings, GoesWell, DeliversWell, ArrivesWell, arrives_well}
 use Rattle.static_law.specs.Covered.{interface_out, interface_in, CoveredBetween, NeighboursCovered}
 use Rattle.static_law.specs.Climbs.{MayClimb, IsExcepted, Climbs}
 use Rattle.static_law.proofs.Released.{released}

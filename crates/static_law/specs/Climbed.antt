@@ -1,9 +1,9 @@
 -- Static labels and the packets of a flow, each under the versions that it was judged by.
 use Rattle.std.specs.Prelude.{List, [], ◌∷◌}
-use Rattle.flow_lines.specs.declared.hop.Hop.{Hop}
-use Rattle.node_readings.specs.Reading.{NamedMeanings}
+use Rattle.label_commands.specs.declared.flow_lines.hop.Hop.{Hop}
+use Rattle.label_commands.specs.node_readings.Reading.{NamedMeanings}
 use Rattle.shared_tables.specs.Plan.{PlanState}
-use Rattle.packet_walk.specs.declared.packet.PacketIn.{PacketIn}
+use Rattle.captures.specs.declared.packet_in.PacketIn.{PacketIn}
 use Rattle.label_flow.specs.Pair.{PairState}
 use Rattle.static_law.specs.Covered.{NeighboursCovered}
 use Rattle.static_law.specs.Climbs.{Climbs}

@@ -2,20 +2,20 @@
 -- level means at least as much as both.
 use Rattle.std.specs.Prelude.{◌≡◌, ℕ, List, Some, Ok}
 use Rattle.mls_label.specs.declared.label.Label.{Label}
-use Rattle.address_text.specs.declared.address.Address.{Address}
+use Rattle.domain_map.specs.declared.address_text.address.Address.{Address}
 use Rattle.ip_headers.specs.declared.version.Version.TheVariants.{V6}
 use Rattle.ip_headers.specs.Packet.{Headers}
 use Rattle.packet_label.specs.Choice.{front_in}
-use Rattle.flow_lines.specs.declared.hop.Hop.{Hop}
-use Rattle.node_readings.specs.Reading.{NamedMeanings}
-use Rattle.node_readings.specs.Meaning.{Meaning, meaning_of, MeansDominates}
+use Rattle.label_commands.specs.declared.flow_lines.hop.Hop.{Hop}
+use Rattle.label_commands.specs.node_readings.Reading.{NamedMeanings}
+use Rattle.label_commands.specs.node_readings.Meaning.{Meaning, meaning_of, MeansDominates}
 use Rattle.node_tables.specs.declared.receiver.Receiver.{Receiver}
 use Rattle.node_tables.specs.Tables.{TableState, find_receiver_of}
 use Rattle.shared_tables.specs.Plan.{PlanState}
-use Rattle.packet_walk.specs.declared.walked.End.{End}
-use Rattle.packet_walk.specs.declared.walked.End.TheVariants as the_end
-use Rattle.flow_access.specs.Labels.{hop_tables, reading_at, first_reading}
-use Rattle.flow_access.specs.Sound.{IsOrigin, AtLast}
+use Rattle.label_flow.specs.declared.packet_walk.walked.End.{End}
+use Rattle.label_flow.specs.declared.packet_walk.walked.End.TheVariants as the_end
+use Rattle.label_flow.specs.flow_access.Labels.{hop_tables, reading_at, first_reading}
+use Rattle.label_flow.specs.flow_access.Sound.{IsOrigin, AtLast}
 
 -- a node with these tables and this reading may deliver the label to the address, where the label meant so much at its origin
 pub record MayClimb (t : TableState) (named : NamedMeanings) (origin : Meaning) (label : Label) (address : Address) : Type 0 where

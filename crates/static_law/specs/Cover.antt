@@ -2,12 +2,12 @@
 -- has no such flow or versions.
 use Rattle.std.specs.Prelude.{ℕ, ◌+◌, List, [], ◌∷◌, ◌++◌, Option, Some, None, is_none, option_map, option_and_then}
 use Rattle.std.specs.List.{list_all}
-use Rattle.flow_lines.specs.FileName.{file_name_of_text}
-use Rattle.command_words.specs.Numbers.{number_named, versions_named}
+use Rattle.label_commands.specs.flow_lines.FileName.{file_name_of_text}
+use Rattle.label_commands.specs.command_words.Numbers.{number_named, versions_named}
 use Rattle.call_report.specs.Says.{Says, usage_says}
-use Rattle.script_input.specs.Answer.{HopsAnswer}
-use Rattle.script_input.specs.Neighbours.{HopState}
-use Rattle.script_input.specs.ScriptFile.{script_says}
+use Rattle.call_report.specs.script_input.Answer.{HopsAnswer}
+use Rattle.call_report.specs.script_input.Neighbours.{HopState}
+use Rattle.call_report.specs.script_input.ScriptFile.{script_says}
 use Rattle.static_law.specs.declared.question.CoverQuestion.{CoverQuestion}
 use Rattle.static_law.specs.declared.uncovered.Uncovered.{Uncovered}
 use Rattle.static_law.specs.Covered.{interface_out, interface_in, Covered}

@@ -3,14 +3,14 @@ use Rattle.std.specs.Prelude.{◌≡◌, ◌⊎◌, ℕ, false, List, [], ◌∷
 use Rattle.mls_range.specs.Range.{LabelRange}
 use Rattle.domain_map.specs.declared.static_map.StaticEntry.{StaticEntry}
 use Rattle.domain_map.specs.Statics.{entries_for}
-use Rattle.flow_lines.specs.declared.hop.Hop.{Hop}
-use Rattle.flow_lines.specs.declared.hop.Hop.TheVariants.{Send, Forward, Receive}
-use Rattle.node_readings.specs.Reading.{NamedMeanings}
-use Rattle.node_readings.specs.Meaning.{Meaning, meaning_of, MeansDominates}
+use Rattle.label_commands.specs.declared.flow_lines.hop.Hop.{Hop}
+use Rattle.label_commands.specs.declared.flow_lines.hop.Hop.TheVariants.{Send, Forward, Receive}
+use Rattle.label_commands.specs.node_readings.Reading.{NamedMeanings}
+use Rattle.label_commands.specs.node_readings.Meaning.{Meaning, meaning_of, MeansDominates}
 use Rattle.node_tables.specs.Tables.{Ranges, TableState, find_range_of}
-use Rattle.node_agreement.specs.Agreement.{Agree}
+use Rattle.label_flow.specs.node_agreement.Agreement.{Agree}
 use Rattle.shared_tables.specs.Plan.{PlanState}
-use Rattle.flow_access.specs.Labels.{hop_tables, reading_at}
+use Rattle.label_flow.specs.flow_access.Labels.{hop_tables, reading_at}
 
 -- the interface at which a hop puts packets out; one that receives has no other
 abbrev pub interface_out : Hop → List ℕ

@@ -1,10 +1,10 @@
 -- A flow of a script whose links are covered, under versions that a packet of it can have.
 use Rattle.std.specs.Prelude.{◌≡◌, ◌⊎◌, ℕ, List, [], ◌++◌, Option, Some}
-use Rattle.flow_lines.specs.declared.flow.FlowLine.{FlowLine}
+use Rattle.label_commands.specs.declared.flow_lines.flow.FlowLine.{FlowLine}
 use Rattle.label_commands.specs.declared.script.Script.{Script}
-use Rattle.flow_access.specs.Valid.{plan_of}
+use Rattle.label_flow.specs.flow_access.Valid.{plan_of}
 use Rattle.call_report.specs.Lines.Parts.{line_of}
-use Rattle.script_input.specs.Flow.{flow_numbered, versions_for, AreVersionsOf}
+use Rattle.call_report.specs.script_input.Flow.{flow_numbered, versions_for, AreVersionsOf}
 use Rattle.static_law.specs.Covered.{NeighboursCovered}
 
 -- The flow of this number, under the versions that are named or else under those of the commands above it: every two neighbouring hops are covered.

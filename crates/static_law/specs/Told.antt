@@ -2,7 +2,7 @@
 use Rattle.std.specs.Prelude.{ℕ, ◌≡◌, ◌↔◌, List, ◌++◌, codes, Some, Ok}
 use Rattle.label_commands.specs.declared.script.Script.{Script}
 use Rattle.call_report.specs.Outside.{Outside}
-use Rattle.script_input.specs.ScriptFile.{script_read}
+use Rattle.call_report.specs.script_input.ScriptFile.{script_read}
 use Rattle.static_law.specs.declared.question.CoverQuestion.{CoverQuestion}
 use Rattle.static_law.specs.CoveredFlow.{IsCoveredFlow, IsLastLine}
 

@@ -3,11 +3,11 @@ use Rattle.std.specs.Prelude.{◌≡◌, ℕ, ◌<◌, true, List, [], Contains,
 use Rattle.mls_range.specs.Range.{LabelRange}
 use Rattle.domain_map.specs.declared.static_map.StaticEntry.{StaticEntry}
 use Rattle.domain_map.specs.Statics.{entries_for}
-use Rattle.node_readings.specs.Reading.{NamedMeanings}
-use Rattle.node_readings.specs.Meaning.{Meaning, meaning_of}
+use Rattle.label_commands.specs.node_readings.Reading.{NamedMeanings}
+use Rattle.label_commands.specs.node_readings.Meaning.{Meaning, meaning_of}
 use Rattle.node_tables.specs.Tables.{TableState, find_range_of}
-use Rattle.node_agreement.specs.Agreement.{Agree}
-use Rattle.node_agreement.specs.First.{IsFirst}
+use Rattle.label_flow.specs.node_agreement.Agreement.{Agree}
+use Rattle.label_flow.specs.node_agreement.First.{IsFirst}
 use Rattle.static_law.specs.declared.uncovered.Uncovered.{Uncovered}
 use Rattle.static_law.specs.declared.uncovered.Uncovered.TheVariants.{Differ, NoRange, Entry}
 use Rattle.static_law.specs.Covered.{MeansNoLess}

@@ -4,14 +4,13 @@ ghost use Rattle.std.specs.Prelude.{◌≡◌, ◌≢◌, ℕ, ◌<◌, [], Cont
 ghost use Rattle.domain_map.specs.Domains.{same_domain};
 ghost use Rattle.domain_map.specs.declared.static_map.StaticEntry.{StaticEntry};
 ghost use Rattle.domain_map.specs.Statics.{entries_for};
-ghost use Rattle.node_readings.specs.Meaning.{meaning_of};
+ghost use Rattle.label_commands.specs.node_readings.Meaning.{meaning_of};
 ghost use Rattle.static_law.specs.Covered.{MeansNoLess};
 ghost use Rattle.static_law.specs.Uncovered.{IsFirstLow};
 
-use address_text::Name;
-use domain_map::StaticMap;
+use domain_map::{Name, StaticMap};
+use label_commands::{Reading, meaning_dominates};
 use mls_label::Label;
-use node_readings::{Reading, meaning_dominates};
 use std::marker::Model;
 
 /// The entries of an interface, `None` being the default one. Contracts see them, each with its place among all of the node.

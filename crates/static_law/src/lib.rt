@@ -17,6 +17,3 @@ mod uncovered;
 pub use link::covers;
 pub use top::cover;
 pub use uncovered::Uncovered;
-
-#[cfg(test)]
-mod tests;

@@ -6,8 +6,7 @@ ghost use Rattle.static_law.specs.Lines.{told_line, link_line, coverage_line, co
 
 use crate::uncovered::Uncovered;
 use call_report::write_hops;
-use mls_label::OutOfMemory;
-use octet_grammar::write_decimal;
+use mls_label::{OutOfMemory, write_decimal};
 
 /// Appends the line that tells what the hop of this number, counted from 1, and the next one come to: that the link is covered, or the
 /// first reason why not. Some of it stands there where memory runs out.

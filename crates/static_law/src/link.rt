@@ -6,9 +6,9 @@ ghost use Rattle.static_law.specs.Uncovered.{IsUncovered};
 
 use crate::entries::Entries;
 use crate::uncovered::Uncovered;
-use address_text::Name;
-use node_agreement::agrees;
-use node_readings::Reading;
+use domain_map::Name;
+use label_commands::Reading;
+use label_flow::agrees;
 use node_tables::Tables;
 
 /// `None` where what goes from one node to the next over these interfaces, without a label, gets one that means at least as much: the nodes

@@ -1,15 +1,15 @@
 //! What the words of the command line ask for.
 
 ghost use Rattle.std.specs.Prelude.{◌≡◌};
-ghost use Rattle.command_words.specs.Words.{texts_of};
+ghost use Rattle.label_commands.specs.command_words.Words.{texts_of};
 ghost use Rattle.static_law.specs.Cover.{cover_asked};
 
-use command_words::{FileName, NamedVersions, read_number};
+use label_commands::{NamedFile, NamedVersions, read_number};
 
 /// Whether each hop covers the next one of a script's flow, counted from 1, under these versions of the tables.
 #[derive(Debug, Drop)]
 pub(crate) struct CoverQuestion<'a> {
-    pub(crate) file: FileName<'a>,
+    pub(crate) file: NamedFile<'a>,
     pub(crate) flow: u32,
     pub(crate) versions: Option<NamedVersions<'a>>,
 }
@@ -20,7 +20,7 @@ pub(crate) fn read_question<'a>(words: &'a [String]) -> Option<CoverQuestion<'a>
 {
     match words {
         [script, flow] => {
-            let file = FileName::named(script)?;
+            let file = NamedFile::named(script)?;
             let flow = read_number(flow)?;
             Some(CoverQuestion {
                 file,
@@ -29,7 +29,7 @@ pub(crate) fn read_question<'a>(words: &'a [String]) -> Option<CoverQuestion<'a>
             })
         }
         [script, flow, versions] => {
-            let file = FileName::named(script)?;
+            let file = NamedFile::named(script)?;
             let flow = read_number(flow)?;
             let versions = NamedVersions::named(versions)?;
             Some(CoverQuestion {

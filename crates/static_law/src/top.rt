@@ -2,7 +2,7 @@
 
 ghost use Rattle.std.specs.Prelude.{◌≡◌, ◌++◌, [], Some, is_none, OnOk};
 ghost use Rattle.std.specs.List.{list_all};
-ghost use Rattle.command_words.specs.Words.{texts_of};
+ghost use Rattle.label_commands.specs.command_words.Words.{texts_of};
 ghost use Rattle.call_report.specs.Outside.{Outside};
 ghost use Rattle.call_report.specs.CallEnds.{CallEnds};
 ghost use Rattle.call_report.specs.Printing.{Printed};
@@ -15,13 +15,11 @@ use crate::lines::{cover_usage, covered_or_uncovered, write_link};
 use crate::link::covers;
 use crate::question::{CoverQuestion, read_question};
 use crate::uncovered::Uncovered;
-use address_text::Name;
-use call_report::{Report, Status};
-use command_words::NamedVersions;
-use flow_lines::Hop;
+use call_report::{Compares, HopAt, Report, Status, answer_hops, script_of};
+use domain_map::Name;
+use label_commands::{Hop, NamedVersions};
 use mls_label::OutOfMemory;
 use net_io::{Depot, Sink};
-use script_input::{Compares, HopAt, answer_hops, script_of};
 use std::alloc::Global;
 
 /// Reads the script that the words name whole, and tells of every two neighbouring hops of its flow whether the link between them is covered,

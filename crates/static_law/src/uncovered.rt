@@ -1,6 +1,6 @@
 //! Why one hop doesn't cover the next.
 
-use node_agreement::Disagree;
+use label_flow::Disagree;
 
 /// Why what goes over a link without a label might get one that means less there, or what has one might get another meaning.
 #[derive(Clone, Copy, Debug, PartialEq, Eq)]

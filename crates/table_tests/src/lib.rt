@@ -2,16 +2,14 @@
 #![tactic(auto)]
 
 #[cfg(test)]
-mod addresses;
+mod of_address_text;
 #[cfg(test)]
-mod agreement;
+mod of_command_values;
 #[cfg(test)]
-mod definitions;
+mod of_doi_table;
 #[cfg(test)]
-mod domains;
+mod of_domain_map;
 #[cfg(test)]
-mod nodes;
+mod of_node_readings;
 #[cfg(test)]
-mod readings;
-#[cfg(test)]
-mod values;
+mod of_node_tables;

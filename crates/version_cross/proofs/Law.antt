@@ -1,7 +1,7 @@
 -- The laws.
 use Rattle.std.proofs.Common.{◌≡◌, ℕ, ◌<◌, ◌≤◌, List, length, Option, Ok}
 use Rattle.std.specs.Prelude.{IfSome}
-use Rattle.octet_grammar.specs.Octets.{IsOctets}
+use Rattle.mls_label.specs.octet_grammar.Octets.{IsOctets}
 use Rattle.ip_headers.specs.Packet.{Headers}
 use Rattle.ip_headers.specs.Reading.{packet_of}
 use Rattle.ip_headers.specs.Written.{IsLabelOption, packet_octets, rebuilt_length, rebuilt_room, room_limit}

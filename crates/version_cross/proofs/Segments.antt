@@ -4,9 +4,9 @@ use Rattle.std.specs.Int.{w16, to_be_bytes}
 use Rattle.std.proofs.lemmas.Bool.Decides.{nat_tests}
 use Rattle.std.proofs.lemmas.List.{length-take-le, take-append-drop, take_at, drop_at, drop-drop, get_or_at}
 use Rattle.std.proofs.lemmas.List.Edits.{sets-eq}
-use Rattle.octet_grammar.specs.Octets.{IsOctets}
-use Rattle.octet_grammar.specs.Numbers.{u16_at}
-use Rattle.octet_grammar.proofs.Octets.{octets-append, octets-cons, octets-take, octets-drop, octets-zeros}
+use Rattle.mls_label.specs.octet_grammar.Octets.{IsOctets}
+use Rattle.mls_label.specs.octet_grammar.Numbers.{u16_at}
+use Rattle.mls_label.proofs.octet_grammar.Octets.{octets-append, octets-cons, octets-take, octets-drop, octets-zeros}
 use Rattle.version_cross.specs.Segment.{is_udp, segment_minimum, checksum_place, segment_checksum}
 use Rattle.version_cross.specs.Checksum.{updated_checksum, written_checksum, with_checksum, crossed_segment}
 use Rattle.version_cross.proofs.Words.{total, total-number, total-at, updated-same}

@@ -56,6 +56,16 @@ crosses_to_4 = refl
 example_of_rfc_1624 : updated_checksum 0xdd2f 0x5555 0x3285 ≡ 0
 example_of_rfc_1624 = refl
 
+-- all ones never come out, neither word by word
+all_ones_gone : updated_checksum 0xffff 0xffff 0 ≡ 0
+all_ones_gone = refl
+
+all_ones_stay_out : updated_checksum 0xffff 0 0 ≡ 0
+all_ones_stay_out = refl
+
+zero_stays : updated_checksum 0 0 0 ≡ 0
+zero_stays = refl
+
 no_cause_of_it : cross_cause (datagram V4 16384 64 source4 destination4 231 190) ≡ None
 unfolding first_cause
 no_cause_of_it = refl

@@ -1,6 +1,6 @@
 -- What is true of the definitions alone.
 use Rattle.std.specs.Prelude.{◌≡◌, ℕ, ◌≤◌, List, length, None}
-use Rattle.octet_grammar.specs.Octets.{IsOctets}
+use Rattle.mls_label.specs.octet_grammar.Octets.{IsOctets}
 use Rattle.ip_headers.specs.declared.version.Version.{Version}
 use Rattle.ip_headers.specs.declared.version.Version.TheVariants.{V4, V6}
 use Rattle.ip_headers.specs.Packet.{Headers}

@@ -1,6 +1,6 @@
 -- Segments of TCP (RFC 793, section 3.1) and of UDP (RFC 768).
 use Rattle.std.specs.Prelude.{ℕ, Bool, ◌||◌, List, ◌==◌, if◌then◌else◌}
-use Rattle.octet_grammar.specs.Numbers.{u16_at}
+use Rattle.mls_label.specs.octet_grammar.Numbers.{u16_at}
 
 -- UDP is protocol 17
 abbrev pub is_udp : ℕ → Bool

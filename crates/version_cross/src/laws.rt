@@ -1,7 +1,7 @@
 //! Laws: what is true of the definitions alone. Each is a function with nothing to do, whose clause is the law.
 
 ghost use Rattle.std.specs.Prelude.{◌≡◌, ℕ, ◌<◌, ◌≤◌, List, length, Option, Ok, IfSome};
-ghost use Rattle.octet_grammar.specs.Octets.{IsOctets};
+ghost use Rattle.mls_label.specs.octet_grammar.Octets.{IsOctets};
 ghost use Rattle.ip_headers.specs.Packet.{Headers};
 ghost use Rattle.ip_headers.specs.Reading.{packet_of};
 ghost use Rattle.ip_headers.specs.Written.{IsLabelOption, packet_octets, rebuilt_length, rebuilt_room, room_limit};

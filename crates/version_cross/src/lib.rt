@@ -14,6 +14,3 @@ pub use cause::{crossable4, crossable6};
 pub use cross::{cross4to6, cross6to4};
 pub use fault::CrossFault;
 pub use ip_headers::Cause;
-
-#[cfg(test)]
-mod tests;

@@ -3,7 +3,7 @@
 ghost use Rattle.std.specs.Prelude.{◌≡◌, ◌≤◌, length};
 ghost use Rattle.version_cross.specs.Segment.{is_udp, is_transport, segment_minimum, checksum_place, segment_checksum};
 
-use octet_grammar::u16_at;
+use mls_label::u16_at;
 
 /// The protocol number of TCP.
 const TCP: u8 = 6;

@@ -1,7 +1,7 @@
 -- The fixed places of an option: what stands there.
 use Rattle.std.specs.Prelude.{ℕ, ◌≡◌, ◌+◌, ◌-◌, ◌*◌, ◌/◌, ◌%◌, ◌<◌, ◌≤◌, List, [], ◌∷◌, length, slice_index}
 use Rattle.std.specs.Int.{w16, from_le_bytes}
-use Rattle.octet_grammar.specs.Numbers.{u32_at}
+use Rattle.mls_label.specs.octet_grammar.Numbers.{u32_at}
 use Rattle.calipso_option.specs.declared.bounds.TheConstants.{OPTION_TYPE, MOST_WORDS}
 use Rattle.calipso_option.specs.declared.fault.CalipsoFault.{CalipsoFault}
 use Rattle.calipso_option.specs.declared.fault.CalipsoFault.TheVariants.{Wire, BadChecksum}

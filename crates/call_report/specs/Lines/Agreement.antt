@@ -3,7 +3,7 @@ use Rattle.std.specs.Prelude.{ℕ, ◌+◌, Bool, true, false, List, ◌++◌, c
 use Rattle.std.specs.Fmt.{decimal}
 use Rattle.mls_label.specs.declared.label.Proto.{Proto}
 use Rattle.mls_label.specs.declared.label.Proto.TheVariants.{Cipso, Calipso}
-use Rattle.node_agreement.specs.declared.disagree.Disagree.{Disagree}
+use Rattle.label_flow.specs.declared.node_agreement.disagree.Disagree.{Disagree}
 use Rattle.call_report.specs.Lines.Parts.{line_of}
 
 abbrev pub proto_name : Proto → List ℕ

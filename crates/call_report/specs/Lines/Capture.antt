@@ -5,8 +5,8 @@ use Rattle.pcap_frames.specs.declared.fault.CaptureKind.{CaptureKind}
 use Rattle.pcap_frames.specs.declared.fault.CaptureKind.TheVariants.{Magic, Version, LinkType, Captured, SnapCut, Short}
 use Rattle.pcapng_frames.specs.declared.fault.NgKind.{NgKind}
 use Rattle.pcapng_frames.specs.declared.fault.NgKind.TheVariants as ng
-use Rattle.capture_reader.specs.declared.fault.FileFault.{FileFault}
-use Rattle.capture_reader.specs.declared.fault.FileFault.TheVariants.{Pcap, Pcapng}
+use Rattle.captures.specs.declared.fault.FileFault.{FileFault}
+use Rattle.captures.specs.declared.fault.FileFault.TheVariants.{Pcap, Pcapng}
 use Rattle.call_report.specs.Lines.Parts.{line_of, octet_detail}
 
 -- the name of a libpcap file's fault

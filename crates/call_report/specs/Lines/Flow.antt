@@ -4,14 +4,14 @@ use Rattle.std.specs.Fmt.{decimal}
 use Rattle.std.specs.List.{join_with_byte}
 use Rattle.std.specs.Option.{option_map_or}
 use Rattle.mls_range.specs.LabelText.{comma}
-use Rattle.address_text.specs.Address.{address_text}
+use Rattle.domain_map.specs.address_text.Address.{address_text}
 use Rattle.packet_label.specs.declared.denial.Carrier.{Carrier}
 use Rattle.packet_label.specs.declared.denial.Carrier.TheVariants.{Unlabelled, Cipso, Calipso}
-use Rattle.flow_lines.specs.declared.hop.Hop.{Hop}
-use Rattle.flow_lines.specs.Hop.{node_of}
-use Rattle.packet_walk.specs.declared.walked.End.{End}
-use Rattle.packet_walk.specs.declared.walked.End.TheVariants.{Delivered, Sent, Denied}
-use Rattle.packet_walk.specs.declared.walked.Walked.{Walked}
+use Rattle.label_commands.specs.declared.flow_lines.hop.Hop.{Hop}
+use Rattle.label_commands.specs.flow_lines.Hop.{node_of}
+use Rattle.label_flow.specs.declared.packet_walk.walked.End.{End}
+use Rattle.label_flow.specs.declared.packet_walk.walked.End.TheVariants.{Delivered, Sent, Denied}
+use Rattle.label_flow.specs.declared.packet_walk.walked.Walked.{Walked}
 use Rattle.call_report.specs.Lines.Parts.{line_of, name_at}
 use Rattle.call_report.specs.Lines.Denial.{delivered_text, denial_text}
 

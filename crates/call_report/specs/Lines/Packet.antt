@@ -9,7 +9,7 @@ use Rattle.packet_label.specs.declared.packet.Wire.TheVariants.{Cipso, Calipso}
 use Rattle.packet_label.specs.declared.fault.CarryFault.{CarryFault}
 use Rattle.packet_label.specs.declared.fault.CarryFault.TheVariants as carry
 use Rattle.packet_label.specs.Written.{IsReadAs}
-use Rattle.packet_walk.specs.declared.packet.PacketIn.{PacketIn}
+use Rattle.captures.specs.declared.packet_in.PacketIn.{PacketIn}
 use Rattle.call_report.specs.Lines.Parts.{line_of, octet_detail}
 
 -- what a label option says and where it stands, or that there is none

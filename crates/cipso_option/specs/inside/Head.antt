@@ -1,6 +1,6 @@
 -- The first eight octets of an option, step by step.
 use Rattle.std.specs.Prelude.{ℕ, ◌≡◌, ◌-◌, ◌<◌, ◌≤◌, List, length, slice_index}
-use Rattle.octet_grammar.specs.Numbers.{u32_at}
+use Rattle.mls_label.specs.octet_grammar.Numbers.{u32_at}
 use Rattle.mls_label.specs.declared.label.Tag.{Tag}
 use Rattle.cipso_tags.specs.Tag.{tag_type, HasLength}
 use Rattle.cipso_option.specs.declared.bounds.TheConstants.{OPTION_TYPE, HEAD_OCTETS, FEWEST_OCTETS, MOST_OCTETS}

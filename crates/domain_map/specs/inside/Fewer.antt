@@ -1,6 +1,6 @@
 -- What the removal of an address leaves.
 use Rattle.std.specs.Prelude.{◌≡◌, ℕ, List, length, Some}
-use Rattle.address_text.specs.Prefix.{AddressBlock}
+use Rattle.domain_map.specs.address_text.Prefix.{AddressBlock}
 use Rattle.domain_map.specs.declared.protocol.Protocol.{Protocol}
 use Rattle.domain_map.specs.declared.rule.Rule.{Rule}
 use Rattle.domain_map.specs.declared.rule.Rule.TheVariants.{Addresses}

@@ -3,18 +3,18 @@ use Rattle.std.specs.Prelude.{◌≡◌, ◌+◌, ◌-◌, ◌≤◌, ℕ, Bool,
 use Rattle.std.specs.Option.{option_map_or}
 use Rattle.net_io.specs.Depot.{DepotState, octets_of}
 use Rattle.label_commands.specs.declared.script.Script.{Script}
-use Rattle.flow_lines.specs.declared.flow.FlowLine.{FlowLine}
-use Rattle.packet_walk.specs.declared.packet.PacketIn.{PacketIn}
-use Rattle.packet_walk.specs.Stepping.{TablesAt}
-use Rattle.capture_reader.specs.declared.reader.AnyFrames.{AnyFrames}
-use Rattle.capture_reader.specs.Frame.{packet_in}
-use Rattle.capture_reader.specs.Reader.{FramesLeft, file_name_of, left_of, begun_file}
-use Rattle.capture_reader.specs.CaptureFile.{CaptureFile, capture_file}
-use Rattle.capture_reader.specs.declared.fault.FileFault.{FileFault}
+use Rattle.label_commands.specs.declared.flow_lines.flow.FlowLine.{FlowLine}
+use Rattle.captures.specs.declared.packet_in.PacketIn.{PacketIn}
+use Rattle.label_flow.specs.packet_walk.Stepping.{TablesAt}
+use Rattle.captures.specs.declared.reader.AnyFrames.{AnyFrames}
+use Rattle.captures.specs.Frame.{packet_in}
+use Rattle.captures.specs.Reader.{FramesLeft, file_name_of, left_of, begun_file}
+use Rattle.captures.specs.CaptureFile.{CaptureFile, capture_file}
+use Rattle.captures.specs.declared.fault.FileFault.{FileFault}
 use Rattle.call_report.specs.Report.{Folder}
 use Rattle.call_report.specs.Lines.Fixed.{done_line}
-use Rattle.flow_access.specs.Valid.{plan_of}
-use Rattle.flow_run.specs.Input.{flow_input}
+use Rattle.label_flow.specs.flow_access.Valid.{plan_of}
+use Rattle.script_run.specs.flow_run.Input.{flow_input}
 use Rattle.label_audit.specs.declared.flow.Counted.{Counted}
 use Rattle.label_audit.specs.declared.flow.Read.{Read}
 use Rattle.label_audit.specs.declared.flow.Read.TheVariants.{Packet, End, Broken}

@@ -1,21 +1,21 @@
 -- What may be printed of a script's flows, piece by piece: each packet under versions that may follow those which its worker has met.
 use Rattle.std.specs.Prelude.{ℕ, ◌≡◌, ◌+◌, ◌-◌, ◌%◌, ◌⊎◌, if◌then◌else◌, cond, nat_eq, Bool, false, List, [], ◌∷◌, ◌++◌}
-use Rattle.flow_lines.specs.declared.hop.Hop.{Hop}
-use Rattle.flow_lines.specs.declared.flow.FlowLine.{FlowLine}
+use Rattle.label_commands.specs.declared.flow_lines.hop.Hop.{Hop}
+use Rattle.label_commands.specs.declared.flow_lines.flow.FlowLine.{FlowLine}
 use Rattle.label_commands.specs.declared.script.Script.{Script}
 use Rattle.label_commands.specs.Script.{before}
 use Rattle.shared_tables.specs.Plan.{PlanState}
-use Rattle.packet_walk.specs.declared.packet.PacketIn.{PacketIn}
-use Rattle.packet_walk.specs.Walk.{IsWalkOf, Rises}
+use Rattle.captures.specs.declared.packet_in.PacketIn.{PacketIn}
+use Rattle.label_flow.specs.packet_walk.Walk.{IsWalkOf, Rises}
 use Rattle.label_flow.specs.Pair.{PairState}
 use Rattle.call_report.specs.Report.{Folder}
 use Rattle.call_report.specs.Lines.Flow.{flow_end_line, flow_line, walked_line}
 use Rattle.call_report.specs.Lines.Fixed.{done_line}
 use Rattle.call_report.specs.Lines.Reply.{replies_text}
 use Rattle.call_report.specs.Event.{packets_limit}
-use Rattle.flow_access.specs.Valid.{plan_of}
-use Rattle.flow_run.specs.Run.{is_denied}
-use Rattle.flow_run.specs.Input.{flow_input, packets_in}
+use Rattle.label_flow.specs.flow_access.Valid.{plan_of}
+use Rattle.script_run.specs.flow_run.Run.{is_denied}
+use Rattle.script_run.specs.flow_run.Input.{flow_input, packets_in}
 use Rattle.label_audit.specs.declared.flow.Counted.{Counted}
 use Rattle.label_audit.specs.inside.Awaited.{Awaited}
 

@@ -1,13 +1,13 @@
 -- The line of a packet, by the versions that it names.
 use Rattle.std.specs.Prelude.{◌≡◌, ◌+◌, ℕ, Bool, true, false, List, ◌++◌, drop}
 use Rattle.shared_tables.specs.Plan.{PlanState}
-use Rattle.packet_walk.specs.declared.packet.PacketIn.{PacketIn}
-use Rattle.packet_walk.specs.declared.walked.End.{End}
-use Rattle.packet_walk.specs.declared.walked.Walked.{Walked}
-use Rattle.packet_walk.specs.Walk.{IsWalkOf, Rises}
+use Rattle.captures.specs.declared.packet_in.PacketIn.{PacketIn}
+use Rattle.label_flow.specs.declared.packet_walk.walked.End.{End}
+use Rattle.label_flow.specs.declared.packet_walk.walked.Walked.{Walked}
+use Rattle.label_flow.specs.packet_walk.Walk.{IsWalkOf, Rises}
 use Rattle.label_flow.specs.Pair.{PairState}
 use Rattle.call_report.specs.Lines.Flow.{walked_line}
-use Rattle.flow_run.specs.Run.{is_denied}
+use Rattle.script_run.specs.flow_run.Run.{is_denied}
 use Rattle.label_audit.specs.declared.place.Place.{Place}
 use Rattle.label_audit.specs.declared.walker.PacketPlace.{PacketPlace}
 use Rattle.label_audit.specs.inside.Grammar.{last_met}

@@ -3,8 +3,8 @@ use Rattle.std.specs.Prelude.{◌≡◌, ◌+◌, ◌≤◌, ℕ, Bool, true, fa
 use Rattle.net_io.specs.declared.fault.IoFault.{IoFault}
 use Rattle.net_io.specs.declared.fault.IoFault.TheVariants.{Failed}
 use Rattle.net_io.specs.Depot.{DepotState, octets_of}
-use Rattle.report_file.specs.File.{ReportPart, KeepsPart}
-use Rattle.report_file.specs.Meeting.{lines_in, DiffersBehind}
+use Rattle.call_report.specs.report_file.File.{ReportPart, KeepsPart}
+use Rattle.call_report.specs.report_file.Meeting.{lines_in, DiffersBehind}
 use Rattle.label_audit.specs.declared.place.Place.{Place}
 use Rattle.label_audit.specs.Reads.{OnlyReadsAmong}
 use Rattle.label_audit.specs.inside.Awaited.{Awaited, BadBehind, ComesTo}

@@ -1,9 +1,9 @@
 -- What goes from worker to worker in a round, and what is known of it.
 use Rattle.std.specs.Prelude.{◌≡◌, ℕ, ◌+◌, ◌*◌, ◌^◌, ◌<◌, ◌≤◌, List, [], ◌∷◌, length, take, drop, max, Option, Some, None, Bool, true, All, Result, OnOk, slice_index_or}
-use Rattle.flow_lines.specs.declared.hop.Hop.{Hop}
+use Rattle.label_commands.specs.declared.flow_lines.hop.Hop.{Hop}
 use Rattle.shared_tables.specs.Plan.{PlanState}
 use Rattle.shared_tables.specs.Board.{ViewerState}
-use Rattle.packet_walk.specs.declared.packet.PacketIn.{PacketIn}
+use Rattle.captures.specs.declared.packet_in.PacketIn.{PacketIn}
 use Rattle.label_flow.specs.declared.rounds.RoundStop.{RoundStop}
 use Rattle.label_flow.specs.declared.work.Batch.{Batch}
 use Rattle.label_flow.specs.declared.work.Part.{Part}

@@ -1,11 +1,11 @@
 -- A feed as the making that it carries. In each word `folder` tells what the feed's folder is.
 use Rattle.std.specs.Prelude.{ℕ, ◌≡◌, ◌+◌, ◌-◌, ◌^◌, ◌<◌, ◌≤◌, Bool, true, false, not, IsTrue, List, count_by, Option, Some, None}
 use Rattle.net_io.specs.Depot.{DepotState}
-use Rattle.packet_walk.specs.declared.packet.PacketIn.{PacketIn}
-use Rattle.packet_walk.specs.declared.walked.End.{End}
-use Rattle.packet_walk.specs.declared.walked.End.TheVariants as the_end
+use Rattle.captures.specs.declared.packet_in.PacketIn.{PacketIn}
+use Rattle.label_flow.specs.declared.packet_walk.walked.End.{End}
+use Rattle.label_flow.specs.declared.packet_walk.walked.End.TheVariants as the_end
 use Rattle.label_flow.specs.Pair.{PairState}
-use Rattle.made_capture.specs.Capture.{capture_made}
+use Rattle.made_run.specs.made_capture.Capture.{capture_made}
 use Rattle.made_run.specs.declared.feed.MakeFeed.{MakeFeed}
 use Rattle.made_run.specs.declared.stop.MadeStop.{MadeStop}
 use Rattle.made_run.specs.Verdict.{delivered_made, denied_made}

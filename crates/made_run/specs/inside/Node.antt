@@ -1,8 +1,8 @@
 -- The node of a making in a plan of its own, and the flow to it.
 use Rattle.std.specs.Prelude.{◌≡◌, List, [], ◌∷◌, map, length, All, codes}
 use Rattle.script_lines.specs.declared.command.Step.{Step}
-use Rattle.flow_lines.specs.declared.hop.Hop.{Hop}
-use Rattle.flow_lines.specs.declared.hop.Hop.TheVariants.{Receive}
+use Rattle.label_commands.specs.declared.flow_lines.hop.Hop.{Hop}
+use Rattle.label_commands.specs.declared.flow_lines.hop.Hop.TheVariants.{Receive}
 use Rattle.shared_tables.specs.Plan.{PlanState}
 use Rattle.shared_tables.specs.Board.{PublisherState, ViewerState}
 use Rattle.made_run.specs.Network.{made_commands}

@@ -2,11 +2,11 @@
 use Rattle.std.specs.Prelude.{ℕ, true, ◌+◌, IsTrue, List, map}
 use Rattle.std.specs.List.{range_with_len}
 use Rattle.net_io.specs.Depot.{DepotState}
-use Rattle.packet_walk.specs.declared.packet.PacketIn.{PacketIn}
-use Rattle.made_capture.specs.Number.{number_at}
-use Rattle.made_capture.specs.Packet.{packet_made}
-use Rattle.made_capture.specs.Capture.{capture_made}
-use Rattle.made_capture.specs.Maker.{Making}
+use Rattle.captures.specs.declared.packet_in.PacketIn.{PacketIn}
+use Rattle.made_run.specs.made_capture.Number.{number_at}
+use Rattle.made_run.specs.made_capture.Packet.{packet_made}
+use Rattle.made_run.specs.made_capture.Capture.{capture_made}
+use Rattle.made_run.specs.made_capture.Maker.{Making}
 use Rattle.made_run.specs.inside.File.{IsSent, IsBegun}
 
 -- packet i, as it comes in

@@ -2,9 +2,9 @@
 use Rattle.std.specs.Prelude.{◌≡◌, ℕ, ◌<◌, ◌≤◌, Bool, List, [], ◌∷◌, ◌++◌, length, drop, IsTrue, ◌==◌, if◌then◌else◌}
 use Rattle.std.specs.Fmt.{decimal}
 use Rattle.std.specs.List.{All}
-use Rattle.octet_grammar.specs.declared.fault.WireFault.{WireFault}
-use Rattle.octet_grammar.specs.declared.fault.WireKind.{WireKind}
-use Rattle.octet_grammar.specs.declared.fault.WireKind.TheVariants.{Octet, End}
+use Rattle.mls_label.specs.declared.octet_grammar.fault.WireFault.{WireFault}
+use Rattle.mls_label.specs.declared.octet_grammar.fault.WireKind.{WireKind}
+use Rattle.mls_label.specs.declared.octet_grammar.fault.WireKind.TheVariants.{Octet, End}
 use Rattle.mls_range.specs.LabelText.{letter_s, letter_c, colon, comma, dot, hyphen, IsTerm, term_text}
 use Rattle.mls_range.specs.Crowd.{IsCounted}
 use Rattle.mls_range.specs.inside.Number.{BeginsNumber}

@@ -1,7 +1,7 @@
 -- A fault of octets as that of a text.
-use Rattle.octet_grammar.specs.declared.fault.WireKind.{WireKind}
-use Rattle.octet_grammar.specs.declared.fault.WireKind.TheVariants.{Octet, End}
-use Rattle.octet_grammar.specs.declared.fault.WireFault.{WireFault}
+use Rattle.mls_label.specs.declared.octet_grammar.fault.WireKind.{WireKind}
+use Rattle.mls_label.specs.declared.octet_grammar.fault.WireKind.TheVariants.{Octet, End}
+use Rattle.mls_label.specs.declared.octet_grammar.fault.WireFault.{WireFault}
 use Rattle.mls_range.specs.declared.fault.TextKind.{TextKind}
 use Rattle.mls_range.specs.declared.fault.TextKind.TheVariants as text
 use Rattle.mls_range.specs.declared.fault.TextFault.{TextFault}

@@ -10,12 +10,12 @@ use Rattle.call_report.specs.Lines.Fixed.{packets_limit_line}
 use Rattle.call_report.specs.Printing.{Printed}
 use Rattle.call_report.specs.Report.{Folder}
 use Rattle.call_report.specs.Status.{status_number}
-use Rattle.capture_reader.specs.declared.fault.ReadStop.{ReadStop}
-use Rattle.capture_reader.specs.declared.fault.ReadStop.TheVariants as read
-use Rattle.capture_reader.specs.declared.fault.FileFault.TheVariants.{Pcap, Pcapng}
+use Rattle.captures.specs.declared.fault.ReadStop.{ReadStop}
+use Rattle.captures.specs.declared.fault.ReadStop.TheVariants as read
+use Rattle.captures.specs.declared.fault.FileFault.TheVariants.{Pcap, Pcapng}
 use Rattle.net_io.specs.declared.fault.IoFault.{IoFault}
 use Rattle.net_io.specs.declared.fault.IoFault.TheVariants as io
-use Rattle.flow_run.specs.Input.{flow_input}
+use Rattle.script_run.specs.flow_run.Input.{flow_input}
 use Rattle.label_audit.specs.declared.audited.Audited.{Audited}
 use Rattle.label_audit.specs.declared.audited.Audited.TheVariants.{Yes, NoLine}
 use Rattle.netlabel_audit.specs.declared.asked.Audit.{Audit}

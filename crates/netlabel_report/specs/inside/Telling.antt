@@ -12,11 +12,11 @@ use Rattle.call_report.specs.declared.status.Status.TheVariants.{Done, WrongScri
 use Rattle.call_report.specs.Outside.{Outside, IsOnlyRead}
 use Rattle.call_report.specs.Printing.{HandsOn, Printed}
 use Rattle.call_report.specs.Status.{status_number, write_status}
-use Rattle.report_telling.specs.declared.way.Manner.{Manner}
-use Rattle.report_telling.specs.declared.taking.LineKind.{LineKind}
-use Rattle.report_telling.specs.declared.commands.CommandPlace.{CommandPlace}
-use Rattle.report_telling.specs.Counts.{risen}
-use Rattle.report_telling.specs.Taking.{Standing, line_kind, line_text, after_line, unfinished_text, no_report_text}
+use Rattle.netlabel_report.specs.declared.report_telling.way.Manner.{Manner}
+use Rattle.netlabel_report.specs.declared.report_telling.taking.LineKind.{LineKind}
+use Rattle.netlabel_report.specs.declared.report_telling.commands.CommandPlace.{CommandPlace}
+use Rattle.netlabel_report.specs.report_telling.Counts.{risen}
+use Rattle.netlabel_report.specs.report_telling.Taking.{Standing, line_kind, line_text, after_line, unfinished_text, no_report_text}
 use Rattle.netlabel_report.specs.declared.lines.NextLine.{NextLine}
 use Rattle.netlabel_report.specs.declared.lines.NextLine.TheVariants.{Line, End, Broken}
 use Rattle.netlabel_report.specs.declared.desk.TellStop.{TellStop}

@@ -1,8 +1,8 @@
 -- How a call ends whose reader has stopped.
 use Rattle.std.specs.Prelude.{ℕ, List, []}
-use Rattle.capture_reader.specs.declared.fault.FileFault.TheVariants.{Pcap, Pcapng}
-use Rattle.capture_reader.specs.declared.fault.ReadStop.{ReadStop}
-use Rattle.capture_reader.specs.declared.fault.ReadStop.TheVariants as stop
+use Rattle.captures.specs.declared.fault.FileFault.TheVariants.{Pcap, Pcapng}
+use Rattle.captures.specs.declared.fault.ReadStop.{ReadStop}
+use Rattle.captures.specs.declared.fault.ReadStop.TheVariants as stop
 use Rattle.call_report.specs.declared.status.Status.{Status}
 use Rattle.call_report.specs.declared.status.Status.TheVariants.{WrongCapture, ReadFault, OutOfMemory}
 use Rattle.call_report.specs.Lines.Capture.{capture_line}

@@ -777,8 +777,15 @@ fn writes_that_keep_5<R: Threads + Wait + Sync + Abort>(
     let mut kept = 0u32;
     for number in 1..1000u32 {
         let ran = passing(rt, alloc, &capture, 0, number);
-        assert!(rt; whole.printed.starts_with(&ran.printed), "at write {number}");
-        let status = if ran.printed.len() < before.len() { 4 } else { 5 };
+        assert!(rt;
+            whole.printed.starts_with(&ran.printed),
+            "at write {number}"
+        );
+        let status = if ran.printed.len() < before.len() {
+            4
+        } else {
+            5
+        };
         assert_eq!(rt; ran.status, status, "at write {number}");
         if ran.printed.len() == whole.printed.len() {
             return kept;

@@ -6,7 +6,7 @@ use super::flows::{ONE_LABEL_REPLIES, call, folder, with_line};
 use super::three::DIGITS;
 use call_report::FlowSeen;
 use label_flow::{Gate, OpenGate};
-use octet_grammar::write_decimal;
+use mls_label::write_decimal;
 use std::alloc::Global;
 use std::process::Abort;
 use std::str::from_utf8;

@@ -1,7 +1,7 @@
 //! Captures in the pcapng format, shown and run, made by hand from that format.
 
-use super::captures::shows;
 use super::flows::{Ran, call, folder, forwarding, holds, put, text_of, with_line};
+use super::shown::shows;
 use super::three::BOTH;
 use label_flow::OpenGate;
 use std::alloc::Global;

@@ -1,7 +1,7 @@
 //! Scripts checked: worked scripts with their replies, each kind of fault, limits at both sides, and calls that fail.
 
 use super::{answers, folder, run};
-use octet_grammar::write_decimal;
+use mls_label::write_decimal;
 use std::alloc::{AllocError, Global};
 use std::process::Abort;
 use std::sync::Wait;

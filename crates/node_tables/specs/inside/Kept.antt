@@ -8,7 +8,7 @@ use Rattle.doi_table.specs.Table.{Entries}
 use Rattle.domain_map.specs.declared.protocol.Protocol.{Protocol}
 use Rattle.domain_map.specs.declared.protocol.Protocol.TheVariants.{Unlbl, Cipso, Calipso}
 use Rattle.domain_map.specs.Domains.{Domains, names_doi_of}
-use Rattle.command_values.specs.Tags.{AreTags}
+use Rattle.script_lines.specs.command_values.Tags.{AreTags}
 use Rattle.node_tables.specs.Coherence.{NamesDefined}
 
 -- The definition is one that a command may give: its DOI isn't 0, of CIPSO it has 1 to 5 tags, and where it translates it has pairs

@@ -1,6 +1,6 @@
 -- What a call leaves that changes one table, and one that carries out a command.
 use Rattle.std.specs.Prelude.{◌≡◌, Result, Ok, Err, IsErr}
-use Rattle.octet_grammar.specs.declared.memory.OutOfMemory.{OutOfMemory}
+use Rattle.mls_label.specs.declared.octet_grammar.memory.OutOfMemory.{OutOfMemory}
 use Rattle.node_tables.specs.declared.reply.Refusal.{Refusal}
 use Rattle.node_tables.specs.declared.reply.Reply.{Reply}
 use Rattle.node_tables.specs.declared.reply.Reply.TheVariants.{Done, Refused}

@@ -1,8 +1,8 @@
 -- Parts of a reader's answers.
 use Rattle.std.specs.Prelude.{◌≡◌, ℕ, ◌+◌, ◌-◌, ◌<◌, IsTrue, nat_lt, if◌then◌else◌, List, length, drop, Option, Some, None, Result, Ok, Err}
 use Rattle.net_io.specs.Depot.{DepotState, octets_of}
-use Rattle.file_window.specs.Numbers.{ordered_number}
-use Rattle.file_window.specs.Window.{IsFrom}
+use Rattle.net_io.specs.file_window.Numbers.{ordered_number}
+use Rattle.net_io.specs.file_window.Window.{IsFrom}
 use Rattle.pcapng_frames.specs.declared.head.BlockHead.{BlockHead}
 use Rattle.pcapng_frames.specs.declared.packet.NgHead.{NgHead}
 use Rattle.pcapng_frames.specs.declared.blocks.Turn.{Turn}

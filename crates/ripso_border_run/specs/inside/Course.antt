@@ -10,14 +10,14 @@ use Rattle.pcap_frames.specs.Capture.{capture_of}
 use Rattle.pcap_frames.specs.Reader.{Reader, IsReady}
 use Rattle.pcap_frames.specs.Written.{frame_octets}
 use Rattle.doi_table.specs.declared.plan.DoiPlan.{DoiPlan}
-use Rattle.capture_reader.specs.declared.fault.FileFault.TheVariants as fault
-use Rattle.capture_reader.specs.declared.format.CaptureFormat.TheVariants as format
-use Rattle.capture_reader.specs.declared.reader.AnyFrames.TheVariants as reads
-use Rattle.capture_reader.specs.Frame.{CapturedFrame}
-use Rattle.capture_reader.specs.CaptureFile.{CaptureFile, by_pcap}
-use Rattle.capture_reader.specs.Reader.{FramesLeft, left_of}
-use Rattle.capture_reader.specs.Written.{file_octets}
-use Rattle.capture_output.specs.Output.{HasAppended}
+use Rattle.captures.specs.declared.fault.FileFault.TheVariants as fault
+use Rattle.captures.specs.declared.format.CaptureFormat.TheVariants as format
+use Rattle.captures.specs.declared.reader.AnyFrames.TheVariants as reads
+use Rattle.captures.specs.Frame.{CapturedFrame}
+use Rattle.captures.specs.CaptureFile.{CaptureFile, by_pcap}
+use Rattle.captures.specs.Reader.{FramesLeft, left_of}
+use Rattle.captures.specs.Written.{file_octets}
+use Rattle.captures.specs.Output.{HasAppended}
 use Rattle.call_report.specs.declared.status.Status.{Status}
 use Rattle.call_report.specs.declared.status.Status.TheVariants.{Done, ReadFault, WrongCapture, OutOfMemory, Limit}
 use Rattle.call_report.specs.CallEnds.{CallEnds, HasBegun}

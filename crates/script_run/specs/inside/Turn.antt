@@ -14,10 +14,10 @@ use Rattle.call_report.specs.declared.status.Status.{Status}
 use Rattle.call_report.specs.declared.status.Status.TheVariants.{ReadFault, WriteFault, WrongCapture, OutOfMemory, Limit}
 use Rattle.call_report.specs.Status.{write_status}
 use Rattle.call_report.specs.Printing.{HandsOn, IsUnderWay, Printed}
-use Rattle.flow_run.specs.declared.end.FlowPlace.{FlowPlace}
-use Rattle.flow_run.specs.declared.end.FlowEnd.{FlowEnd}
-use Rattle.flow_run.specs.declared.end.FlowEnd.TheVariants.{GoesOn, Broken, TooMany, Stopped}
-use Rattle.flow_run.specs.declared.end.FlowStop.TheVariants as stop
+use Rattle.script_run.specs.declared.flow_run.end.FlowPlace.{FlowPlace}
+use Rattle.script_run.specs.declared.flow_run.end.FlowEnd.{FlowEnd}
+use Rattle.script_run.specs.declared.flow_run.end.FlowEnd.TheVariants.{GoesOn, Broken, TooMany, Stopped}
+use Rattle.script_run.specs.declared.flow_run.end.FlowStop.TheVariants as stop
 use Rattle.script_run.specs.Report.{first_replies}
 use Rattle.script_run.specs.declared.turn.Next.{Next}
 

@@ -1,9 +1,9 @@
 use Rattle.std.proofs.Common.{◌-◌, ◌/◌, get_or, length, refl, sym, subst, ap, ◌∙◌, arith}
 use Rattle.std.proofs.lemmas.Bool.{false≢true}
 use Rattle.std.proofs.lemmas.Result.{err_from_is_err_and}
-use Rattle.octet_grammar.proofs.Octets.{octets_of}
-use Rattle.octet_grammar.proofs.Layouts.{place_ends, place_unfit, nonzero_fails}
-use Rattle.octet_grammar.specs.declared.fault.WireKind.TheVariants.{End}
+use Rattle.mls_label.proofs.octet_grammar.Octets.{octets_of}
+use Rattle.mls_label.proofs.octet_grammar.Layouts.{place_ends, place_unfit, nonzero_fails}
+use Rattle.mls_label.specs.declared.octet_grammar.fault.WireKind.TheVariants.{End}
 use Rattle.calipso_option.specs.Calipso.{IsCalipsoShape}
 use Rattle.calipso_option.specs.inside.Layout.{IsLength}
 use Rattle.calipso_option.proofs.Places.{MayStand, places_left, IsHeaded, type_passed, size_passed, doi_passed, shape_places, doi_places, headed_ends}

@@ -1,5 +1,5 @@
 use Rattle.std.proofs.lemmas.Result.{err_from_is_err_and}
-use Rattle.octet_grammar.proofs.Octets.{octets_of}
+use Rattle.mls_label.proofs.octet_grammar.Octets.{octets_of}
 use Rattle.calipso_option.proofs.Shapes.{false_checksum}
 use Rattle.calipso_option.proofs.read.read_calipso_into.Goals as goal
 

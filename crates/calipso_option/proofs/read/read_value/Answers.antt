@@ -1,8 +1,8 @@
 use Rattle.std.proofs.Common.{◌≡◌, ◌-◌, length, take, drop, sym, subst, ap, ◌∙◌, arith, length-drop}
 use Rattle.std.specs.Prelude.{slice_index}
 use Rattle.std.proofs.lemmas.List.{take_all}
-use Rattle.octet_grammar.proofs.Octets.{octets_of}
-use Rattle.category_bitmap.specs.Bitmap.{bitmap_cats}
+use Rattle.mls_label.proofs.octet_grammar.Octets.{octets_of}
+use Rattle.mls_label.specs.category_bitmap.Bitmap.{bitmap_cats}
 use Rattle.calipso_option.specs.Calipso.{IsCalipsoShape}
 use Rattle.calipso_option.specs.inside.Layout.{checksum_at}
 use Rattle.calipso_option.proofs.Shapes.{shape_of}

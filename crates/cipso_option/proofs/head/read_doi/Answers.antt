@@ -1,8 +1,8 @@
 use Rattle.std.proofs.lemmas.Result.{IfErr-weaker}
-use Rattle.octet_grammar.specs.Fault.{FailsFront}
-use Rattle.octet_grammar.specs.Place.{FaultsInNonzero}
-use Rattle.octet_grammar.proofs.Octets.{octets_of}
-use Rattle.octet_grammar.proofs.Layouts.{nonzero_fails}
+use Rattle.mls_label.specs.octet_grammar.Fault.{FailsFront}
+use Rattle.mls_label.specs.octet_grammar.Place.{FaultsInNonzero}
+use Rattle.mls_label.proofs.octet_grammar.Octets.{octets_of}
+use Rattle.mls_label.proofs.octet_grammar.Layouts.{nonzero_fails}
 use Rattle.std.proofs.Common.{get_or}
 use Rattle.cipso_option.specs.Cipso.{IsCipso}
 use Rattle.cipso_option.proofs.Places.{MayStand, left_of, option_places, doi_places}

@@ -1,7 +1,7 @@
 use Rattle.std.proofs.Common.{sym, ◌∙◌, arith}
 use Rattle.std.proofs.lemmas.Bool.{false≢true}
 use Rattle.std.proofs.lemmas.Result.{err_from_is_err_and}
-use Rattle.octet_grammar.proofs.Layouts.{place_ends, place_unfit}
+use Rattle.mls_label.proofs.octet_grammar.Layouts.{place_ends, place_unfit}
 use Rattle.cipso_option.specs.Cipso.{IsCipso}
 use Rattle.cipso_option.proofs.Places.{MayStand, left_of, option_places}
 use Rattle.cipso_option.proofs.head.read_start.Goals as goal

@@ -1,8 +1,8 @@
 use Rattle.std.proofs.Common.{◌-◌, get_or, sym, subst, ◌∙◌, arith}
 use Rattle.std.proofs.lemmas.Bool.{false≢true}
 use Rattle.std.proofs.lemmas.Result.{err_from_is_err_and}
-use Rattle.octet_grammar.proofs.Octets.{octets_of}
-use Rattle.octet_grammar.proofs.Layouts.{place_ends, place_unfit}
+use Rattle.mls_label.proofs.octet_grammar.Octets.{octets_of}
+use Rattle.mls_label.proofs.octet_grammar.Layouts.{place_ends, place_unfit}
 use Rattle.cipso_tags.specs.Tag.{HasLength}
 use Rattle.cipso_tags.proofs.Law.{each_tag_has_its_type}
 use Rattle.cipso_option.specs.Cipso.{IsCipso}

@@ -1,10 +1,10 @@
 use Rattle.std.proofs.Common.{◌≡◌, ℕ, ◌+◌, ◌-◌, length, take, drop, sym, subst, arith, length-drop}
 use Rattle.std.proofs.lemmas.List.{take_all}
 use Rattle.std.proofs.lemmas.Result.{err_from_is_err_and}
-use Rattle.octet_grammar.specs.Front.{ReadsFront}
-use Rattle.octet_grammar.specs.Fault.{FailsFront}
-use Rattle.octet_grammar.proofs.Octets.{octets_of}
-use Rattle.octet_grammar.proofs.Places.{moved_value, moved_error}
+use Rattle.mls_label.specs.octet_grammar.Front.{ReadsFront}
+use Rattle.mls_label.specs.octet_grammar.Fault.{FailsFront}
+use Rattle.mls_label.proofs.octet_grammar.Octets.{octets_of}
+use Rattle.mls_label.proofs.octet_grammar.Places.{moved_value, moved_error}
 use Rattle.mls_label.specs.declared.label.Tag.{Tag}
 use Rattle.cipso_tags.specs.Tag.{IsTag}
 use Rattle.cipso_option.specs.Cipso.{IsCipso}

@@ -1,4 +1,4 @@
-use Rattle.octet_grammar.proofs.Octets.{octets_of}
+use Rattle.mls_label.proofs.octet_grammar.Octets.{octets_of}
 use Rattle.cipso_tags.proofs.Bits.{bits_end}
 use Rattle.cipso_tags.proofs.body.read_bits.Goals as goal
 

@@ -3,7 +3,7 @@ use Rattle.std.proofs.lemmas.List.{append-nil}
 use Rattle.std.proofs.lemmas.Result.{err_from_is_err_and}
 use Rattle.mls_label.specs.Cats.{Ascends, IsCats}
 use Rattle.cipso_tags.specs.Body.{words}
-use Rattle.octet_grammar.proofs.Octets.{octets_of}
+use Rattle.mls_label.proofs.octet_grammar.Octets.{octets_of}
 use Rattle.cipso_tags.proofs.Words.{take_number}
 use Rattle.cipso_tags.proofs.Numbers.{IsAfter, step_fails, numbers_read}
 use Rattle.cipso_tags.proofs.Enumeration.{ascends_small, enumeration_step, enumeration_more, cats_more}

@@ -2,7 +2,7 @@ use Rattle.std.proofs.Common.{◌+◌, ◌-◌, ◌*◌, ◌/◌, nat_lt, length
 use Rattle.std.proofs.lemmas.Bool.{ltb-true}
 use Rattle.std.proofs.lemmas.Result.{err_from_is_err_and}
 use Rattle.mls_label.specs.Runs.{runs_of}
-use Rattle.octet_grammar.proofs.Octets.{octets_of}
+use Rattle.mls_label.proofs.octet_grammar.Octets.{octets_of}
 use Rattle.cipso_tags.proofs.Ranges.{ranges_start, range_next, range_room, top_fails, bottom_fails}
 use Rattle.cipso_tags.proofs.body.read_ranges.Goals as goal
 

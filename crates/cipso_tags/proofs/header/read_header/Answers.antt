@@ -1,7 +1,7 @@
 use Rattle.std.proofs.Common.{get_or, sym, subst, ◌∙◌, arith}
 use Rattle.std.proofs.lemmas.Bool.{false≢true}
 use Rattle.std.proofs.lemmas.Result.{err_from_is_err_and}
-use Rattle.octet_grammar.proofs.Layouts.{place_ends, place_unfit}
+use Rattle.mls_label.proofs.octet_grammar.Layouts.{place_ends, place_unfit}
 use Rattle.cipso_tags.specs.Tag.{IsTag, HasLength}
 use Rattle.cipso_tags.proofs.Headers.{MayStand, left_of, same_tag, header_places}
 use Rattle.cipso_tags.proofs.header.read_header.Goals as goal

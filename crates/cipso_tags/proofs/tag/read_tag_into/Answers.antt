@@ -1,9 +1,9 @@
 use Rattle.std.proofs.Common.{◌≡◌, ◌+◌, ◌-◌, ◌++◌, length, take, drop, ap, subst, ◌∙◌, arith, length-drop}
 use Rattle.std.proofs.lemmas.List.{take_all, length-take}
 use Rattle.std.proofs.lemmas.Result.{err_from_is_err_and}
-use Rattle.octet_grammar.proofs.Places.{moved_within, moved_error}
+use Rattle.mls_label.proofs.octet_grammar.Places.{moved_within, moved_error}
 use Rattle.cipso_tags.specs.Tag.{IsTag}
-use Rattle.octet_grammar.specs.Fault.{FailsFront}
+use Rattle.mls_label.specs.octet_grammar.Fault.{FailsFront}
 use Rattle.cipso_tags.specs.Body.{IsBody}
 use Rattle.cipso_tags.specs.inside.Header.{header_of, IsSize, IsSized}
 use Rattle.cipso_tags.proofs.Sizes.{there_body}

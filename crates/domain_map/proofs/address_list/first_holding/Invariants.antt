@@ -1,5 +1,5 @@
 use Rattle.std.proofs.Common.{◌≡◌, length, find, map}
-use Rattle.address_text.specs.Prefix.{holds}
+use Rattle.domain_map.specs.address_text.Prefix.{holds}
 use Rattle.domain_map.specs.declared.order.Ranked.{Ranked}
 use Rattle.domain_map.specs.inside.Order.{Tells}
 use Rattle.domain_map.specs.inside.Ranking.{passes_at}

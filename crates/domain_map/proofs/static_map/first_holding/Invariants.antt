@@ -1,6 +1,6 @@
 use Rattle.std.proofs.Common.{◌≡◌, ◌&&◌, length, find, map}
 use Rattle.std.specs.Option.{option_copied}
-use Rattle.address_text.specs.Prefix.{holds}
+use Rattle.domain_map.specs.address_text.Prefix.{holds}
 use Rattle.domain_map.specs.declared.order.Ranked.{Ranked}
 use Rattle.domain_map.specs.Domains.{same_domain}
 use Rattle.domain_map.specs.inside.Order.{Tells}

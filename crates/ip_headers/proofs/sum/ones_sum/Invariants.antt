@@ -1,5 +1,5 @@
 use Rattle.std.proofs.Common.{◌≡◌, ◌+◌, sum, length}
-use Rattle.octet_grammar.specs.Octets.{IsOctets}
+use Rattle.mls_label.specs.octet_grammar.Octets.{IsOctets}
 use Rattle.ip_headers.specs.Sum.{words_of}
 use Rattle.ip_headers.specs.inside.Modulo.{modulo}
 use Rattle.ip_headers.proofs.sum.ones_sum.Given as goal

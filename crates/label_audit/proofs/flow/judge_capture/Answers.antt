@@ -3,8 +3,8 @@ use Rattle.std.specs.Prelude.{IsTrue, Contains}
 use Rattle.std.proofs.lemmas.Option.{same_Some}
 use Rattle.std.proofs.lemmas.List.{length-map}
 use Rattle.std.proofs.lemmas.Result.{err_from_is_err_and, IfOk-weaker}
-use Rattle.capture_reader.specs.Frame.{packet_in}
-use Rattle.capture_reader.specs.Reader.{file_name_of}
+use Rattle.captures.specs.Frame.{packet_in}
+use Rattle.captures.specs.Reader.{file_name_of}
 use Rattle.label_audit.specs.inside.Flow.{left_by, inputs_of, capture_packets, HasBegunReading}
 use Rattle.label_audit.proofs.Frames.{read_on, read_err, read_capture, read_file, read_told}
 use Rattle.label_audit.proofs.CaptureJudged.{flow_here, input_named, none_begun, no_fault, few_frames, packets_left}

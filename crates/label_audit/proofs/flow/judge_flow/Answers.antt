@@ -1,8 +1,8 @@
 use Rattle.std.proofs.Common.{◌≡◌, ◌≤◌, ℕ, List, [], ◌∷◌, length, Some, true, false, sym, ◌∙◌, subst}
 use Rattle.std.specs.Prelude.{IsTrue, All, slice_get}
 use Rattle.std.proofs.lemmas.Result.{err_from_is_err_and, IfOk-weaker}
-use Rattle.flow_lines.specs.declared.flow.FlowLine.{FlowLine}
-use Rattle.packet_walk.specs.Stepping.{TablesAt}
+use Rattle.label_commands.specs.declared.flow_lines.flow.FlowLine.{FlowLine}
+use Rattle.label_flow.specs.packet_walk.Stepping.{TablesAt}
 use Rattle.label_audit.specs.inside.Reading.{StandsIn, file_of}
 use Rattle.label_audit.specs.inside.Flow.{inputs_of}
 use Rattle.label_audit.proofs.Frames.{read_on, read_ok, read_same, read_file, read_told}

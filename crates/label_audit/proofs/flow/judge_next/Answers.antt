@@ -3,11 +3,11 @@ use Rattle.std.specs.Prelude.{slice_set, max}
 use Rattle.std.proofs.lemmas.Option.{same_Some}
 use Rattle.std.proofs.lemmas.Nat.{mod_below}
 use Rattle.std.proofs.lemmas.Result.{err_from_is_err_and}
-use Rattle.flow_lines.specs.declared.flow.FlowLine.{FlowLine}
-use Rattle.packet_walk.specs.Stepping.{TablesAt}
+use Rattle.label_commands.specs.declared.flow_lines.flow.FlowLine.{FlowLine}
+use Rattle.label_flow.specs.packet_walk.Stepping.{TablesAt}
 use Rattle.label_audit.specs.inside.Reading.{StandsIn, file_of}
 use Rattle.label_audit.proofs.Frames.{read_ok}
-use Rattle.flow_access.specs.Valid.{plan_of}
+use Rattle.label_flow.specs.flow_access.Valid.{plan_of}
 use Rattle.label_audit.proofs.Nexts.{set_here, set_there}
 use Rattle.label_audit.proofs.JudgedNext.{worker_here, next_not, next_is}
 use Rattle.label_audit.proofs.CaptureJudged.{flow_here}

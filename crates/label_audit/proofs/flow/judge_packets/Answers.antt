@@ -1,8 +1,8 @@
 use Rattle.std.proofs.Common.{ℕ, List, [], ◌∷◌, map, length, Ok, true, false, sym, ap, ◌∙◌, subst, arith}
 use Rattle.std.specs.Prelude.{IsTrue, Contains}
 use Rattle.std.proofs.lemmas.Result.{err_from_is_err_and}
-use Rattle.capture_reader.specs.Frame.{packet_in}
-use Rattle.capture_reader.specs.Reader.{FramesLeft, file_name_of}
+use Rattle.captures.specs.Frame.{packet_in}
+use Rattle.captures.specs.Reader.{FramesLeft, file_name_of}
 use Rattle.label_audit.specs.inside.Reading.{HasRead, StandsIn, file_of}
 use Rattle.label_audit.specs.inside.Flow.{left_by, IsReadOn}
 use Rattle.label_audit.proofs.Frames.{read_on, read_ok, read_err, read_capture, read_same, read_file, read_told, only_ok}

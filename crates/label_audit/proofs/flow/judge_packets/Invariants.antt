@@ -1,11 +1,11 @@
 use Rattle.std.proofs.Common.{◌-◌, ◌+◌, ◌≡◌, ℕ, List, length, map, None, Some}
 use Rattle.std.specs.Prelude.{IsTrue, true, slice_get}
-use Rattle.flow_lines.specs.declared.flow.FlowLine.{FlowLine}
+use Rattle.label_commands.specs.declared.flow_lines.flow.FlowLine.{FlowLine}
 use Rattle.label_commands.specs.Script.{before}
-use Rattle.capture_reader.specs.Frame.{packet_in}
-use Rattle.capture_reader.specs.Reader.{file_name_of, IsReadable}
+use Rattle.captures.specs.Frame.{packet_in}
+use Rattle.captures.specs.Reader.{file_name_of, IsReadable}
 use Rattle.call_report.specs.Report.{Folder}
-use Rattle.report_file.specs.File.{KeepsPart}
+use Rattle.call_report.specs.report_file.File.{KeepsPart}
 use Rattle.label_audit.specs.inside.Reading.{StandsIn, IsJudgedTo, file_of}
 use Rattle.label_audit.specs.inside.Flow.{Ready, IsFew, packets_awaited, left_by}
 use Rattle.label_audit.proofs.Frames.{Unmoved}

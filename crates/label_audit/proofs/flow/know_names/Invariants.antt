@@ -1,5 +1,5 @@
 use Rattle.std.proofs.Common.{◌-◌, ◌<◌, ◌≤◌, ℕ, List, length, get_or}
-use Rattle.address_text.specs.Name.{IsNameText}
+use Rattle.domain_map.specs.address_text.Name.{IsNameText}
 use Rattle.label_audit.proofs.flow.know_names.Given as goal
 
 abbrev pub invariant-loop-known : goal.invariant-loop-known

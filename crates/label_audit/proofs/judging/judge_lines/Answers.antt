@@ -1,7 +1,7 @@
 use Rattle.std.proofs.Common.{ℕ, List, length, false, sym, subst}
 use Rattle.std.specs.Prelude.{IsTrue, All}
 use Rattle.std.proofs.lemmas.Result.{err_from_is_err_and, IfOk-weaker}
-use Rattle.address_text.specs.Name.{IsNameText}
+use Rattle.domain_map.specs.address_text.Name.{IsNameText}
 use Rattle.call_report.specs.Event.{packets_limit}
 use Rattle.label_audit.specs.inside.Reading.{StandsIn, file_of}
 use Rattle.label_audit.specs.inside.Flow.{inputs_of}

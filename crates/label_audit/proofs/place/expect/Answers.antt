@@ -1,6 +1,6 @@
 use Rattle.std.proofs.Common.{drop, subst}
-use Rattle.report_file.specs.Meeting.{IsMet}
-use Rattle.report_file.specs.declared.meeting.Met.{Met}
+use Rattle.call_report.specs.report_file.Meeting.{IsMet}
+use Rattle.call_report.specs.declared.report_file.meeting.Met.{Met}
 use Rattle.label_audit.specs.inside.Reading.{file_of}
 use Rattle.label_audit.proofs.Places.{met_there}
 use Rattle.label_audit.proofs.place.expect.Goals as goal

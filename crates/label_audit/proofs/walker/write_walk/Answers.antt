@@ -1,6 +1,6 @@
 use Rattle.std.proofs.Common.{◌≡◌, length, sym, ap, ◌∙◌, subst, le_refl, Err}
-use Rattle.packet_walk.specs.declared.stop.VersionsStop.TheVariants.{TooFew, TooMany}
-use Rattle.packet_walk.specs.Walk.{Rises}
+use Rattle.label_flow.specs.declared.packet_walk.stop.VersionsStop.TheVariants.{TooFew, TooMany}
+use Rattle.label_flow.specs.packet_walk.Walk.{Rises}
 use Rattle.label_audit.proofs.Naming.{rises_all, met_last, too_few, too_many}
 use Rattle.label_audit.proofs.walker.write_walk.Goals as goal
 

@@ -1,7 +1,7 @@
 use Rattle.std.proofs.Common.{◌≡◌, ◌+◌, ◌≤◌, List, ◌++◌, length}
 use Rattle.std.specs.Arc.{arc_value}
 use Rattle.label_flow.specs.Pair.{PairState}
-use Rattle.packet_walk.specs.declared.packet.PacketIn.{PacketIn}
+use Rattle.captures.specs.declared.packet_in.PacketIn.{PacketIn}
 use Rattle.label_flow.specs.Feed.{AreFetched}
 use Rattle.label_flow.specs.Round.{IsLater, AreLater, IsRound}
 use Rattle.label_flow.specs.inside.Crew.{IsAt}

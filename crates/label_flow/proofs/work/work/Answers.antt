@@ -1,7 +1,7 @@
 use Rattle.std.proofs.Common.{rules, ◌≡◌, ◌≢◌, ◌+◌, ◌%◌, [], true, ◌∙◌, le_trans, subst, arith}
 use Rattle.shared_tables.specs.Plan.{PlanState}
-use Rattle.packet_walk.specs.declared.packet.PacketIn.{PacketIn}
-use Rattle.packet_walk.specs.Walk.{IsWalked}
+use Rattle.captures.specs.declared.packet_in.PacketIn.{PacketIn}
+use Rattle.label_flow.specs.packet_walk.Walk.{IsWalked}
 use Rattle.label_flow.proofs.Works.{turn_on, work_more, work_same}
 use Rattle.label_flow.proofs.work.work.Goals as goal
 use Rattle.label_flow.proofs.work.work.Goals.{then-turn-worker+in_ok-walks-2, else-turn-worker}

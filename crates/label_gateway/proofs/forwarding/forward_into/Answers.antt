@@ -6,7 +6,7 @@ use Rattle.packet_label.specs.declared.fault.CarryFault.{CarryFault}
 use Rattle.packet_label.specs.Packet.{headers_of, labelled}
 use Rattle.packet_label.specs.Wire.{wire_with}
 use Rattle.label_receive.specs.Judged.{fault_denial}
-use Rattle.octet_grammar.proofs.Octets.{octets_of}
+use Rattle.mls_label.proofs.octet_grammar.Octets.{octets_of}
 use Rattle.label_gateway.specs.Answer.{went_on}
 use Rattle.label_gateway.specs.Forward.{forward_of}
 use Rattle.label_gateway.proofs.Written.{answered_in_room}

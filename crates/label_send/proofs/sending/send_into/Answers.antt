@@ -1,5 +1,5 @@
 use Rattle.std.proofs.Common.{sym}
-use Rattle.octet_grammar.proofs.Octets.{octets_of}
+use Rattle.mls_label.proofs.octet_grammar.Octets.{octets_of}
 use Rattle.packet_label.specs.Packet.{headers_of, version_of}
 use Rattle.label_send.proofs.Writable.{read_in_room}
 use Rattle.label_send.proofs.sending.send_into.Goals as goal

@@ -1,5 +1,5 @@
 use Rattle.std.proofs.Common.{rules, refl, ap, None, Some, arith}
-use Rattle.made_capture.specs.Maker.{Making}
+use Rattle.made_run.specs.made_capture.Maker.{Making}
 use Rattle.made_run.proofs.Making.{new_feed, captures_so, captures_from}
 use Rattle.made_run.proofs.run.make_capture.Goals as goal
 

@@ -1,5 +1,5 @@
 use Rattle.std.proofs.Common.{◌≡◌, ◌+◌, ◌≤◌, None}
-use Rattle.made_capture.specs.Maker.{Making}
+use Rattle.made_run.specs.made_capture.Maker.{Making}
 use Rattle.made_run.specs.inside.File.{HasAppended}
 use Rattle.made_run.specs.inside.Source.{packets_made, IsSentUpTo}
 use Rattle.made_run.proofs.source.fill.Given as goal

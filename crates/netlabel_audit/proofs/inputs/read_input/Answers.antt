@@ -1,6 +1,6 @@
 use Rattle.std.proofs.Common.{ℕ, List, sym, subst, ◌∙◌, arith}
 use Rattle.std.specs.Prelude.{IsTrue}
-use Rattle.capture_reader.specs.Reader.{left_of, IsTaken}
+use Rattle.captures.specs.Reader.{left_of, IsTaken}
 use Rattle.netlabel_audit.proofs.Reading.{octets_now, amid_next, reads_further}
 use Rattle.netlabel_audit.proofs.inputs.read_input.Goals as goal
 

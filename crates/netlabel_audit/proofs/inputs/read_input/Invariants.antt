@@ -1,7 +1,7 @@
 use Rattle.std.proofs.Common.{◌≡◌, ℕ, Ok}
 use Rattle.std.specs.Prelude.{IsTrue}
 use Rattle.net_io.specs.Depot.{OnlyReads}
-use Rattle.capture_reader.specs.Reader.{IsReadable, file_name_of}
+use Rattle.captures.specs.Reader.{IsReadable, file_name_of}
 use Rattle.netlabel_audit.specs.declared.stop.AuditStop.TheVariants.{Unread}
 use Rattle.netlabel_audit.proofs.Reading.{IsAmid}
 use Rattle.netlabel_audit.proofs.inputs.read_input.Given as goal

@@ -3,7 +3,7 @@ use Rattle.std.specs.Prelude.{IsTrue, Contains}
 use Rattle.std.proofs.lemmas.List.{take_rest}
 use Rattle.std.proofs.lemmas.Result.{err_from_is_err_and}
 use Rattle.net_io.specs.Depot.{OnlyReads}
-use Rattle.flow_lines.specs.declared.flow.FlowLine.{FlowLine}
+use Rattle.label_commands.specs.declared.flow_lines.flow.FlowLine.{FlowLine}
 use Rattle.call_report.specs.Event.{packets_limit}
 use Rattle.netlabel_audit.specs.Inputs.{inputs_end}
 use Rattle.netlabel_audit.specs.declared.stop.AuditStop.TheVariants.{Unread}

@@ -1,6 +1,6 @@
 use Rattle.std.proofs.Common.{◌≡◌, ◌≤◌, ◌+◌, List, ℕ, Ok, length, map}
 use Rattle.std.specs.Prelude.{IsTrue, Contains}
-use Rattle.flow_lines.specs.declared.flow.FlowLine.{FlowLine}
+use Rattle.label_commands.specs.declared.flow_lines.flow.FlowLine.{FlowLine}
 use Rattle.call_report.specs.Event.{packets_limit}
 use Rattle.label_audit.specs.Reads.{OnlyReadsAmong}
 use Rattle.netlabel_audit.specs.Inputs.{inputs_end}

@@ -3,7 +3,7 @@ use Rattle.script_lines.specs.Form.{with_translations}
 use Rattle.label_commands.proofs.Law.{scripts_are_sound}
 use Rattle.call_report.specs.CallEnds.{CallEnds}
 use Rattle.call_report.specs.Outside.{Outside}
-use Rattle.script_input.proofs.Law.{ends_without_script}
+use Rattle.call_report.proofs.script_input.Law.{ends_without_script}
 use Rattle.netlabel_audit.specs.Says.{audit_says}
 use Rattle.netlabel_audit.proofs.Ending.{audit_reads}
 use Rattle.netlabel_audit.proofs.top.read_and_judge.Goals as goal

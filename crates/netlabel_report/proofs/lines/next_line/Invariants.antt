@@ -3,7 +3,7 @@ use Rattle.std.specs.Prelude.{◌==◌, IsTrue}
 use Rattle.std.specs.List.{All}
 use Rattle.net_io.specs.Depot.{octets_of}
 use Rattle.net_io.specs.declared.fault.IoFault.TheVariants.{Failed}
-use Rattle.file_window.specs.Window.{IsFrom}
+use Rattle.net_io.specs.file_window.Window.{IsFrom}
 use Rattle.netlabel_report.proofs.Depots.{IsReadSoFar}
 use Rattle.netlabel_report.proofs.lines.next_line.Given as goal
 

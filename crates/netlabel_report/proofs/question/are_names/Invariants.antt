@@ -1,7 +1,7 @@
 use Rattle.std.proofs.Common.{◌≡◌, length}
 use Rattle.std.specs.List.{list_all}
-use Rattle.flow_lines.specs.FileName.{is_file_name}
-use Rattle.command_words.specs.Words.{texts_of}
+use Rattle.label_commands.specs.flow_lines.FileName.{is_file_name}
+use Rattle.label_commands.specs.command_words.Words.{texts_of}
 use Rattle.netlabel_report.proofs.question.are_names.Given as goal
 
 abbrev pub decreases-loop-rest : goal.decreases-loop-rest

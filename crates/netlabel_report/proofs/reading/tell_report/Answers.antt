@@ -1,7 +1,7 @@
 use Rattle.std.proofs.Common.{rules, Ok, drop}
 use Rattle.net_io.specs.Depot.{octets_of}
 use Rattle.net_io.specs.declared.fault.IoFault.TheVariants.{Failed}
-use Rattle.report_telling.specs.Taking.{Standing}
+use Rattle.netlabel_report.specs.report_telling.Taking.{Standing}
 use Rattle.netlabel_report.specs.declared.lines.NextLine.TheVariants.{Line, End}
 use Rattle.netlabel_report.specs.declared.desk.TellStop.TheVariants.{ReadFault}
 use Rattle.netlabel_report.specs.Course.{report_course}

@@ -1,8 +1,8 @@
 use Rattle.std.proofs.Common.{◌+◌, ◌-◌, ◌<◌, ◌^◌, length, drop}
 use Rattle.std.specs.Prelude.{IsTrue}
 use Rattle.net_io.specs.Depot.{octets_of}
-use Rattle.file_window.specs.Window.{IsFrom}
-use Rattle.report_telling.specs.Taking.{Standing}
+use Rattle.net_io.specs.file_window.Window.{IsFrom}
+use Rattle.netlabel_report.specs.report_telling.Taking.{Standing}
 use Rattle.netlabel_report.specs.declared.desk.TellStop.TheVariants.{ReadFault}
 use Rattle.netlabel_report.specs.Course.{parts_of, followed_by, lines_course, end_course, report_course}
 use Rattle.netlabel_report.proofs.Depots.{IsReadSoFar}

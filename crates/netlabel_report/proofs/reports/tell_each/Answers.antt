@@ -1,7 +1,7 @@
 use Rattle.std.proofs.Common.{rules, ◌-◌, [], ◌∷◌, ◌++◌, length, take, drop, ap, sym, ◌∙◌, append_assoc}
 use Rattle.std.specs.Prelude.{string_bytes}
-use Rattle.command_words.specs.Words.{texts_of}
-use Rattle.report_telling.specs.Taking.{Standing}
+use Rattle.label_commands.specs.command_words.Words.{texts_of}
+use Rattle.netlabel_report.specs.report_telling.Taking.{Standing}
 use Rattle.netlabel_report.specs.Course.{reports_course}
 use Rattle.netlabel_report.proofs.Depots.{read_more, first_word}
 use Rattle.netlabel_report.proofs.Telling.{comes_as, turns_report, stops_report}

@@ -1,6 +1,6 @@
 use Rattle.std.proofs.Common.{◌≡◌, ◌++◌, List, ℕ, Ok, length}
-use Rattle.command_words.specs.Words.{texts_of}
-use Rattle.report_telling.specs.Taking.{Standing}
+use Rattle.label_commands.specs.command_words.Words.{texts_of}
+use Rattle.netlabel_report.specs.report_telling.Taking.{Standing}
 use Rattle.netlabel_report.specs.Course.{reports_course}
 use Rattle.netlabel_report.specs.inside.Telling.{AreRead}
 use Rattle.netlabel_report.proofs.Telling.{Comes}

@@ -1,5 +1,5 @@
 use Rattle.std.proofs.Common.{codes}
-use Rattle.report_telling.specs.Taking.{Standing}
+use Rattle.netlabel_report.specs.report_telling.Taking.{Standing}
 use Rattle.netlabel_report.specs.Course.{report_course}
 use Rattle.netlabel_report.proofs.Depots.{one_read, none_named}
 use Rattle.netlabel_report.proofs.Telling.{told_alone}

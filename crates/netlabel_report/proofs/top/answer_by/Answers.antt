@@ -1,5 +1,5 @@
 use Rattle.call_report.specs.Outside.{Outside}
-use Rattle.report_telling.specs.Taking.{Standing}
+use Rattle.netlabel_report.specs.report_telling.Taking.{Standing}
 use Rattle.netlabel_report.proofs.Ending.{ends_by, ends_unbegun}
 use Rattle.netlabel_report.proofs.top.answer_by.Goals as goal
 

@@ -2,8 +2,8 @@ use Rattle.std.proofs.Common.{refl, Some}
 use Rattle.script_lines.specs.Form.{with_translations}
 use Rattle.label_commands.proofs.Law.{scripts_are_sound}
 use Rattle.call_report.specs.Outside.{Outside}
-use Rattle.script_input.specs.Answer.{HopsAnswer}
-use Rattle.script_input.proofs.Law.{ends_answered, ends_without_script}
+use Rattle.call_report.specs.script_input.Answer.{HopsAnswer}
+use Rattle.call_report.proofs.script_input.Law.{ends_answered, ends_without_script}
 use Rattle.netlabel_run.specs.declared.command.Command.TheVariants.{Agree}
 use Rattle.netlabel_run.specs.Agree.{IsFound, agree_text}
 use Rattle.netlabel_run.specs.Commands.{netlabel_says}

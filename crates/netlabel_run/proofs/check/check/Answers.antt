@@ -7,7 +7,7 @@ use Rattle.call_report.specs.Outside.{Outside}
 use Rattle.call_report.specs.Printing.{Printed}
 use Rattle.netlabel_run.specs.declared.command.Command.TheVariants.{Check}
 use Rattle.netlabel_run.specs.Check.{check_text}
-use Rattle.script_input.proofs.Law.{ends_without_script}
+use Rattle.call_report.proofs.script_input.Law.{ends_without_script}
 use Rattle.netlabel_run.specs.Commands.{netlabel_says}
 use Rattle.netlabel_run.proofs.Checking.{check_reads, ends_checked}
 use Rattle.netlabel_run.proofs.check.check.Goals as goal

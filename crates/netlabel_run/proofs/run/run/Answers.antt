@@ -13,7 +13,7 @@ use Rattle.netlabel_run.specs.Commands.{netlabel_says}
 use Rattle.netlabel_run.proofs.Running.{run_reads, run_ends}
 use Rattle.call_report.specs.Stages.{reading_stage}
 use Rattle.call_report.proofs.Law.{ends_unprinted}
-use Rattle.script_input.proofs.Law.{ends_without_script}
+use Rattle.call_report.proofs.script_input.Law.{ends_without_script}
 use Rattle.netlabel_run.proofs.run.run.Goals as goal
 
 pub run_flows-requires-clause-sound : goal.run_flows-requires-clause-sound

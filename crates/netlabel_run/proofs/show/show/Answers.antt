@@ -1,5 +1,5 @@
 use Rattle.std.proofs.Common.{refl, arith}
-use Rattle.capture_reader.specs.declared.fault.ReadStop.TheVariants.{ReadFault}
+use Rattle.captures.specs.declared.fault.ReadStop.TheVariants.{ReadFault}
 use Rattle.call_report.specs.Outside.{Outside}
 use Rattle.netlabel_run.proofs.Shown.{unmoved, shows_start, ends_unbegun, ends_at_end, ends_at_stop, ends_at_limit, shows_next, ends_at_write}
 use Rattle.netlabel_run.proofs.show.show.Goals as goal

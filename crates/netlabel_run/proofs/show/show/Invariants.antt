@@ -1,5 +1,5 @@
 use Rattle.std.proofs.Common.{◌-◌}
-use Rattle.capture_reader.specs.Reader.{IsReadable}
+use Rattle.captures.specs.Reader.{IsReadable}
 use Rattle.call_report.specs.Outside.{Outside}
 use Rattle.netlabel_run.proofs.Shown.{IsShowing}
 use Rattle.netlabel_run.proofs.show.show.Given as goal

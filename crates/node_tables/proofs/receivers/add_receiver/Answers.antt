@@ -1,7 +1,7 @@
 use Rattle.std.proofs.Common.{◌≡◌, false, is_some, arith, sym, ◌∙◌}
 use Rattle.std.specs.Map.{lookup}
 use Rattle.indexmap.specs.IndexMap.{insert_entry}
-use Rattle.address_text.specs.Address.{same_address}
+use Rattle.domain_map.specs.address_text.Address.{same_address}
 use Rattle.node_tables.specs.declared.reply.Refusal.TheVariants.{ReceiverExists}
 use Rattle.node_tables.specs.Effect.{receiver_of}
 use Rattle.node_tables.proofs.Addresses.{address_eq_is}

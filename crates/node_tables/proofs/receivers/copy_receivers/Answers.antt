@@ -1,6 +1,6 @@
 use Rattle.std.proofs.Common.{◌∙◌}
 use Rattle.indexmap.specs.IndexMap.{insert_entry}
-use Rattle.address_text.specs.contracts.address.AddressPartialEq.TheImpl.{ghosts}
+use Rattle.domain_map.specs.contracts.address_text.address.AddressPartialEq.TheImpl.{ghosts}
 use Rattle.node_tables.proofs.Addresses.{address_eq_flips}
 use Rattle.node_tables.proofs.Entries.{copied_next}
 use Rattle.node_tables.proofs.receivers.copy_receivers.Goals as goal

@@ -1,7 +1,7 @@
 use Rattle.std.proofs.Common.{◌∷◌, cond, Some, suc, sym, ap, ◌∙◌, drop, add-one}
 use Rattle.std.proofs.Math.Seq.{drop-cons}
 use Rattle.std.proofs.lemmas.Option.{slice_get_within, get_or_from_slice_get}
-use Rattle.address_text.specs.declared.address.Address.{Address}
+use Rattle.domain_map.specs.declared.address_text.address.Address.{Address}
 use Rattle.node_tables.specs.declared.receiver.Receiver.{Receiver}
 use Rattle.node_tables.specs.Tables.{Receivers, find_receiver_of}
 use Rattle.node_tables.proofs.receivers.first_at.Goals as goal

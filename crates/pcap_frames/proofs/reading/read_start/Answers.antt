@@ -3,7 +3,7 @@ use Rattle.std.proofs.lemmas.Result.{err_from_is_err_and}
 use Rattle.std.proofs.lemmas.List.{length-drop}
 use Rattle.net_io.specs.Depot.{octets_of}
 use Rattle.pcap_frames.specs.Header.{capture_header}
-use Rattle.file_window.proofs.Law.{a_window_goes_on_behind_octets}
+use Rattle.net_io.proofs.file_window.Law.{a_window_goes_on_behind_octets}
 use Rattle.pcap_frames.proofs.Windows.{header_front}
 use Rattle.pcap_frames.proofs.reading.read_start.Goals as goal
 

@@ -1,6 +1,6 @@
 use Rattle.std.proofs.Common.{arith, ◌≤◌, ◌+◌, ap, length, drop}
 use Rattle.net_io.specs.Depot.{octets_of}
-use Rattle.file_window.proofs.Law.{a_window_goes_on_behind_octets}
+use Rattle.net_io.proofs.file_window.Law.{a_window_goes_on_behind_octets}
 use Rattle.pcap_frames.proofs.Windows.{held_octets}
 use Rattle.pcap_frames.proofs.reading.take_held.Goals as goal
 

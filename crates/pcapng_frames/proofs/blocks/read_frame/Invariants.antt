@@ -1,7 +1,7 @@
 use Rattle.std.proofs.Common.{◌≡◌, ◌≤◌, ◌+◌, ◌-◌, ◌<◌, ◌^◌, ℕ, [], IsTrue, Ok, length, drop}
 use Rattle.std.specs.Prelude.{vec_capacity}
 use Rattle.net_io.specs.Depot.{octets_of, OnlyReads}
-use Rattle.file_window.specs.Window.{IsFrom}
+use Rattle.net_io.specs.file_window.Window.{IsFrom}
 use Rattle.pcapng_frames.specs.declared.fault.NgStop.TheVariants.{ReadFault}
 use Rattle.pcapng_frames.specs.Reader.{NgChain, next_at}
 use Rattle.pcapng_frames.specs.inside.Table.{KeepsTable}

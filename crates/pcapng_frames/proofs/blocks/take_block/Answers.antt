@@ -1,5 +1,5 @@
 use Rattle.net_io.specs.Depot.{octets_of}
-use Rattle.file_window.proofs.Law.{a_window_goes_on_behind_octets}
+use Rattle.net_io.proofs.file_window.Law.{a_window_goes_on_behind_octets}
 use Rattle.pcapng_frames.proofs.blocks.take_block.Goals as goal
 
 pub returns-in_ok-take_section-in-168627466-clause-ahead : goal.returns-in_ok-take_section-in-168627466-clause-ahead

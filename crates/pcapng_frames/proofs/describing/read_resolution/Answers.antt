@@ -2,11 +2,11 @@ use Rattle.std.proofs.Common.{arith, ◌≡◌, ◌≤◌, ◌+◌, ◌∙◌, a
 use Rattle.std.proofs.lemmas.List.{length-drop}
 use Rattle.net_io.specs.Depot.{octets_of}
 use Rattle.net_io.proofs.Law.{reads_go_on, reads_may_be_answered_otherwise}
-use Rattle.file_window.specs.Window.{IsFrom}
+use Rattle.net_io.specs.file_window.Window.{IsFrom}
 use Rattle.pcapng_frames.specs.declared.fault.NgStop.TheVariants.{ReadFault}
 use Rattle.pcapng_frames.specs.Options.{option_at}
 use Rattle.pcapng_frames.proofs.Answers.{by_question}
-use Rattle.file_window.proofs.Law.{a_window_goes_on_behind_octets}
+use Rattle.net_io.proofs.file_window.Law.{a_window_goes_on_behind_octets}
 use Rattle.pcapng_frames.proofs.OptionLists.{resolution_fault, resolution_end, option_step}
 use Rattle.pcapng_frames.proofs.describing.read_resolution.Goals as goal
 

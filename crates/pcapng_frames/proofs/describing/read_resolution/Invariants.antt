@@ -1,6 +1,6 @@
 use Rattle.std.proofs.Common.{◌≡◌, ◌+◌, ◌<◌, ◌^◌, ℕ, IsTrue, None, Ok, length, drop}
 use Rattle.net_io.specs.Depot.{octets_of, OnlyReads}
-use Rattle.file_window.specs.Window.{IsFrom}
+use Rattle.net_io.specs.file_window.Window.{IsFrom}
 use Rattle.pcapng_frames.specs.declared.fault.NgStop.TheVariants.{ReadFault}
 use Rattle.pcapng_frames.specs.Options.{resolution_at}
 use Rattle.pcapng_frames.proofs.describing.read_resolution.Given as goal

@@ -1,9 +1,9 @@
 use Rattle.std.proofs.Common.{arith, ◌+◌, ◌-◌, ◌∙◌, ap, sym, None, drop}
 use Rattle.net_io.specs.Depot.{octets_of}
-use Rattle.file_window.specs.Numbers.{ordered_number}
+use Rattle.net_io.specs.file_window.Numbers.{ordered_number}
 use Rattle.pcapng_frames.specs.Options.{resolution_at}
 use Rattle.pcapng_frames.proofs.Answers.{by_question}
-use Rattle.file_window.proofs.Law.{a_window_goes_on_behind_octets, a_number_of_a_window_is_the_files}
+use Rattle.net_io.proofs.file_window.Law.{a_window_goes_on_behind_octets, a_number_of_a_window_is_the_files}
 use Rattle.pcapng_frames.proofs.OptionLists.{interface_wrong, interface_right}
 use Rattle.pcapng_frames.proofs.describing.take_interface.Goals as goal
 

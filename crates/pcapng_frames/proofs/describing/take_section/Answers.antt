@@ -1,6 +1,6 @@
 use Rattle.std.proofs.Common.{arith, ◌∙◌, sym, ap, drop}
-use Rattle.file_window.specs.Numbers.{ordered_number}
-use Rattle.file_window.proofs.Law.{a_number_of_a_window_is_the_files}
+use Rattle.net_io.specs.file_window.Numbers.{ordered_number}
+use Rattle.net_io.proofs.file_window.Law.{a_number_of_a_window_is_the_files}
 use Rattle.pcapng_frames.proofs.OptionLists.{section_wrong, section_right}
 use Rattle.pcapng_frames.proofs.describing.take_section.Goals as goal
 

@@ -3,7 +3,7 @@ use Rattle.std.proofs.lemmas.Result.{err_from_is_err_and}
 use Rattle.net_io.specs.Depot.{octets_of}
 use Rattle.pcapng_frames.specs.Packet.{packet_at}
 use Rattle.pcapng_frames.specs.Block.{packet_block}
-use Rattle.file_window.proofs.Law.{a_window_goes_on_behind_octets}
+use Rattle.net_io.proofs.file_window.Law.{a_window_goes_on_behind_octets}
 use Rattle.pcapng_frames.proofs.Packets.{packet_front, packet_given}
 use Rattle.pcapng_frames.proofs.taking.take_packet.Goals as goal
 

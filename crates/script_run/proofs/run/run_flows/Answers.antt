@@ -1,12 +1,12 @@
 use Rattle.std.proofs.Common.{◌≡◌, ◌<◌, ◌+◌, [], ◌∷◌, ◌++◌, length, length-append, refl, ap, ◌∙◌, arith, Some}
 use Rattle.std.specs.Prelude.{slice_get}
-use Rattle.flow_lines.specs.declared.flow.FlowLine.{FlowLine}
-use Rattle.flow_lines.specs.declared.hop.Hop.{Hop}
-use Rattle.flow_lines.specs.Hop.{node_of}
+use Rattle.label_commands.specs.declared.flow_lines.flow.FlowLine.{FlowLine}
+use Rattle.label_commands.specs.declared.flow_lines.hop.Hop.{Hop}
+use Rattle.label_commands.specs.flow_lines.Hop.{node_of}
 use Rattle.std.specs.Prelude.{All}
 use Rattle.label_commands.specs.Script.{before}
 use Rattle.call_report.specs.Outside.{Outside}
-use Rattle.flow_access.specs.Valid.{plan_of}
+use Rattle.label_flow.specs.flow_access.Valid.{plan_of}
 use Rattle.script_run.proofs.Names.{input_is_kept}
 use Rattle.script_run.proofs.Answering.{at_place}
 use Rattle.script_run.proofs.Underway.{under_way_at_first}

@@ -2,8 +2,8 @@ use Rattle.std.proofs.Common.{refl, Some}
 use Rattle.script_lines.specs.Form.{with_translations}
 use Rattle.label_commands.proofs.Law.{scripts_are_sound}
 use Rattle.call_report.specs.Outside.{Outside}
-use Rattle.script_input.specs.Answer.{HopsAnswer}
-use Rattle.script_input.proofs.Law.{hops_are_answered, answers_read, ends_answered, ends_without_script}
+use Rattle.call_report.specs.script_input.Answer.{HopsAnswer}
+use Rattle.call_report.proofs.script_input.Law.{hops_are_answered, answers_read, ends_answered, ends_without_script}
 use Rattle.static_law.specs.Cover.{IsLinkFound, cover_text, cover_says}
 use Rattle.static_law.proofs.top.answer.Goals as goal
 

@@ -1,5 +1,5 @@
 use Rattle.std.proofs.Common.{ℕ, ◌%◌, ap, ◌∙◌}
-use Rattle.octet_grammar.proofs.Octets.{octets_of}
+use Rattle.mls_label.proofs.octet_grammar.Octets.{octets_of}
 use Rattle.ip_headers.specs.Sum.{ones_add}
 use Rattle.version_cross.proofs.Words.{ones_sums-modulo}
 use Rattle.version_cross.proofs.checksum.address_sum.Goals as goal

@@ -1,7 +1,7 @@
 use Rattle.std.proofs.Common.{◌≡◌, sym, subst, arith, true, false, length, Result, Ok, Err}
 use Rattle.std.specs.Prelude.{is_err, OnOk}
 use Rattle.std.proofs.lemmas.Bool.{both_ways, true≢false}
-use Rattle.address_text.specs.Prefix.{same_block}
+use Rattle.domain_map.specs.address_text.Prefix.{same_block}
 use Rattle.domain_map.proofs.Longests.{more_ranked, none_passes, same_block-refl}
 use Rattle.domain_map.proofs.address_list.AddressList.push.Goals as goal
 

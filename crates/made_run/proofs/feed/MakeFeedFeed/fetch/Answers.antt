@@ -1,5 +1,5 @@
 use Rattle.std.proofs.Common.{◌+◌, ap, ◌∙◌, arith}
-use Rattle.made_capture.specs.Maker.{Making}
+use Rattle.made_run.specs.made_capture.Maker.{Making}
 use Rattle.made_run.proofs.Fetching.{has_fetched, begun_after, made_after, packets_after}
 use Rattle.made_run.proofs.feed.MakeFeedFeed.fetch.Goals as goal
 

@@ -1,4 +1,4 @@
-use Rattle.script_input.specs.Neighbours.{hop_with}
+use Rattle.call_report.specs.script_input.Neighbours.{hop_with}
 use Rattle.netlabel_run.proofs.Found.{found_is}
 use Rattle.netlabel_run.proofs.agree.AgreementCompares.compare.Goals as goal
 

@@ -1,5 +1,5 @@
 use Rattle.std.proofs.Common.{[], refl, sym, ap, ◌∙◌, subst, arith}
-use Rattle.capture_reader.specs.Frame.{CapturedFrame}
+use Rattle.captures.specs.Frame.{CapturedFrame}
 use Rattle.call_report.specs.declared.status.Status.TheVariants.{OutOfMemory}
 use Rattle.call_report.specs.Outside.{Outside}
 use Rattle.ripso_border_run.specs.declared.lines.Counts.{Counts}

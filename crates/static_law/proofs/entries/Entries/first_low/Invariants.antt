@@ -1,6 +1,6 @@
 use Rattle.std.proofs.Common.{ℕ, ◌<◌, Contains}
 use Rattle.domain_map.specs.declared.static_map.StaticEntry.{StaticEntry}
-use Rattle.node_readings.specs.Meaning.{meaning_of}
+use Rattle.label_commands.specs.node_readings.Meaning.{meaning_of}
 use Rattle.static_law.specs.Covered.{MeansNoLess}
 use Rattle.static_law.proofs.entries.Entries.first_low.Given as goal
 

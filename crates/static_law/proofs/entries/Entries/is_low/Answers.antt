@@ -1,4 +1,4 @@
-use Rattle.node_readings.specs.Meaning.{meaning_of}
+use Rattle.label_commands.specs.node_readings.Meaning.{meaning_of}
 use Rattle.static_law.proofs.Places.{low_by}
 use Rattle.static_law.proofs.entries.Entries.is_low.Goals as goal
 

@@ -1,4 +1,4 @@
-use Rattle.script_input.specs.Neighbours.{hop_with}
+use Rattle.call_report.specs.script_input.Neighbours.{hop_with}
 use Rattle.static_law.proofs.Coverage.{link_found_is}
 use Rattle.static_law.proofs.top.CoverageCompares.compare.Goals as goal
 

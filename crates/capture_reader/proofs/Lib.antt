@@ -1,5 +1,0 @@
-pub mod Parts
-pub mod Leaving
-pub mod Beginning
-pub mod Written
-pub mod Law

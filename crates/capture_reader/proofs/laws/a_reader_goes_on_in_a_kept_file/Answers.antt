@@ -1,5 +1,0 @@
-use Rattle.capture_reader.proofs.Law.{a_reader_goes_on_in_a_kept_file}
-use Rattle.capture_reader.proofs.laws.a_reader_goes_on_in_a_kept_file.Goals as goal
-
-pub returns : goal.returns
-returns c = a_reader_goes_on_in_a_kept_file

@@ -1,5 +1,0 @@
-pub mod Frame
-pub mod CaptureFile
-pub mod Reader
-pub mod Written
-pub mod inside

@@ -1,7 +1,0 @@
-use Rattle.net_io.specs.Memory.{memory_state}
-use Rattle.pcap_frames.specs.Reader.{IsReady}
-use Rattle.capture_tests.proofs.pcap.frames_are.Given as goal
-
--- the reader stands in its file
-abbrev pub invariant-loop-count : goal.invariant-loop-count
-invariant-loop-count l = record { ready : IsReady (memory_state l.depot) l.frames }

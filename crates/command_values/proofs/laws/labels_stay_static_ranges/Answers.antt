@@ -1,5 +1,0 @@
-use Rattle.command_values.proofs.Law.{labels_stay_static_ranges}
-use Rattle.command_values.proofs.laws.labels_stay_static_ranges.Goals as goal
-
-pub returns : goal.returns
-returns c = labels_stay_static_ranges

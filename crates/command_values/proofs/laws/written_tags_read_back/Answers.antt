@@ -1,5 +1,0 @@
-use Rattle.command_values.proofs.Law.{written_tags_read_back}
-use Rattle.command_values.proofs.laws.written_tags_read_back.Goals as goal
-
-pub returns : goal.returns
-returns c = written_tags_read_back

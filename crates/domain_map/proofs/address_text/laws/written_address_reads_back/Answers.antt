@@ -1,0 +1,5 @@
+use Rattle.domain_map.proofs.address_text.Law.{written_address_reads_back}
+use Rattle.domain_map.proofs.address_text.laws.written_address_reads_back.Goals as goal
+
+pub returns : goal.returns
+returns c = written_address_reads_back

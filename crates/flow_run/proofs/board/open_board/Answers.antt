@@ -1,5 +1,0 @@
-use Rattle.flow_run.proofs.Beginnings.{board_tables}
-use Rattle.flow_run.proofs.board.open_board.Goals as goal
-
-pub begin-requires-clause-network : goal.begin-requires-clause-network
-begin-requires-clause-network g c = board_tables _ _ _ _ _ _ _ c.in_ok-plan.ensures c.in_ok-steps.ensures c.requires.stands.beside.0 c.requires.network

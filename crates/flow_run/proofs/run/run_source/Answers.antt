@@ -1,9 +1,0 @@
-use Rattle.std.proofs.Common.{rules}
-use Rattle.flow_run.proofs.Ending.{behind_so}
-use Rattle.flow_run.proofs.run.run_source.Goals as goal
-
-pub returns : goal.returns
-returns g c =
-    behind_so c.args.place.now _ _ _ _ (g.D.Depot.state c.end_loans.new._depot) _ (g.S.Sink.state c.end_loans.new._out) _ c.end_loans.new._report.waiting.items _ _ _
-    (search (rules, c.run_read-end.ensures.same.0)) (search (rules, c.run_read-end.ensures.same.1)) (search (rules, c.run_read-end.ensures.same.2))
-    (behind_so c.args.place.now _ _ _ _ _ _ _ _ _ _ _ _ c.end_loans.ensures.depot c.end_loans.ensures.out c.end_loans.ensures.report c.run_read-end.ensures.ends)

@@ -1,8 +1,0 @@
-use Rattle.std.proofs.Common.{rules, ◌≡◌, length}
-use Rattle.flow_lines.proofs.Law.{hops_are_of_named_nodes}
-use Rattle.flow_tests.proofs.rounds.flow_of.Goals as goal
-
-pub returns : goal.returns
-returns g c =
-    let one : length c.add.new.self ≡ 1 = search rules in
-    rw one at (hops_are_of_named_nodes _ _ _ _ _ _ _ c.in-Ok.ensures.ok)

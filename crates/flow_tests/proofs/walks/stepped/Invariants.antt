@@ -1,8 +1,0 @@
-use Rattle.std.proofs.Common.{◌≡◌, ◌-◌}
-use Rattle.flow_tests.proofs.walks.stepped.Given as goal
-
-abbrev pub invariant-loop-publisher : goal.invariant-loop-publisher
-invariant-loop-publisher g l = l.publisher.plan ≡ l.fn.publisher.plan
-
-abbrev pub decreases-loop-publisher : goal.decreases-loop-publisher
-decreases-loop-publisher g l = l.steps - l.publisher.version

@@ -1,0 +1,5 @@
+use Rattle.label_flow.proofs.packet_walk.Law.{walks_are_cut_in_one_way as law}
+use Rattle.label_flow.proofs.packet_walk.laws.walks_are_cut_in_one_way.Goals as goal
+
+pub returns : goal.returns
+returns c = law

@@ -1,5 +1,0 @@
-use Rattle.made_capture.proofs.Law.{made_packets_have_40_octets}
-use Rattle.made_capture.proofs.laws.made_packets_have_40_octets.Goals as goal
-
-pub returns : goal.returns
-returns c = made_packets_have_40_octets

@@ -1,5 +1,0 @@
-use Rattle.made_capture.proofs.Law.{shorter_captures_begin_longer_ones}
-use Rattle.made_capture.proofs.laws.shorter_captures_begin_longer_ones.Goals as goal
-
-pub returns : goal.returns
-returns c = shorter_captures_begin_longer_ones

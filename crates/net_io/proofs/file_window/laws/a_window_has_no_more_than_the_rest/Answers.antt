@@ -1,0 +1,5 @@
+use Rattle.net_io.proofs.file_window.Law.{a_window_has_no_more_than_the_rest as law}
+use Rattle.net_io.proofs.file_window.laws.a_window_has_no_more_than_the_rest.Goals as goal
+
+pub returns : goal.returns
+returns c = law

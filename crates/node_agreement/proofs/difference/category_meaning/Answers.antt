@@ -1,7 +1,0 @@
-use Rattle.std.proofs.Common.{sym, ◌∙◌}
-use Rattle.node_agreement.proofs.Numbers.{local_within}
-use Rattle.node_agreement.proofs.difference.category_meaning.Goals as goal
-
-pub category-requires : goal.category-requires
-category-requires c =
-    local_within c.args.def.now c.args.wire c.in-Some.category c.requires.definition c.requires.wire (sym c.local_category.ensures ∙ c.in-Some.is)

@@ -1,5 +1,0 @@
-use Rattle.node_agreement.proofs.Law.{last_edition_agrees_more as law}
-use Rattle.node_agreement.proofs.laws.last_edition_agrees_more.Goals as goal
-
-pub returns : goal.returns
-returns c = record { agree = law.agree; stays = law.stays; later = law.later }

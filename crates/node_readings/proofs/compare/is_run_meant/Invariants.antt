@@ -1,6 +1,0 @@
-use Rattle.std.proofs.Common.{◌≤◌, ◌<◌}
-use Rattle.node_readings.specs.inside.Meant.{AreMeant}
-use Rattle.node_readings.proofs.compare.is_run_meant.Given as goal
-
-abbrev pub invariant-loop-category : goal.invariant-loop-category
-invariant-loop-category l = AreMeant l.cats l.reading.cats (λ c. (l.first ≤ c) × (c < l.category)) l.other_reading.cats

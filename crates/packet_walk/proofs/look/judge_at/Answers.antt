@@ -1,6 +1,0 @@
-use Rattle.std.proofs.Common.{arith, length, ap}
-use Rattle.node_tables.proofs.Law.{nodes_keep_their_number}
-use Rattle.packet_walk.proofs.look.judge_at.Goals as goal
-
-pub look-requires : goal.look-requires
-look-requires c v x from to is = omega (arith, c.requires, ap length is, nodes_keep_their_number c.args.viewer.now.plan.nodes c.args.viewer.now.plan.steps v)

@@ -1,4 +1,0 @@
-use Rattle.report_tests.proofs.reading.opened.Goals as goal
-
-pub returns : goal.returns
-returns g c = c.in-Ok.ensures.keeps (g.D.Depot.state c.args.depot.now)

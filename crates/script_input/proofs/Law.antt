@@ -1,3 +1,0 @@
--- How a call ends that reads a script, and how one that answers it, over all that any program says: terms of `Type 1`, which no clause can state.
-pub use Rattle.script_input.proofs.Scripts.{in_file, content_of, content_holds, content_told, IsRefused, ReadsScript, ends_without_script, IsAnswering, answers_read, ends_answered}
-pub use Rattle.script_input.proofs.Answering.{hops_are_answered, found_once, one_answer}

@@ -1,0 +1,5 @@
+use Rattle.script_lines.proofs.command_values.Law.{written_sixteen_octets_read_back}
+use Rattle.script_lines.proofs.command_values.laws.written_sixteen_octets_read_back.Goals as goal
+
+pub returns : goal.returns
+returns c = written_sixteen_octets_read_back
