@@ -52,20 +52,37 @@ const FIFTEEN: &str =
 const LONGEST: &str =
     "a23456789_123456789_123456789_123456789_123456789_123456789_123456789_123456789_123456789_123456789_123456789_123456789_1234567";
 
-fn read(alloc: Global, line: &str) -> Result<FlowLine, LineStop> {
+/// The nodes `a` and `b`.
+fn two_nodes(alloc: Global) -> Result<NodeNames, LineStop> {
     let mut nodes = NodeNames::empty(alloc);
     for name in ["a", "b"] {
         if let Some(name) = read_name(name.as_bytes()) {
             nodes.add(name)?;
         }
     }
-    let mut flows = Flows::empty(alloc);
+    Ok(nodes)
+}
+
+/// What a flow line says under these flows, with so many steps above it.
+fn read_under(
+    alloc: Global,
+    nodes: &NodeNames,
+    flows: &Flows,
+    before: u32,
+    line: &str,
+) -> Result<FlowLine, LineStop> {
     let mut words = Vec::new(alloc);
-    words_into(ABOVE.as_bytes(), &mut words)?;
-    let above = read_flow("s", &nodes, &flows, 2, ABOVE.len(), behind_first(&words))?;
-    flows.push(above)?;
     words_into(line.as_bytes(), &mut words)?;
-    read_flow("s", &nodes, &flows, 4, line.len(), behind_first(&words))
+    read_flow("s", nodes, flows, before, line.len(), behind_first(&words))
+}
+
+/// What a flow line says under `ABOVE`.
+fn read(alloc: Global, line: &str) -> Result<FlowLine, LineStop> {
+    let nodes = two_nodes(alloc)?;
+    let mut flows = Flows::empty(alloc);
+    let above = read_under(alloc, &nodes, &flows, 2, ABOVE)?;
+    flows.push(above)?;
+    read_under(alloc, &nodes, &flows, 4, line)
 }
 
 fn behind_first<'a, 'b>(words: &'b [Word<'a>]) -> &'b [Word<'a>] {

@@ -116,7 +116,7 @@ const FAULTS: [(&str, u32, usize, Kind); 44] = [
 fn tells_the_first_fault(rt: HostRuntime) {
     for (text, line, octet, kind) in FAULTS {
         let wanted = ScriptFault { line, octet, kind };
-        let found = read_script(rt.alloc(), text.as_bytes(), "s").err();
+        let found = stop(rt.alloc(), text.as_bytes());
         assert_eq!(rt; found, Some(ScriptStop::Fault(wanted)), "of {text:?}");
     }
 }
@@ -222,13 +222,19 @@ fw
 fn reads_scripts(rt: HostRuntime) {
     for (text, wanted) in SCRIPTS {
         let script = read_script(rt.alloc(), text.as_bytes(), "s").expect(&rt, "a script");
-        let mut said = Vec::new(rt.alloc());
-        append_steps(&rt, &script, &mut said);
-        append_flows(&rt, rt.alloc(), &script, &mut said);
-        append_nodes(&rt, &script, &mut said);
+        let said = said_by(&rt, rt.alloc(), &script);
         assert_eq!(rt; said.as_slice(), wanted.as_bytes());
         assert_eq!(rt; script.readings.as_slice().len(), script.nodes.len());
     }
+}
+
+/// What a script says, as in `SCRIPTS`.
+fn said_by(rt: &impl Abort, alloc: Global, script: &Script) -> Vec<u8> {
+    let mut said = Vec::new(alloc);
+    append_steps(rt, script, &mut said);
+    append_flows(rt, alloc, script, &mut said);
+    append_nodes(rt, script, &mut said);
+    said
 }
 
 fn append_steps(rt: &impl Abort, script: &Script, said: &mut Vec<u8>) {

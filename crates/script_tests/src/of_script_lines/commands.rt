@@ -1,7 +1,9 @@
 //! Commands of each form, copied and written.
 
 use super::said_by;
-use script_lines::{Row, command_of, write_step};
+use script_lines::{Command, Row, command_of, write_step};
+use std::alloc::Global;
+use std::process::Abort;
 
 /// Lines, and what their commands are written as.
 const FORMS: [(&str, &str); 33] = [
@@ -85,14 +87,24 @@ const FORMS: [(&str, &str); 33] = [
     ("mgmt protocols", "mgmt protocols"),
 ];
 
+/// The command of a line.
+fn command(rt: &impl Abort, alloc: Global, line: &str) -> Command {
+    let said = said_by(rt, alloc, line).expect(rt, "said");
+    command_of(said.row, said.fields).expect(rt, "command")
+}
+
+/// The written form of a copy.
+fn copied(rt: &impl Abort, alloc: Global, command: &Command) -> Vec<u8> {
+    let copy = command.copy(alloc).expect(rt, "memory");
+    let mut out = Vec::new(alloc);
+    write_step(&copy, &mut out).expect(rt, "memory");
+    out
+}
+
 #[test]
 fn reads_copies_and_writes_each_form(rt: HostRuntime) {
     for (line, form) in FORMS {
-        let said = said_by(&rt, rt.alloc(), line).expect(&rt, "said");
-        let command = command_of(said.row, said.fields).expect(&rt, "command");
-        let copy = command.copy(rt.alloc()).expect(&rt, "memory");
-        let mut out = Vec::new(rt.alloc());
-        write_step(&copy, &mut out).expect(&rt, "memory");
+        let out = copied(&rt, rt.alloc(), &command(&rt, rt.alloc(), line));
         assert_eq!(rt; out.as_slice(), form.as_bytes(), "of {line}");
     }
 }
