@@ -1,6 +1,8 @@
-//! Test material, for tests alone: packets and scripts that were worked by hand, each in one place under a name that says what it is.
+//! Test material, for tests alone: packets and scripts that were worked by hand, each in one place under a name that says what it is, and
+//! what a test asks of an answer.
 #![tactic(auto)]
 
+pub mod checks;
 pub mod packets;
 pub mod scripts;
 
