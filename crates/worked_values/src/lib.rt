@@ -1,8 +1,6 @@
-//! Test material, for tests alone: packets and scripts that were worked by hand, each in one place under a name that says what it is, and
-//! what a test asks of an answer.
+//! Test material, for tests alone: packets and scripts that were worked by hand, each in one place under a name that says what it is.
 #![tactic(auto)]
 
-pub mod checks;
 pub mod packets;
 pub mod scripts;
 
