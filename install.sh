@@ -1,5 +1,6 @@
 #!/bin/sh
-# Installs the proved programs and the library for C with their man pages, completions and pages below PREFIX, or takes them away again. It builds nothing.
+# Installs the proved programs and the library for C with their man pages, completions and pages below PREFIX, or takes them away again. It builds nothing. A
+# program stands in libexec, and in bin the script that runs it.
 
 # Whoever installs, everybody may read what is installed.
 umask 022
@@ -42,9 +43,11 @@ one() {
 
 # Each file as a line: its mode, where it lies in the repository, and its name below PREFIX. A program may have a man page and completions of its own.
 files() {
+    echo "644 lib/run.sh libexec/netlabel/run.sh"
     for name in $(programs); do
         use_program "$name"
-        echo "755 ${program#"$here/"} bin/$name"
+        echo "755 ${program#"$here/"} libexec/netlabel/$name"
+        echo "755 $name bin/$name"
         one 644 "docs/$name.1" "share/man/man1/$name.1"
         one 644 "completions/$name.bash" "share/bash-completion/completions/$name"
         one 644 "completions/$name.zsh" "share/zsh/site-functions/_$name"
@@ -127,10 +130,10 @@ uninstall_all() {
     files | while read -r _mode _source target; do
         [ ! -e "$root/$target" ] || rm -- "$root/$target" || exit 1
     done || exit 1
-    [ ! -d "$root/share/doc/netlabel" ] || find "$root/share/doc/netlabel" -depth -type d -exec rmdir -- {} + 2>/dev/null
-    if [ -d "$root/share/doc/netlabel" ]; then
-        echo "install.sh: left what it didn't install in $root/share/doc/netlabel" >&2
-    fi
+    for folder in "$root/share/doc/netlabel" "$root/libexec/netlabel"; do
+        [ ! -d "$folder" ] || find "$folder" -depth -type d -exec rmdir -- {} + 2>/dev/null
+        [ ! -d "$folder" ] || echo "install.sh: left what it didn't install in $folder" >&2
+    done
     echo "netlabel is taken away from $root."
 }
 

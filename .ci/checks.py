@@ -4,7 +4,6 @@ import pathlib
 import re
 import subprocess
 import sys
-import tempfile
 
 sys.dont_write_bytecode = True
 import calls
@@ -125,27 +124,18 @@ for path in sorted(set(re.findall(r"`(\w+/(?:src|proofs|specs)/[\w/]+\.(?:rt|ant
 
 
 # The examples, captures that are made, and what is promised of names of files, each in a folder of its own, by the proved programs.
-def proved(call):
-    """What is wrong with what a call gives."""
-    with tempfile.TemporaryDirectory() as made:
-        folder = pathlib.Path(made)
-        call.prepare(folder)
-        before = calls.held(folder)
-        try:
-            with (folder / calls.PRINTED).open("wb") as printed:
-                run = subprocess.run([top / call.program, *call.words], cwd=folder, stdin=subprocess.DEVNULL, stdout=printed, stderr=subprocess.PIPE, timeout=60)
-        except subprocess.TimeoutExpired:
-            return [f"{call.name}: it hadn't ended after a minute"]
-        unproved = [f"{call.name}: {call.program} said {run.stderr!r}"] if run.stderr else []
-        after = calls.held(folder)
-        return unproved + calls.faults(call, run.returncode, after.pop(calls.PRINTED), before, after)
+def calls_of_proved():
+    made = [*calls.examples(), *calls.kernel_captures(), *calls.NAMES, *calls.OF_REPORT, *calls.MAKING, *calls.PCAPNG, *calls.BORDER, *calls.AUDITS]
+    made += [*calls.LONG, *calls.LONG_BORDER, *calls.LONG_AUDITS]
+    with calls.installed({program: calls.proved(program) for program in {call.program for call in made}}) as scripts:
+        return [fault for call in made for fault in calls.made(call, scripts)]
 
 
 if "--pages" not in sys.argv:
     if subprocess.run([top / "prove", *sorted({call.program for call in calls.examples()})]).returncode:
         failures.append("the programs aren't proved and built, so none of their calls was made")
     else:
-        failures += [fault for call in [*calls.examples(), *calls.kernel_captures(), *calls.NAMES, *calls.OF_REPORT, *calls.MAKING, *calls.PCAPNG, *calls.BORDER, *calls.AUDITS, *calls.LONG, *calls.LONG_BORDER, *calls.LONG_AUDITS] for fault in proved(call)]
+        failures += calls_of_proved()
 
 print("\n".join(failures) or "the repository's own checks passed")
 sys.exit(1 if failures else 0)

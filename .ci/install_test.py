@@ -9,8 +9,8 @@ import sys
 import tempfile
 
 TOP = pathlib.Path(__file__).resolve().parent.parent
-PARTS = ["install.sh", "lib", "include", "completions", "docs", "examples", "VERSION", "LICENSE", "LICENSE-MIT", "LICENSE-APACHE", "README.md", "CHANGELOG.md", "CONTRIBUTING.md"]
-INSTALLED = ["bin/netlabel", "share/man/man1/netlabel.1", "share/bash-completion/completions/netlabel", "share/zsh/site-functions/_netlabel",
+PARTS = ["install.sh", "lib", "include", "completions", "docs", "examples", "VERSION", "LICENSE", "LICENSE-MIT", "LICENSE-APACHE", "README.md", "CHANGELOG.md", "CONTRIBUTING.md", "netlabel", "netlabel_cover", "netlabel_audit", "netlabel_report", "ripso_border"]
+INSTALLED = ["libexec/netlabel/run.sh", "libexec/netlabel/netlabel", "libexec/netlabel/netlabel_report", "bin/netlabel", "share/man/man1/netlabel.1", "share/bash-completion/completions/netlabel", "share/zsh/site-functions/_netlabel",
              "bin/netlabel_cover", "share/man/man1/netlabel_cover.1", "share/bash-completion/completions/netlabel_cover",
              "share/zsh/site-functions/_netlabel_cover", "bin/ripso_border", "share/man/man1/ripso_border.1",
              "share/bash-completion/completions/ripso_border", "share/zsh/site-functions/_ripso_border",

@@ -2,9 +2,9 @@
 field; then of each with the script that was run. What report and script say is read here by docs/formats.md and docs/scripts.md alone. Prints
 `N passed, M failed`.
 
-    python3 .ci/report_test.py [PROGRAM]
+    python3 .ci/report_test.py [--proved]
 
-Without a program it is compiled with checks, once for all calls, by `rt try`.
+By the proved program, or else by the unproved one.
 """
 import csv
 import io
@@ -16,11 +16,8 @@ import sys
 
 sys.dont_write_bytecode = True
 TOP = pathlib.Path(__file__).resolve().parent.parent
-sys.path.insert(0, str(TOP / "lib"))
 import calls
-import unproved
 
-SECONDS = 600
 COLUMNS = ("report line step node answer lines flow input number became label receiver carrier denial name octet category cause hop versions packets passed denied "
            "capture kind at limit most text").split()
 WITH_OCTET = {"BadHeader", "BadOption", "UnknownDoi", "TagNotAllowed", "AlreadyLabelled"}
@@ -146,22 +143,6 @@ def answers_of(program, asked):
         yield ran.returncode, ran.stdout
 
 
-def unproved_answers(asked):
-    """The same, compiled with checks."""
-    unproved.say = lambda text: None
-    with unproved.private_folder() as folder:
-        trial = unproved.Trial("netlabel_report", pathlib.Path(folder) / "cases", SECONDS)
-        trial.folder.mkdir()
-        begun = []
-        for number, words in enumerate(asked):
-            private = pathlib.Path(folder) / str(number)
-            private.mkdir()
-            begun.append(unproved.asking(trial, private, [os.fsencode(word) for word in words]))
-        trial.run()
-        for finish in begun:
-            yield finish()
-
-
 def differs(words, status, told, wanted):
     """Whether a call told something else than what is wanted, which is said."""
     if status == 0 and told == wanted:
@@ -171,15 +152,16 @@ def differs(words, status, told, wanted):
     return True
 
 
-def main(program=None):
+def main(is_proved=False):
     os.chdir(TOP)
+    program = calls.proved("netlabel_report") if is_proved else calls.unproved("netlabel_report")
     asked = questions()
     calls_made = [words for words, _, _ in asked]
-    answers = answers_of(program, calls_made) if program else unproved_answers(calls_made)
+    answers = answers_of(program, calls_made)
     failed = [differs(words, status, read(printed.decode()), wanted) for (words, read, wanted), (status, printed) in zip(asked, answers)]
     print(f"{failed.count(False)} passed, {failed.count(True)} failed")
     return 1 if any(failed) else 0
 
 
 if __name__ == "__main__":
-    sys.exit(main(*sys.argv[1:]))
+    sys.exit(main("--proved" in sys.argv))

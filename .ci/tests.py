@@ -17,13 +17,10 @@ from typing import Callable, List, NamedTuple
 
 sys.dont_write_bytecode = True
 TOP = pathlib.Path(__file__).resolve().parent.parent
-sys.path.insert(0, str(TOP / "lib"))
 import calls
-import unproved
 
-WHAT = """Runs every crate's tests, every example, the captures of a Linux kernel and the promises on names of files, compiled with checks by
-`rt try`; and the checks of the pages and of the trusted text. It proves nothing, tries no must-fail edit, and runs no proved program: `.ci/run` does
-that."""
+WHAT = """Runs every crate's tests, every example, the captures of a Linux kernel and the promises on names of files, compiled with checks;
+and the checks of the pages and of the trusted text. It proves nothing, tries no must-fail edit, and runs no proved program: `.ci/run` does that."""
 
 # The repository's own checks: scripts with an exit status, each with its words.
 SCRIPTS = {
@@ -33,7 +30,10 @@ SCRIPTS = {
     "installing": ["install_test.py"],
     "netlabel and prove with a stand-in for rt": ["scripts_test.py"],
 }
+PROGRAMS = ["netlabel", "netlabel_cover", "netlabel_audit", "ripso_border", "netlabel_report"]
 SECONDS = 600
+# The status of `netlabel` where it has no program to run.
+NO_PROGRAM = 125
 
 
 class Result(NamedTuple):
@@ -56,21 +56,6 @@ def without_hints(folder):
     as well. That would take a third of the time of all, so `sh` does nothing there."""
     (pathlib.Path(folder) / "sh").symlink_to("/bin/false")
     return {**os.environ, "PATH": f"{folder}:{os.environ['PATH']}"}
-
-
-# The threads of this process have one working folder.
-WORKING_FOLDER = threading.Lock()
-
-
-@contextlib.contextmanager
-def inside(folder):
-    """In this folder, as a call of a program is: one thread at a time. Everything else here has an absolute name."""
-    with WORKING_FOLDER:
-        os.chdir(folder)
-        try:
-            yield
-        finally:
-            os.chdir(TOP)
 
 
 def of_calls(found):
@@ -101,42 +86,14 @@ def crate_tests(name, environment):
 
 def calls_of(program):
     """The calls that are made before any proof."""
-    made = [*calls.examples(), *calls.kernel_captures(), *calls.NAMES, *calls.MAKING, *calls.PCAPNG, *calls.BORDER, *calls.AUDITS, *calls.UNANSWERED]
+    made = [*calls.examples(), *calls.kernel_captures(), *calls.NAMES, *calls.OF_REPORT, *calls.MAKING, *calls.PCAPNG, *calls.BORDER, *calls.AUDITS]
     return [call for call in made if call.program == program]
 
 
 def all_calls(program):
-    """Each call of a program in a folder of its own; the program is compiled once for all of them."""
-    unproved.say = lambda text: None
-    made = calls_of(program)
-    with unproved.private_folder() as folder:
-        trial = unproved.Trial(program, pathlib.Path(folder) / "cases", SECONDS)
-        trial.folder.mkdir()
-        begun = [begin(trial, pathlib.Path(folder) / str(number), call) for number, call in enumerate(made)]
-        trial.run()
-        if not trial.printed:
-            return Result(0, [f"examples: rt try gave no answer:\n{trial.told[-2000:]}"])
-        return of_calls([end(*call) for call in begun])
-
-
-def begin(trial, folder, call):
-    private = folder.with_suffix(".private")
-    folder.mkdir()
-    private.mkdir()
-    call.prepare(folder)
-    before = calls.held(folder)
-    with inside(folder):
-        finish = unproved.asking(trial, private, call.words)
-    return call, folder, before, finish
-
-
-def end(call, folder, before, finish):
-    with inside(folder):
-        try:
-            status, report = finish()
-        except unproved.NoAnswer:
-            status, report = calls.NO_ANSWER, b""
-    return calls.faults(call, status, report, before, calls.held(folder))
+    """Each call of a program, which is built once and kept."""
+    with calls.installed({program: calls.unproved(program)}) as scripts:
+        return of_calls([calls.made(call, scripts) for call in calls_of(program)])
 
 
 def through_a_link():
@@ -149,10 +106,8 @@ def through_a_link():
         call.prepare(folder)
         before = calls.held(folder)
         ran = called(["../netlabel", *call.words], cwd=folder)
-        wrong = calls.faults(call, ran.returncode, ran.stdout, before, calls.held(folder))
-    if ran.stderr and b"unproved" not in ran.stderr:
-        wrong.append(f"netlabel says {ran.stderr!r}")
-    return of_calls([wrong])
+        said = b"".join(line for line in ran.stderr.splitlines(True) if b"unproved" not in line)
+        return of_calls([calls.faults(call, ran.returncode, ran.stdout, said, before, calls.held(folder))])
 
 
 def without_what_it_needs():
@@ -160,16 +115,16 @@ def without_what_it_needs():
     found = []
     with tempfile.TemporaryDirectory() as made:
         folder = pathlib.Path(made)
-        for tool in ("readlink", "sed", "grep", "awk", "find"):
+        for tool in ("awk", "cut", "find", "grep", "mkdir", "readlink", "sed", "sh", "sha256sum", "sort"):
             (folder / tool).symlink_to(subprocess.check_output(["which", tool], text=True).strip())
         (folder / "netlabel").write_bytes((TOP / "netlabel").read_bytes())
         main = folder / "crates/netlabel_run/src/main.rt"
         main.parent.mkdir(parents=True)
         main.write_text("")
         (folder / "crates.txt").write_text("netlabel_run:\n")
-        for missing in ("isn't the netlabel repository", "rt isn't on the path"):
+        for missing in ("has neither the netlabel repository nor its programs", "rt isn't on the path"):
             ran = called(["/bin/sh", folder / "netlabel", "show", "x"], env={"PATH": made})
-            is_told = ran.returncode == calls.NO_ANSWER and not ran.stdout and missing in ran.stderr.decode()
+            is_told = ran.returncode == NO_PROGRAM and not ran.stdout and missing in ran.stderr.decode()
             found.append([] if is_told else [f"netlabel doesn't say what is missing ({missing}): {ran}"])
             (folder / "lib").symlink_to(TOP / "lib") if not (folder / "lib").exists() else None
     return of_calls(found)
@@ -191,8 +146,8 @@ def checks(with_proved, environment):
     if with_proved:
         yield Check("calls of the proved program", lambda: script(["checks.py"]))
     yield Check("examples, captures of a kernel, captures that are made, names of files", lambda: all_calls("netlabel"))
-    for program in unproved.FORMS:
-        if program != "netlabel" and calls_of(program):
+    for program in PROGRAMS[1:]:
+        if calls_of(program):
             yield Check(f"calls of {program}", lambda program=program: all_calls(program))
     yield Check("netlabel by a link", through_a_link)
     # `rt ci` runs these too, proved.
@@ -200,7 +155,8 @@ def checks(with_proved, environment):
         yield Check(name, lambda name=name: crate_tests(name, environment))
     yield Check("netlabel without what it needs", without_what_it_needs)
     yield Check("the library for C", lambda: script(["c_test.py", *["--build"] * with_proved]))
-    yield Check("reports of the examples as JSON and as CSV", lambda: script(["report_test.py", *[str(TOP / "netlabel_report")] * with_proved]))
+    yield Check("reports of the examples as JSON and as CSV", lambda: script(["report_test.py", *["--proved"] * with_proved]))
+    yield Check("failing calls", lambda: script(["failures_test.py", *["--proved"] * with_proved]))
     for name, words in SCRIPTS.items():
         yield Check(name, lambda words=words: script(words))
 
@@ -217,7 +173,7 @@ def timed(check):
 def main():
     form = argparse.ArgumentParser(description=WHAT)
     form.add_argument("--jobs", type=int, default=len(os.sched_getaffinity(0)), help="so many at a time; as many as processors, if left out")
-    form.add_argument("--proved", action="store_true", help="behind `rt ci`, which ran the crates' tests: the calls of the proved program in their place, which is proved and built where it isn't")
+    form.add_argument("--proved", action="store_true", help="after `rt ci`, which ran the crates' tests: the calls of the proved program in their place, which is proved and built where it isn't")
     form.add_argument("--only", default="", metavar="WORD", help="those with this word in their names")
     words = form.parse_args()
     print(WHAT, flush=True)

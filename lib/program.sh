@@ -15,21 +15,9 @@ libraries() {
     sed -n 's/^\([a-z][a-z0-9_]*\) staticlib:.*/\1/p' "${here:?}/crates.txt"
 }
 
+# Whether this is the name of a program.
 is_program() {
-    programs | grep -qx -e "$1"
-}
-
-# The program that a script is called for: that of its name or, where it has another, of the next one that it is a link to.
-named_by() {
-    at=$1
-    until is_program "${at##*/}"; do
-        next=$(readlink -- "$at") || return 1
-        case $next in
-        /*) at=$next ;;
-        *) at=$(dirname -- "$at")/$next ;;
-        esac
-    done
-    echo "${at##*/}"
+    [ -f "$here/crates/$1_run/src/main.rt" ] || [ -f "$here/crates/$1/src/main.rt" ]
 }
 
 # Turns to a program: its crate, the crate's folder, and where it is built.
