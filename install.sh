@@ -84,13 +84,21 @@ can_write() {
     done
 }
 
-# A file is put in place whole: whoever runs the old program meanwhile goes on with it.
+# A file's text, with the version and the prefix in it.
+fill() {
+    case $1 in
+    *.[13] | *.pc) sed "s|@VERSION@|$version|; s|@PREFIX@|$quoted|" "$1" ;;
+    *) cat -- "$1" ;;
+    esac
+}
+
+# A file is put in place whole, from one with a fresh name, so that no link which stands there is followed: whoever runs the old program meanwhile goes on with it.
 put() {
-    mkdir -p -- "$(dirname -- "$3")" || return 1
-    case $2 in
-    *.[13] | *.pc) sed "s|@VERSION@|$version|; s|@PREFIX@|$quoted|" "$2" >"$3.new" ;;
-    *) cp -- "$2" "$3.new" ;;
-    esac && chmod "$1" "$3.new" && mv -f -- "$3.new" "$3"
+    mkdir -p -- "$(dirname -- "$3")" && fresh=$(mktemp -- "$3.XXXXXXXX") || return 1
+    trap 'rm -f -- "$fresh"' EXIT
+    trap 'exit 1' HUP INT TERM
+    fill "$2" >"$fresh" && chmod "$1" "$fresh" && mv -fT -- "$fresh" "$3" || return 1
+    trap - EXIT HUP INT TERM
 }
 
 # The first program or library that isn't current.
@@ -126,7 +134,11 @@ install_all() {
     echo "netlabel $version is installed."
 }
 
+# Takes away what is there, and says where nothing is.
 uninstall_all() {
+    files | while read -r _mode _source target; do
+        [ ! -e "$root/$target" ] || exit 1
+    done && refuse "$root has no file of netlabel."
     files | while read -r _mode _source target; do
         [ ! -e "$root/$target" ] || rm -- "$root/$target" || exit 1
     done || exit 1
@@ -152,4 +164,8 @@ case $#,${1-/usr/local} in
 *) usage >&2 && exit 2 ;;
 esac
 root=${DESTDIR-}${prefix%/}
-$work
+case $root in
+*[[:cntrl:]]*) refuse "a line end or another control character stands in PREFIX or DESTDIR." ;;
+/* | "") $work ;;
+*) refuse "DESTDIR is no absolute folder: $DESTDIR" ;;
+esac

@@ -2,6 +2,7 @@
 `N passed, M failed`."""
 import os
 import pathlib
+import re
 import shlex
 import shutil
 import subprocess
@@ -147,7 +148,7 @@ def test_install(tree, made):
         tell(f"leaves out {made_in_place}, made in place", f"share/doc/netlabel/examples/{made_in_place}" not in there)
     tell("takes the inputs of examples", "share/doc/netlabel/examples/ripso-border/inside.pcap" in there)
     tell("puts each file below DESTDIR", all(name in there for name in INSTALLED), done.stderr)
-    tell("leaves no half file", not [name for name in there if name.endswith(".new")])
+    tell("leaves no half file", not strays(prefix / "usr", there))
     for crate, name in PROGRAMS.items():
         tell(f"{name} runs", run(prefix / "usr/bin" / name).stdout == f"{crate}\n")
     tell("no other program is there", len(list((prefix / "usr/bin").iterdir())) == len(PROGRAMS))
@@ -157,6 +158,34 @@ def test_install(tree, made):
     tell("pkg-config's file has the prefix without DESTDIR", (prefix / "usr/lib/pkgconfig/netlabel.pc").read_text().startswith("prefix=/usr\n"))
     run(tree / "install.sh", "--uninstall", "/usr", env={**os.environ, "DESTDIR": str(prefix)})
     tell("takes all away again", held(prefix) == [], held(prefix))
+
+
+def strays(prefix, there):
+    """Files that installing doesn't make."""
+    named = re.compile(r"bin/\w+|libexec/netlabel/[\w.]+|lib/(pkgconfig/)?[\w.]+|include/netlabel\.h|share/(man/man[13]|bash-completion/completions|zsh/site-functions)/[\w.]+|share/doc/netlabel/.*")
+    return [name for name in there if not named.fullmatch(name) or (re.search(r"\.\w{8}$", name) and not (TOP / name.removeprefix("share/doc/netlabel/")).exists())]
+
+
+def test_odd_places(tree, made):
+    """A link that is planted isn't followed, what fails leaves no half file, and odd names are refused in words."""
+    prefix, victim = made / "planted", made / "victim"
+    victim.write_text("kept")
+    (prefix / "bin").mkdir(parents=True)
+    for name in ("netlabel", "netlabel.new"):
+        (prefix / "bin" / name).symlink_to(victim)
+    done = run(tree / "install.sh", prefix)
+    tell("no link that stands there is followed", done.returncode == 0 and victim.read_text() == "kept" and not (prefix / "bin/netlabel").is_symlink(), done.stderr)
+    tools = made / "failing"
+    tools.mkdir()
+    (tools / "chmod").write_text('#!/bin/sh\nfor word; do case $word in */bin/ripso_border*) exit 1 ;; esac; done\nexec /bin/chmod "$@"\n')
+    (tools / "chmod").chmod(0o755)
+    failed = run(tree / "install.sh", made / "half", env={**os.environ, "PATH": f"{tools}:{os.environ['PATH']}"})
+    tell("what fails leaves no half file", failed.returncode == 1 and not strays(made / "half", held(made / "half")), f"{failed} {held(made / 'half')}")
+    for word, environment, wanted in ((f"{made}/a\nb", {}, "control character"), ("/usr", {"DESTDIR": "-d"}, "no absolute folder"), ("/usr", {"DESTDIR": f"{made}/a\nb"}, "control character")):
+        refused = run(tree / "install.sh", word, env={**os.environ, **environment})
+        tell(f"{word!r} {environment} is refused", refused.returncode == 1 and wanted in refused.stderr and "Nothing was changed" in refused.stderr, refused)
+    refused = run(tree / "install.sh", "--uninstall", made / "nowhere")
+    tell("nothing is taken away where nothing is", refused.returncode == 1 and "no file of netlabel" in refused.stderr and not refused.stdout, refused)
 
 
 def test_pages():
@@ -194,6 +223,7 @@ def main():
         (tree / "crates.txt").write_text("".join(f"{crate}: ground\n" for crate in [*PROGRAMS, f"{LIBRARY} staticlib"]) + "ground:\n")
         test_install(tree, made)
         test_library(tree, made)
+        test_odd_places(tree, made)
         test_pages()
         folder = made / "files"
         for name in FILES:
