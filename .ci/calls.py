@@ -269,7 +269,7 @@ NAMES = [
     names("hops compared with an empty list", ["b.pcap -"], words=[b"agree", b"s", b"1", b""], status=1, report=None),
     names("no words", [], words=[b"help"], status=1, report=None),
     names("a file of the program's own folder", [], words=[b"show", b"README.md"], status=3, why=f"README.md: {ABSENT}", report=b""),
-    names("a capture through a pipe", [], words=[b"show", b"pipe"], status=3, why="pipe: it is a pipe, which can't be read from its beginning again", report=b"", more=piped),
+    names("a capture through a pipe", [], words=[b"show", b"pipe"], status=0, report=b"packet 1 NotIp\nend packets 1\n", more=piped, left={"pipe": b"no regular file"}),
     names("a link that leads to itself", [], words=[b"show", b"l"], status=3, why="l: Too many levels of symbolic links", report=b"", more=lambda at: (at / "l").symlink_to("l")),
     names("a file below a file", [], words=[b"check", b"s/s"], status=3, why="s/s: Not a directory", report=b""),
     names("a file whose reading fails", [], words=[b"show", b"/proc/self/mem"], status=3, why="/proc/self/mem: Input/output error", report=b""),

@@ -157,6 +157,7 @@ def checks(with_proved, environment):
     yield Check("the library for C", lambda: script(["c_test.py", *["--build"] * with_proved]))
     yield Check("reports of the examples as JSON and as CSV", lambda: script(["report_test.py", *["--proved"] * with_proved]))
     yield Check("failing calls", lambda: script(["failures_test.py", *["--proved"] * with_proved]))
+    yield Check("captures through pipes", lambda: script(["pipes_test.py", *["--proved"] * with_proved]))
     for name, words in SCRIPTS.items():
         yield Check(name, lambda words=words: script(words))
 

@@ -132,7 +132,7 @@ $files
 FILES
     for file in $inputs; do
         [ ! -p "$file" ] || {
-            why="it is a pipe, which can't be read from its beginning again"
+            why="it is a pipe, which is read once, from its beginning to its end"
             return 0
         }
     done

@@ -158,6 +158,14 @@ impl CaptureReader {
         put(read, octets, into)
     }
 
+    /// Whether the next frame stands in what was read, so that `next` reads nothing.
+    pub fn is_ahead(&self) -> bool {
+        match &self.frames {
+            AnyFrames::Pcap(records) => records.is_ahead(),
+            AnyFrames::Pcapng(packets) => packets.is_ahead(),
+        }
+    }
+
     /// The capture's format, which an output of its packets has too.
     pub fn format(&self) -> CaptureFormat
         ensures { result ≡ format_of self.now }

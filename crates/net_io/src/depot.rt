@@ -30,6 +30,11 @@ pub trait Depot {
         self.read_at(name, at, buf)
     }
 
+    /// Whether a read of this name may wait for somebody who writes, as far as is known: lines that are to be seen in time are passed on before.
+    fn may_wait(&self, name: &str) -> bool {
+        false
+    }
+
     /// Protects the file that this name is a name of, there now or later: where a folder's files have several names, a later `create`
     /// by any of them is refused: by another spelling, a symlink or a hard link. Nothing held changes, and no fault is counted.
     /// `RealDepot` says how it tells files apart, and what it doesn't see.

@@ -46,43 +46,56 @@ fn free_identity<R: Files>(files: &R, guard: &Guard, found: &Metadata) -> io::Re
     Ok(identity)
 }
 
-/// Cuts a file that is there to no octets. It is asked for anew once it is open: the name may be another file's by then.
-fn empty_file<R: Files>(files: &R, guard: &Guard, name: &str) -> io::Result<Identity>
+/// A file that was made and is open for appending.
+#[derive(Drop)]
+struct Made<F> {
+    identity: Identity,
+    file: F,
+}
+
+/// The identity of a file that is open, and may be written.
+fn open_identity<R: Files>(files: &R, guard: &Guard, file: &R::File) -> io::Result<Identity>
     ensures { IfOk result (λ identity. Contains guard.now.kept.items identity → ⊥) }
 {
-    let file = OpenOptions::new().write(true).open(files, name)?;
-    let identity = free_identity(files, guard, &file.metadata()?)?;
+    free_identity(files, guard, &file.metadata()?)
+}
+
+/// Cuts a file that is there to no octets. It is asked for anew once it is open: the name may be another file's by then.
+fn empty_file<R: Files>(files: &R, guard: &Guard, name: &str) -> io::Result<Made<R::File>>
+    ensures { IfOk result (λ made. Contains guard.now.kept.items made.identity → ⊥) }
+{
+    let file = OpenOptions::new().append(true).open(files, name)?;
+    let identity = open_identity(files, guard, &file)?;
     file.set_len(0)?;
-    Ok(identity)
+    Ok(Made { identity, file })
 }
 
 /// Makes a file of a name that isn't there. Where it turns out to be a protected one, it is removed again.
-fn new_file<R: Files>(files: &R, guard: &Guard, name: &str) -> io::Result<Identity>
-    ensures { IfOk result (λ identity. Contains guard.now.kept.items identity → ⊥) }
+fn new_file<R: Files>(files: &R, guard: &Guard, name: &str) -> io::Result<Made<R::File>>
+    ensures { IfOk result (λ made. Contains guard.now.kept.items made.identity → ⊥) }
 {
     let file = OpenOptions::new()
-        .write(true)
+        .append(true)
         .create_new(true)
         .open(files, name)?;
-    let free = match file.metadata() {
-        Ok(made) => free_identity(files, guard, &made),
-        Err(fault) => Err(fault),
-    };
-    if free.is_err() {
-        files.remove_file(name)?;
+    match open_identity(files, guard, &file) {
+        Ok(identity) => Ok(Made { identity, file }),
+        Err(fault) => {
+            files.remove_file(name)?;
+            Err(fault)
+        }
     }
-    free
 }
 
 /// Makes the name hold no octets, whether or not it was there, unless it is a name of a guarded file or of something that is no
-/// regular file. What was made is guarded. After an Err each file that was there holds what it held.
-pub fn make_file<R: Files>(files: &R, guard: &mut Guard, name: &str) -> io::Result<()>
+/// regular file. What was made is guarded, and open for appending. After an Err each file that was there holds what it held.
+pub fn make_file<R: Files>(files: &R, guard: &mut Guard, name: &str) -> io::Result<R::File>
     ensures ok { OnOk result (KeepsAnother guard.old.kept.items guard.new.kept.items) }
     ensures err { OnErr result (guard.new.kept.items ≡ guard.old.kept.items) }
     ensures awaited { guard.new.awaited ≡ guard.old.awaited }
 {
     guard.make_room()?;
-    let identity = match files.metadata(name) {
+    let made = match files.metadata(name) {
         Ok(found) => {
             free_identity(files, guard, &found)?;
             empty_file(files, guard, name)?
@@ -90,6 +103,6 @@ pub fn make_file<R: Files>(files: &R, guard: &mut Guard, name: &str) -> io::Resu
         Err(fault) if fault.kind() == io::ErrorKind::NotFound => new_file(files, guard, name)?,
         Err(fault) => return Err(fault),
     };
-    guard.keep(identity);
-    Ok(())
+    guard.keep(made.identity);
+    Ok(made.file)
 }

@@ -1,6 +1,5 @@
 //! The files of the folder that the program runs in. No clause tells what a disk holds: this is the trusted edge.
-ghost use Rattle.std.specs.Prelude.{◌≡◌, ◌≤◌, length, codes, IfOk, OnOk};
-ghost use Rattle.net_io.specs.Depot.{IsPart};
+ghost use Rattle.std.specs.Prelude.{◌≡◌, ◌≤◌, codes, IfOk, OnOk};
 ghost use Rattle.net_io.specs.Faults.{Rose};
 ghost use Rattle.net_io.specs.Memory.{IsFresh};
 ghost use Rattle.net_io.specs.Guarded.{Guards};
@@ -8,14 +7,13 @@ ghost use Rattle.net_io.specs.inside.Kept.{GuardsAlone};
 ghost use Rattle.net_io.specs.declared.fault.IoFault.TheVariants.{Failed, OutOfMemory as IoOutOfMemory};
 
 use crate::guard::Guard;
-use crate::making::{guard_name, make_file};
-use crate::open_file::OpenFile;
+use crate::input::Input;
+use crate::making::guard_name;
+use crate::output::{Output, append_to, make_output};
 use crate::piece::new_piece;
 use crate::{Depot, IoFault, OutOfMemory};
 use std::alloc::Global;
-use std::fs::{File, OpenOptions};
 use std::io;
-use std::io::Write;
 use std::rt::Files;
 
 /// No file reaches this octet: the system counts octets by signed numbers of 64 bits.
@@ -25,7 +23,11 @@ const NO_PLACE: u64 = 1 << 63;
 const STANDARD_OUTPUT: &str = "/dev/stdout";
 
 /// The files of the program's folder. Their content isn't told. Each kind of call has one number of faults,
-/// which is that number for every name; it stays at its type's end. The file that was read last stays open.
+/// which is that number for every name; it stays at its type's end. The file that was read last stays open, and so does the one that was made
+/// last: what is appended goes there, whatever has its name meanwhile.
+///
+/// What is no regular file, as a pipe, is read once, from its beginning to its end: a read that goes back fails, but for one of its first four
+/// octets before any other, and so does one after another file was read.
 ///
 /// `create` is refused for each name of a file that was protected, that a `create` has made, or that is standard output; for what
 /// is no regular file, as a folder, a device, a terminal or a pipe, which isn't opened; and for a symlink that leads nowhere. Files
@@ -36,7 +38,8 @@ pub struct RealDepot<R: Files> {
     files: R,
     guard: Guard,
     piece: Vec<u8>,
-    open: Option<OpenFile<R::File>>,
+    input: Input<R>,
+    output: Option<Output<R::File>>,
     read_faults: u64,
     create_faults: u64,
     append_faults: u64,
@@ -54,7 +57,8 @@ impl<R: Files + Drop> RealDepot<R> {
             files,
             guard,
             piece: new_piece(alloc)?,
-            open: None,
+            input: Input::new(alloc),
+            output: None,
             read_faults: 0,
             create_faults: 0,
             append_faults: 0,
@@ -84,40 +88,6 @@ fn counted(fault: io::Error, faults: &mut u64) -> IoFault
     IoFault::Failed
 }
 
-/// One write at the end of a file. A disk that takes nothing of some octets has failed.
-fn append_piece<R: Files>(files: &R, name: &str, bytes: &[u8]) -> io::Result<usize>
-    ensures { IfOk result (λ n. IsPart n bytes.now) }
-{
-    let mut file = OpenOptions::new().append(true).open(files, name)?;
-    let n = file.write(bytes)?;
-    if n == 0 && !bytes.is_empty() {
-        return Err(io::Error::from(io::ErrorKind::WriteZero));
-    }
-    Ok(n)
-}
-
-/// One read of a file from the octet `at` on, into the front of a buffer. The file stays open, in place of the one that was.
-fn read_piece<R: Files>(
-    alloc: Global,
-    files: &R,
-    open: &mut Option<OpenFile<R::File>>,
-    name: &str,
-    at: u64,
-    piece: &mut [u8],
-) -> io::Result<usize>
-    ensures { IfOk result (λ n. n ≤ length piece.old) }
-{
-    if let Some(file) = open
-        && file.has_name(name)
-    {
-        return file.read(at, piece);
-    }
-    let file = File::open(files, name)?;
-    *open = None;
-    open.insert(OpenFile::new(alloc, name, file)?)
-        .read(at, piece)
-}
-
 impl<R: Files + Drop> Depot for RealDepot<R> {
     ghost use Rattle.net_io.specs.Real.{real_state, real_guard};
 
@@ -128,10 +98,9 @@ impl<R: Files + Drop> Depot for RealDepot<R> {
         if at >= NO_PLACE {
             return Ok(0);
         }
-        let alloc = *self.piece.allocator();
         let most = buf.len().min(self.piece.len());
         let piece = &mut self.piece[..most];
-        match read_piece(alloc, &self.files, &mut self.open, name, at, piece) {
+        match self.input.read(&self.files, name, at, piece) {
             Ok(n) => {
                 buf[..n].copy_from_slice(&piece[..n]);
                 Ok(n)
@@ -144,10 +113,9 @@ impl<R: Files + Drop> Depot for RealDepot<R> {
         if at >= NO_PLACE {
             return Ok(0);
         }
-        let alloc = *self.piece.allocator();
         let most = buf.len().min(self.piece.len());
         let piece = &mut buf[..most];
-        match read_piece(alloc, &self.files, &mut self.open, name, at, piece) {
+        match self.input.read(&self.files, name, at, piece) {
             Ok(n) => Ok(n),
             Err(fault) => Err(counted(fault, &mut self.read_faults)),
         }
@@ -161,15 +129,20 @@ impl<R: Files + Drop> Depot for RealDepot<R> {
         guard_name(&self.files, &mut self.guard, name)
     }
 
+    fn may_wait(&self, name: &str) -> bool {
+        self.input.may_wait(name)
+    }
+
     fn create(&mut self, name: &str) -> Result<(), IoFault> {
-        match make_file(&self.files, &mut self.guard, name) {
+        let alloc = *self.piece.allocator();
+        match make_output(alloc, &self.files, &mut self.guard, &mut self.output, name) {
             Ok(()) => Ok(()),
             Err(fault) => Err(counted(fault, &mut self.create_faults)),
         }
     }
 
     fn append(&mut self, name: &str, bytes: &[u8]) -> Result<usize, IoFault> {
-        match append_piece(&self.files, name, bytes) {
+        match append_to(&self.files, &mut self.output, name, bytes) {
             Ok(n) => Ok(n),
             Err(fault) => Err(counted(fault, &mut self.append_faults)),
         }

@@ -53,19 +53,21 @@ pub(crate) fn show<D: Depot, S: Sink>(
             return report.end(out, packets_limit(), Status::Limit);
         }
         shown += 1;
-        match add_packet(&mut report, shown, &packet, &mut label, out) {
+        let waits = depot.may_wait(file) && !reader.is_ahead();
+        match add_packet(&mut report, shown, &packet, &mut label, waits, out) {
             Ok(()) => {}
             Err(fault) => return Status::after_write(fault),
         }
     }
 }
 
-/// Adds the line of a packet, and hands on what waits where that is a piece.
+/// Adds the line of a packet, and hands on what waits where that is a piece, or the next packet may have to be waited for.
 fn add_packet<S: Sink>(
     report: &mut Report,
     number: u64,
     packet: &PacketIn,
     label: &mut Label,
+    waits: bool,
     out: &mut S,
 ) -> Result<(), IoFault>
     ensures { (text : List ℕ) × IsShown packet.now text
@@ -73,6 +75,7 @@ fn add_packet<S: Sink>(
         result (S.state out.old) (S.state out.new) }
 {
     match write_packet(number, packet, label, &mut report.waiting) {
+        Ok(()) if waits => report.flush(out),
         Ok(()) => report.pass(out),
         Err(OutOfMemory) => Err(IoFault::OutOfMemory),
     }

@@ -7,13 +7,14 @@ ghost use Rattle.pcap_frames.specs.Reader.{IsReady, IsAnswerOf, SpeaksOf};
 
 use crate::header::CAPTURE_HEAD;
 use crate::reading::{read_record, read_start};
+use crate::record::{RECORD_HEAD, read_record_head};
 use crate::{CaptureHeader, FrameHead, FrameStop};
 use net_io::{Depot, Window};
 use std::alloc::Global;
 use std::marker::Model;
 
 /// A reader of one capture: the name of its file, the header, the octet at which it stands, and a window of 65,536 octets
-/// of the file, which one read fills. A longer record takes what the window lacks by a read of its own.
+/// of the file. A longer record takes what the window lacks by a read of its own.
 #[derive(Drop)]
 pub struct Frames {
     name: String,
@@ -105,6 +106,15 @@ impl Frames {
             into.clear();
         }
         read
+    }
+
+    /// Whether the next record stands in what was read, so that `next` reads nothing.
+    pub fn is_ahead(&self) -> bool {
+        let ahead = self.window.ahead();
+        match read_record_head(self.header.order, self.place, ahead) {
+            Ok(Some(head)) => RECORD_HEAD + head.captured as usize <= ahead.len(),
+            Ok(None) | Err(_) => false,
+        }
     }
 
     /// The link type of all frames: 1 (Ethernet), 101 (raw IP), 228 (IPv4) or 229 (IPv6).

@@ -210,6 +210,7 @@ pub fn read_start<D: Depot>(
     name: &str,
     window: &mut Window,
 ) -> Result<CaptureHeader, FrameStop>
+    requires empty { window.old ≡ [] }
     ensures answer { IsTrue (D.state depot.old).tells
         → IsAnswerOf (λ header. header) result
         (capture_header (octets_of ((D.state depot.old).held name.now))) }
@@ -223,7 +224,7 @@ pub fn read_start<D: Depot>(
         (D.state depot.old)
         (D.state depot.new) }
 {
-    window.fill(depot, name, 0)?;
+    window.reach(depot, name, 0, CAPTURE_HEAD)?;
     let header = read_header(window.ahead())?;
     window.pass(CAPTURE_HEAD);
     Ok(header)

@@ -8,6 +8,7 @@ ghost use Rattle.pcapng_frames.specs.Capture.{is_pcapng, frames_at};
 ghost use Rattle.pcapng_frames.specs.Reader.{IsNgReady, IsNgAnswer, NgChain, next_at, found_here, begun_block};
 ghost use Rattle.pcapng_frames.specs.inside.Parts.{rest_at, IsAhead};
 
+use crate::ahead::has_packet;
 use crate::blocks::{Turn, read_block, read_frame};
 use crate::look::stop_at;
 use crate::section::SectionTable;
@@ -17,7 +18,7 @@ use std::alloc::Global;
 use std::marker::Model;
 
 /// A reader of one pcapng capture: the name of its file, the present section, the octet at which it stands, and a window
-/// of 65,536 octets of the file, which one read fills. A longer packet takes what the window lacks by a read of its own.
+/// of 65,536 octets of the file. A longer packet takes what the window lacks by a read of its own.
 #[derive(Drop)]
 pub struct NgFrames {
     name: String,
@@ -165,5 +166,10 @@ impl NgFrames {
             &mut self.section,
             into,
         )
+    }
+
+    /// Whether the next packet stands in what was read, so that `next` reads nothing.
+    pub fn is_ahead(&self) -> bool {
+        has_packet(self.section.order(), self.place, self.window.ahead())
     }
 }

@@ -6,6 +6,7 @@
 //! function that takes it, and a case of `said_by` in `specs/Block.antt`.
 #![tactic(auto)]
 
+mod ahead;
 mod blocks;
 mod describing;
 mod fault;

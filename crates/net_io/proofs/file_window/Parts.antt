@@ -26,3 +26,11 @@ go_behind file at k n have octets into front le read =
     let held : take have rest ≡ take have (drop k octets) = octets_of_a_window_are_the_files file at k have octets front le in
     let behind : drop have rest ≡ drop (at + (k + have)) file = drop-drop have k (drop at file) ∙ drop-drop (k + have) at file in
     read ∙ sym (take-add have n rest ∙ ap (λ l. l ++ take n (drop have rest)) held ∙ ap (λ l. take have (drop k octets) ++ take n l) behind)
+
+-- a window with more octets behind it stands in the file where it stood
+pub grows : (file : List ℕ) (at n : ℕ) (octets new : List ℕ) → IsFrom file at octets → length new ≡ length octets + n → new ≡ octets ++ take n (drop (at + length octets) file)
+    → IsFrom file at new
+grows file at n octets new front count more =
+    ap (λ k. take k (drop at file)) count ∙ take-add (length octets) n (drop at file)
+    ∙ ap (λ l. l ++ take n (drop (length octets) (drop at file))) front
+    ∙ ap (λ l. octets ++ take n l) (drop-drop (length octets) at file) ∙ sym more

@@ -1,5 +1,5 @@
 //! The part of a file that a reader keeps: what one read gave, from the octet at which the reader stands on.
-ghost use Rattle.std.specs.Prelude.{◌≡◌, ◌+◌, ◌-◌, ◌<◌, ◌≤◌, ◌^◌, IsTrue, IsSome, [], length, take, drop, min, vec_len, OnOk, OnErr, IfOk};
+ghost use Rattle.std.specs.Prelude.{◌≡◌, ◌+◌, ◌-◌, ◌++◌, ◌<◌, ◌≤◌, ◌^◌, IsTrue, IsSome, [], length, take, drop, min, vec_len, OnOk, OnErr, IfOk};
 ghost use Rattle.net_io.specs.Depot.{octets_of, OnlyReads};
 ghost use Rattle.net_io.specs.file_window.Window.{IsFrom};
 
@@ -15,6 +15,45 @@ fn new_room(alloc: Global) -> Result<Vec<u8>, AllocError>
     ensures { IfOk result (λ room. vec_len room ≡ 65536) }
 {
     vec![in alloc; 0u8; WINDOW]
+}
+
+/// Moves the octets from `start` to `end` to a buffer's front.
+fn pack(buffer: &mut Vec<u8>, start: usize, end: usize)
+    requires order { start ≤ end }
+    requires within { end ≤ vec_len buffer.old }
+    ensures moved { take (end - start) buffer.new.items
+        ≡ take (end - start) (drop start buffer.old.items) }
+    ensures len { vec_len buffer.new ≡ vec_len buffer.old }
+{
+    buffer.copy_within(start..end, 0);
+}
+
+/// One read of the file, from the octet `from` on, into all of a buffer that follows its first `have` octets. Answers how many came.
+fn read_after<D: Depot>(
+    depot: &mut D,
+    name: &str,
+    from: u64,
+    have: usize,
+    buffer: &mut Vec<u8>,
+) -> Result<usize, IoFault>
+    requires room { have < vec_len buffer.old }
+    ensures octets { IfOk result (λ n. IsTrue (D.state depot.old).tells
+        → take (have + n) buffer.new.items ≡ take have buffer.old.items
+        ++ take n (drop from (octets_of ((D.state depot.old).held name.now)))) }
+    ensures front { take have buffer.new.items ≡ take have buffer.old.items }
+    ensures fits { IfOk result (λ n. have + n ≤ vec_len buffer.old) }
+    ensures len { vec_len buffer.new ≡ vec_len buffer.old }
+    ensures end { IfOk result (λ n. IsTrue (D.state depot.old).tells → n ≡ 0
+        → length (octets_of ((D.state depot.old).held name.now)) ≤ from) }
+    ensures present { OnOk result
+        (IsTrue (D.state depot.old).tells → IsSome ((D.state depot.old).held name.now)) }
+    ensures place { IfOk result (λ n. from + n < 2 ^ 64) }
+    ensures frame { OnlyReads IoFault.Failed result name.now
+        (D.state depot.old)
+        (D.state depot.new) }
+{
+    let n = depot.read_over(name, from, &mut buffer[have..])?;
+    Ok(n)
 }
 
 /// A window of a file: the octets from `start` to `end` are still to be given.
@@ -104,8 +143,35 @@ impl Window {
         Ok(())
     }
 
-    /// Reads on where the window, which stands at `place`, has fewer than `need` octets, so that it has them or all that the
-    /// file has from there on.
+    /// One read of the file, on from what the window has, which stands at `place`. Answers how many octets came.
+    fn read_on<D: Depot>(&mut self, depot: &mut D, name: &str, place: u64) -> Result<usize, IoFault>
+        requires room { length self.old < 65536 }
+        requires place { place + length self.old < 2 ^ 64 }
+        ensures octets { IfOk result (λ n. (IsTrue (D.state depot.old).tells → self.new ≡ self.old
+            ++ take n (drop (place + length self.old)
+            (octets_of ((D.state depot.old).held name.now))))) }
+        ensures count { IfOk result (λ n. length self.new ≡ length self.old + n) }
+        ensures end { IfOk result (λ n. IsTrue (D.state depot.old).tells → n ≡ 0
+            → length (octets_of ((D.state depot.old).held name.now)) ≤ place + length self.old) }
+        ensures present { OnOk result
+            (IsTrue (D.state depot.old).tells → IsSome ((D.state depot.old).held name.now)) }
+        ensures err { OnErr result (self.new ≡ self.old) }
+        ensures place { place + length self.new < 2 ^ 64 }
+        ensures frame { OnlyReads IoFault.Failed result name.now
+            (D.state depot.old)
+            (D.state depot.new) }
+    {
+        let have = self.end - self.start;
+        pack(&mut self.octets, self.start, self.end);
+        self.start = 0;
+        self.end = have;
+        let n = read_after(depot, name, place + have as u64, have, &mut self.octets)?;
+        self.end = have + n;
+        Ok(n)
+    }
+
+    /// Reads on while the window, which stands at `place`, has fewer than `need` octets, so that it has them or all that the
+    /// file has from there on. It reads no more often than that takes, so that what a stream has given can be used before more comes.
     pub fn reach<D: Depot>(
         &mut self,
         depot: &mut D,
@@ -122,13 +188,17 @@ impl Window {
         ensures enough { OnOk result
             (IsTrue (D.state depot.old).tells → length self.new < need → length self.new
             ≡ length (drop place (octets_of ((D.state depot.old).held name.now)))) }
+        ensures present { OnOk result (IsTrue (D.state depot.old).tells → length self.old < need
+            → IsSome ((D.state depot.old).held name.now)) }
         ensures place { place + length self.new < 2 ^ 64 }
         ensures frame { OnlyReads IoFault.Failed result name.now
             (D.state depot.old)
             (D.state depot.new) }
     {
-        if self.ahead().len() < need {
-            self.fill(depot, name, place)?;
+        while self.ahead().len() < need {
+            if self.read_on(depot, name, place)? == 0 {
+                break;
+            }
         }
         Ok(())
     }

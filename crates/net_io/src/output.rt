@@ -1,0 +1,65 @@
+//! The file that was made last, which stays open.
+ghost use Rattle.std.specs.Prelude.{◌≡◌, OnOk, OnErr, IfOk};
+ghost use Rattle.net_io.specs.Depot.{IsPart};
+
+use crate::guard::Guard;
+use crate::making::make_file;
+use std::alloc::Global;
+use std::fs::{OpenFile, OpenOptions};
+use std::io;
+use std::io::Write;
+use std::rt::Files;
+
+/// A file that was made, and its name then: what is appended goes there, whatever has its name meanwhile.
+#[derive(Drop)]
+pub struct Output<F> {
+    name: String,
+    file: F,
+}
+
+/// Makes a file, which stays open in place of the one that was.
+pub fn make_output<R: Files>(
+    alloc: Global,
+    files: &R,
+    guard: &mut Guard,
+    output: &mut Option<Output<R::File>>,
+    name: &str,
+) -> io::Result<()> {
+    let own_name = String::from_str(alloc, name)?;
+    *output = None;
+    let file = make_file(files, guard, name)?;
+    *output = Some(Output {
+        name: own_name,
+        file,
+    });
+    Ok(())
+}
+
+/// One write at the end of an open file. A disk that takes nothing of some octets has failed.
+fn append_piece<F: Write>(file: &mut F, bytes: &[u8]) -> io::Result<usize>
+    ensures { IfOk result (λ n. IsPart n bytes.now) }
+{
+    let n = file.write(bytes)?;
+    if n == 0 && !bytes.is_empty() {
+        return Err(io::Error::from(io::ErrorKind::WriteZero));
+    }
+    Ok(n)
+}
+
+/// One write at the end of a file: of the one that was made last, where it had this name, else of the one that has it.
+pub fn append_to<R: Files>(
+    files: &R,
+    output: &mut Option<Output<R::File>>,
+    name: &str,
+    bytes: &[u8],
+) -> io::Result<usize>
+    ensures { IfOk result (λ n. IsPart n bytes.now) }
+{
+    if let Some(made) = output
+        && made.name.as_str() == name
+    {
+        return append_piece(&mut made.file, bytes);
+    }
+    let mut file = OpenOptions::new().append(true).open(files, name)?;
+    append_piece(&mut file, bytes)
+}
