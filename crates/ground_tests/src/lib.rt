@@ -2,6 +2,8 @@
 #![tactic(auto)]
 
 #[cfg(test)]
+mod checks;
+#[cfg(test)]
 mod of_ip_headers;
 #[cfg(test)]
 mod of_mls_label;

@@ -5,12 +5,14 @@ ghost use Rattle.ip_headers.specs.declared.version.Version.TheVariants.{V4, V6};
 ghost use Rattle.ip_headers.specs.Swapped.{IsWholeOption};
 ghost use Rattle.ip_headers.specs.Written.{IsLabelOption};
 
+use crate::checks::same;
 use ip_headers::*;
-use std::test::*;
+use std::alloc::Global;
+use std::process::Abort;
 use worked_values::octets_of;
 use worked_values::packets::{ALERT_6, BITMAP_16, CUT_4, LABELLED_4, PLAIN_4, WRONG_SUM_4};
 
-const FAULTS4: [(&str, &str, usize, HeadKind); 27] = [
+const FAULTS4: &[(&str, &str, usize, HeadKind)] = &[
     ("no octet", "", 0, HeadKind::Short),
     ("one octet", "45", 1, HeadKind::Short),
     (
@@ -155,7 +157,7 @@ const FAULTS4: [(&str, &str, usize, HeadKind); 27] = [
     ),
 ];
 
-const FAULTS6: [(&str, &str, usize, HeadKind); 23] = [
+const FAULTS6: &[(&str, &str, usize, HeadKind)] = &[
     ("no octet", "", 0, HeadKind::Short),
     ("one octet", "60", 1, HeadKind::Short),
     (
@@ -287,7 +289,7 @@ const FAULTS6: [(&str, &str, usize, HeadKind); 23] = [
 ];
 
 /// Packets of version 4, the octet of the first option of type 130 and that option, and the octet of the second; 0 where there is none.
-const SOUGHT: [(&str, &str, usize, &str, usize); 8] = [
+const SOUGHT: &[(&str, &str, usize, &str, usize)] = &[
     (
         "no option",
         "4500001c00000000401166cf0a0000010a00000203e8003500080000",
@@ -347,7 +349,7 @@ const SOUGHT: [(&str, &str, usize, &str, usize); 8] = [
 ];
 
 /// Packets of version 4, an option, and the packet with it in place of those of type 130.
-const SWAPPED: [(&str, &str, &str, &str); 11] = [
+const SWAPPED: &[(&str, &str, &str, &str)] = &[
     (
         "alone, for a label option",
         "4600002000000000401189460a0000010a00000282045a8003e8003500080000",
@@ -417,7 +419,7 @@ const SWAPPED: [(&str, &str, &str, &str); 11] = [
 ];
 
 /// Packets of version 4 and an option for which they have no room beside their others.
-const NO_ROOM: [(&str, &str, &str); 2] = [
+const NO_ROOM: &[(&str, &str, &str)] = &[
     (
         "21 octets beside 20 others",
         "4b0000340000000040113b1e0a0000010a000002441405000000000000000000000000000000000082045a8003e8003500080000",
@@ -429,6 +431,8 @@ const NO_ROOM: [(&str, &str, &str); 2] = [
         "8602",
     ),
 ];
+
+const PAYLOAD: [u8; 8] = [0x03, 0xe8, 0, 0x35, 0, 8, 0xe7, 0xbe];
 
 /// DOI 16, tag 1, level 2, categories 1 and 3.
 fn cipso() -> [u8; 11]
@@ -444,83 +448,119 @@ fn calipso() -> [u8; 10]
     [7, 8, 0, 0, 0, 16, 0, 2, 0xbf, 0xd9]
 }
 
-#[test]
-fn first_faults_of_version_4(rt: HostRuntime) -> Result<(), Fail> {
-    for (name, text, octet, kind) in FAULTS4 {
-        let bytes = octets_of(rt.alloc(), text)?;
-        let got = read4(&bytes).err();
-        assert_eq!(rt; got, Some(HeadFault { octet, kind }), "{name}");
-        let front = front4(&bytes).err();
-        assert_eq!(rt; front.is_none(), kind == HeadKind::SecondLabel, "{name}");
-    }
-    Ok(())
+/// The octets of a packet in hexadecimal digits.
+fn octets(rt: &impl Abort, alloc: Global, text: &str) -> Vec<u8> {
+    octets_of(alloc, text).expect(rt, "memory")
+}
+
+/// Ends the test unless these octets are those of a text.
+fn are_octets(rt: &impl Abort, alloc: Global, case: &str, found: &[u8], text: &str) {
+    let wanted = octets(rt, alloc, text);
+    same(rt, case, found, wanted.as_slice());
+}
+
+fn is_refused4(rt: &impl Abort, alloc: Global, name: &str, text: &str, fault: HeadFault) {
+    let bytes = octets(rt, alloc, text);
+    same(rt, name, read4(&bytes).err(), Some(fault));
+    let is_front = front4(&bytes).is_ok();
+    same(rt, name, is_front, fault.kind == HeadKind::SecondLabel);
+}
+
+fn is_refused6(rt: &impl Abort, alloc: Global, name: &str, text: &str, fault: HeadFault) {
+    let bytes = octets(rt, alloc, text);
+    same(rt, name, read6(&bytes).err(), Some(fault));
+    let is_front = front6(&bytes).is_ok();
+    same(rt, name, is_front, fault.kind == HeadKind::SecondLabel);
 }
 
 #[test]
-fn first_faults_of_version_6(rt: HostRuntime) -> Result<(), Fail> {
-    for (name, text, octet, kind) in FAULTS6 {
-        let bytes = octets_of(rt.alloc(), text)?;
-        let got = read6(&bytes).err();
-        assert_eq!(rt; got, Some(HeadFault { octet, kind }), "{name}");
-        let front = front6(&bytes).err();
-        assert_eq!(rt; front.is_none(), kind == HeadKind::SecondLabel, "{name}");
+fn first_faults_of_version_4(rt: HostRuntime) {
+    for &(name, text, octet, kind) in FAULTS4 {
+        is_refused4(&rt, rt.alloc(), name, text, HeadFault { octet, kind });
     }
-    Ok(())
 }
 
 #[test]
-fn a_labelled_packet_of_version_4(rt: HostRuntime) -> Result<(), Fail> {
-    let bytes = octets_of(rt.alloc(), LABELLED_4)?;
+fn first_faults_of_version_6(rt: HostRuntime) {
+    for &(name, text, octet, kind) in FAULTS6 {
+        is_refused6(&rt, rt.alloc(), name, text, HeadFault { octet, kind });
+    }
+}
+
+#[test]
+fn a_labelled_packet_of_version_4(rt: HostRuntime) {
+    let bytes = octets(&rt, rt.alloc(), LABELLED_4);
     let option = cipso();
-    let packet = read4(&bytes).ok().ok_or("a packet")?;
-    assert_eq!(rt; packet.hops(), 64);
-    assert_eq!(rt; packet.protocol(), 17);
-    assert_eq!(rt; packet.source(), [10, 0, 0, 1]);
-    assert_eq!(rt; packet.destination(), [10, 0, 0, 2]);
-    assert_eq!(rt; packet.has_others(), false);
-    assert_eq!(rt; packet.payload().len(), 8);
-    let (place, found) = packet.label_option().ok_or("a label option")?;
-    assert_eq!(rt; place, 20);
-    assert_eq!(rt; found, &option[..]);
+    let packet = read4(&bytes).expect(&rt, "a packet");
+    same(
+        &rt,
+        "hops, protocol",
+        (packet.hops(), packet.protocol()),
+        (64, 17),
+    );
+    same(&rt, "source", packet.source(), [10, 0, 0, 1]);
+    same(&rt, "destination", packet.destination(), [10, 0, 0, 2]);
+    same(
+        &rt,
+        "others, length",
+        (packet.has_others(), packet.payload().len()),
+        (false, 8),
+    );
+    same(
+        &rt,
+        "label option",
+        packet.label_option(),
+        Some((20, &option[..])),
+    );
     let mut out = Vec::new(rt.alloc());
-    assert_eq!(rt; rebuild4(&packet, Some(&option), 64, &mut out), Ok(()));
-    assert_eq!(rt; out.as_slice(), bytes.as_slice());
-    let bare = octets_of(
+    same(
+        &rt,
+        "labelled",
+        rebuild4(&packet, Some(&option), 64, &mut out),
+        Ok(()),
+    );
+    same(&rt, "labelled", out.as_slice(), bytes.as_slice());
+    same(&rt, "bare", rebuild4(&packet, None, 64, &mut out), Ok(()));
+    are_octets(
+        &rt,
         rt.alloc(),
+        "bare",
+        &out,
         "4500001c00000000401166cf0a0000010a00000203e8003500080000",
-    )?;
-    assert_eq!(rt; rebuild4(&packet, None, 64, &mut out), Ok(()));
-    assert_eq!(rt; out.as_slice(), bare.as_slice());
-    Ok(())
+    );
 }
 
 #[test]
-fn a_plain_packet_of_version_4(rt: HostRuntime) -> Result<(), Fail> {
-    let bytes = octets_of(rt.alloc(), PLAIN_4)?;
-    let option = cipso();
-    let packet = front4(&bytes).ok().ok_or("a packet")?;
-    assert_eq!(rt; packet.tos(), 0);
-    assert_eq!(rt; packet.id(), 0);
-    assert_eq!(rt; packet.flags_offset(), 0x4000);
-    assert_eq!(rt; packet.label_option().is_none(), true);
+fn a_plain_packet_of_version_4(rt: HostRuntime) {
+    let bytes = octets(&rt, rt.alloc(), PLAIN_4);
+    let packet = front4(&bytes).expect(&rt, "a packet");
+    let fields = (packet.tos(), packet.id(), packet.flags_offset());
+    same(&rt, "fields", fields, (0, 0, 0x4000));
+    same(&rt, "label option", packet.label_option(), None);
     let mut out = Vec::new(rt.alloc());
-    assert_eq!(rt; rebuild4(&packet, Some(&option), 64, &mut out), Ok(()));
-    let labelled = octets_of(rt.alloc(), BITMAP_16)?;
-    assert_eq!(rt; out.as_slice(), labelled.as_slice());
-    Ok(())
+    same(
+        &rt,
+        "labelled",
+        rebuild4(&packet, Some(&cipso()), 64, &mut out),
+        Ok(()),
+    );
+    are_octets(&rt, rt.alloc(), "labelled", &out, BITMAP_16);
+}
+
+/// Ends the test unless a packet has these options of type 130: the first with its octet, and the octet of the second.
+fn has_options(rt: &impl Abort, name: &str, bytes: &[u8], wanted: ((usize, &[u8]), usize)) {
+    let packet = front4(bytes).expect(rt, "a packet");
+    let (first, second) = packet.others(130);
+    let found = (first.unwrap_or((0, &[])), second.unwrap_or(0));
+    same(rt, name, found, wanted);
 }
 
 #[test]
 fn options_of_one_type(rt: HostRuntime) {
-    for (name, text, at, octets, behind) in SOUGHT {
-        let bytes = octets_of(rt.alloc(), text).expect(&rt, "memory");
-        let wanted = octets_of(rt.alloc(), octets).expect(&rt, "memory");
-        let packet = front4(&bytes).expect(&rt, "a packet");
-        let (first, second) = packet.others(130);
-        let (place, option) = first.unwrap_or((0, &[]));
-        assert_eq!(rt; place, at, "{name}");
-        assert_eq!(rt; option, wanted.as_slice(), "{name}");
-        assert_eq!(rt; second.unwrap_or(0), behind, "{name}");
+    for &(name, text, at, option, behind) in SOUGHT {
+        let bytes = octets(&rt, rt.alloc(), text);
+        let option = octets(&rt, rt.alloc(), option);
+        has_options(&rt, name, &bytes, ((at, &option), behind));
     }
 }
 
@@ -528,70 +568,106 @@ fn options_of_one_type(rt: HostRuntime) {
 fn is_whole(option: &[u8]) -> bool
     ensures { IsTrue result → IsWholeOption option.now }
 {
-    option.len() >= 2 && option.len() <= 40 && usize::from(option[1]) == option.len()
+    match option {
+        [_, size, ..] => option.len() <= 40 && usize::from(*size) == option.len(),
+        _ => false,
+    }
+}
+
+/// Writes a packet into `out` with an option in place of those of type 130.
+fn swap(
+    rt: &impl Abort,
+    name: &str,
+    bytes: &[u8],
+    option: &[u8],
+    out: &mut Vec<u8>,
+) -> Result<(), Rebuild> {
+    let packet = read4(bytes).expect(rt, "a packet");
+    assert!(rt; is_whole(option), "{name}");
+    rebuild_swap4(&packet, 130, option, out)
 }
 
 #[test]
 fn another_option_in_place_of_those_of_one_type(rt: HostRuntime) {
-    for (name, text, option, swapped) in SWAPPED {
-        let bytes = octets_of(rt.alloc(), text).expect(&rt, "memory");
-        let option = octets_of(rt.alloc(), option).expect(&rt, "memory");
-        let wanted = octets_of(rt.alloc(), swapped).expect(&rt, "memory");
-        let packet = read4(&bytes).expect(&rt, "a packet");
-        assert!(rt; is_whole(&option), "{name}");
+    for &(name, text, option, swapped) in SWAPPED {
+        let bytes = octets(&rt, rt.alloc(), text);
+        let option = octets(&rt, rt.alloc(), option);
         let mut out = Vec::new(rt.alloc());
-        assert_eq!(rt;
-            rebuild_swap4(&packet, 130, &option, &mut out),
+        same(
+            &rt,
+            name,
+            swap(&rt, name, &bytes, &option, &mut out),
             Ok(()),
-            "{name}"
         );
-        assert_eq!(rt; out.as_slice(), wanted.as_slice(), "{name}");
+        are_octets(&rt, rt.alloc(), name, &out, swapped);
     }
 }
 
 #[test]
 fn no_room_for_another_option(rt: HostRuntime) {
-    for (name, text, option) in NO_ROOM {
-        let bytes = octets_of(rt.alloc(), text).expect(&rt, "memory");
-        let option = octets_of(rt.alloc(), option).expect(&rt, "memory");
-        let packet = read4(&bytes).expect(&rt, "a packet");
-        assert!(rt; is_whole(&option), "{name}");
-        let mut out = octets_of(rt.alloc(), "00").expect(&rt, "memory");
-        let done = rebuild_swap4(&packet, 130, &option, &mut out);
-        assert_eq!(rt; done, Err(Rebuild::NoRoom), "{name}");
-        assert_eq!(rt; out.len(), 0, "{name}");
+    for &(name, text, option) in NO_ROOM {
+        let bytes = octets(&rt, rt.alloc(), text);
+        let option = octets(&rt, rt.alloc(), option);
+        let mut out = octets(&rt, rt.alloc(), "00");
+        same(
+            &rt,
+            name,
+            swap(&rt, name, &bytes, &option, &mut out),
+            Err(Rebuild::NoRoom),
+        );
+        same(&rt, name, out.len(), 0);
     }
 }
 
 #[test]
-fn a_router_alert_keeps_its_place(rt: HostRuntime) -> Result<(), Fail> {
-    let bytes = octets_of(rt.alloc(), ALERT_6)?;
-    let option = calipso();
-    let packet = read6(&bytes).ok().ok_or("a packet")?;
-    assert_eq!(rt; packet.class(), 0);
-    assert_eq!(rt; packet.flow_label(), 0);
-    assert_eq!(rt; packet.hops(), 64);
-    assert_eq!(rt; packet.protocol(), 17);
-    assert_eq!(rt; packet.source()[15], 1);
-    assert_eq!(rt; packet.destination()[15], 2);
-    assert_eq!(rt; packet.has_others(), true);
-    assert_eq!(rt; packet.label_option().is_none(), true);
-    assert_eq!(rt; packet.payload().len(), 8);
+fn a_router_alert_keeps_its_place(rt: HostRuntime) {
+    let bytes = octets(&rt, rt.alloc(), ALERT_6);
+    let packet = read6(&bytes).expect(&rt, "a packet");
+    same(
+        &rt,
+        "class, flow label",
+        (packet.class(), packet.flow_label()),
+        (0, 0),
+    );
+    same(
+        &rt,
+        "hops, protocol",
+        (packet.hops(), packet.protocol()),
+        (64, 17),
+    );
+    same(
+        &rt,
+        "addresses",
+        (packet.source()[15], packet.destination()[15]),
+        (1, 2),
+    );
+    same(
+        &rt,
+        "others, length",
+        (packet.has_others(), packet.payload().len()),
+        (true, 8),
+    );
+    same(&rt, "label option", packet.label_option(), None);
     let mut out = Vec::new(rt.alloc());
-    assert_eq!(rt; rebuild6(&packet, Some(&option), 64, &mut out), Ok(()));
-    let labelled = octets_of(
+    same(
+        &rt,
+        "labelled",
+        rebuild6(&packet, Some(&calipso()), 64, &mut out),
+        Ok(()),
+    );
+    are_octets(
+        &rt,
         rt.alloc(),
+        "labelled",
+        &out,
         "6000000000200040fd000000000000000000000000000001fd00000000000000000000000000000211020708000000100002bfd901040000000005020000010003e8003500080000",
-    )?;
-    assert_eq!(rt; out.as_slice(), labelled.as_slice());
-    assert_eq!(rt; rebuild6(&packet, None, 64, &mut out), Ok(()));
-    assert_eq!(rt; out.as_slice(), bytes.as_slice());
-    Ok(())
+    );
+    same(&rt, "bare", rebuild6(&packet, None, 64, &mut out), Ok(()));
+    same(&rt, "bare", out.as_slice(), bytes.as_slice());
 }
 
 #[test]
-fn packets_by_their_fields(rt: HostRuntime) -> Result<(), Fail> {
-    let payload = octets_of(rt.alloc(), "03e800350008e7be")?;
+fn a_packet_of_version_4_by_its_fields(rt: HostRuntime) {
     let fields = Fields4 {
         tos: 0,
         id: 0,
@@ -601,11 +677,18 @@ fn packets_by_their_fields(rt: HostRuntime) -> Result<(), Fail> {
         source: [10, 0, 0, 1],
         destination: [10, 0, 0, 2],
     };
-    let option = cipso();
-    let want = octets_of(rt.alloc(), BITMAP_16)?;
     let mut out = Vec::new(rt.alloc());
-    assert_eq!(rt; write4(&fields, Some(&option), &payload, &mut out), Ok(()));
-    assert_eq!(rt; out.as_slice(), want.as_slice());
+    same(
+        &rt,
+        "written",
+        write4(&fields, Some(&cipso()), &PAYLOAD, &mut out),
+        Ok(()),
+    );
+    are_octets(&rt, rt.alloc(), "its octets", &out, BITMAP_16);
+}
+
+#[test]
+fn a_packet_of_version_6_by_its_fields(rt: HostRuntime) {
     let fields = Fields6 {
         class: 0x12,
         flow_label: 0x34567,
@@ -614,29 +697,36 @@ fn packets_by_their_fields(rt: HostRuntime) -> Result<(), Fail> {
         source: [0xfd, 0, 0, 0, 0, 0, 0, 0, 0, 0, 0, 0, 0, 0, 0, 1],
         destination: [0xfd, 0, 0, 0, 0, 0, 0, 0, 0, 0, 0, 0, 0, 0, 0, 2],
     };
-    let option = calipso();
-    let want = octets_of(
+    let mut out = Vec::new(rt.alloc());
+    same(
+        &rt,
+        "written",
+        write6(&fields, Some(&calipso()), &PAYLOAD, &mut out),
+        Ok(()),
+    );
+    are_octets(
+        &rt,
         rt.alloc(),
+        "its octets",
+        &out,
         "612345670018003ffd000000000000000000000000000001fd00000000000000000000000000000211010708000000100002bfd90102000003e800350008e7be",
-    )?;
-    assert_eq!(rt; write6(&fields, Some(&option), &payload, &mut out), Ok(()));
-    assert_eq!(rt; out.as_slice(), want.as_slice());
-    Ok(())
+    );
 }
 
 // The worked sum of RFC 1071, section 3, and a last octet with no partner.
 #[test]
-fn sums_of_words(rt: HostRuntime) -> Result<(), Fail> {
-    assert_eq!(rt;
-        ones_sum(&[0x00, 0x01, 0xf2, 0x03, 0xf4, 0xf5, 0xf6, 0xf7]),
-        0xddf2
-    );
-    assert_eq!(rt; ones_sum(&[0x12]), 0x1200);
-    assert_eq!(rt; ones_sum(&[0x12, 0x34, 0x56]), 0x6834);
-    assert_eq!(rt; ones_sum(&[0xff, 0xff, 0, 1, 0xff, 0xff]), 1);
-    assert_eq!(rt; ones_sum(&[0xff; 7]), 0xff00);
-    assert_eq!(rt; ones_sum(&[0xff; 8]), 0xffff);
-    assert_eq!(rt; ones_sum(&[]), 0);
-    assert_eq!(rt; ones_add(0xffff, 1), 1);
-    Ok(())
+fn sums_of_words(rt: HostRuntime) {
+    let cases: [(&[u8], u16); 7] = [
+        (&[0x00, 0x01, 0xf2, 0x03, 0xf4, 0xf5, 0xf6, 0xf7], 0xddf2),
+        (&[0x12], 0x1200),
+        (&[0x12, 0x34, 0x56], 0x6834),
+        (&[0xff, 0xff, 0, 1, 0xff, 0xff], 1),
+        (&[0xff; 7], 0xff00),
+        (&[0xff; 8], 0xffff),
+        (&[], 0),
+    ];
+    for (octets, sum) in cases {
+        same(&rt, octets, ones_sum(octets), sum);
+    }
+    same(&rt, "with a carry", ones_add(0xffff, 1), 1);
 }

@@ -1,8 +1,9 @@
-use mls_label::{Label, OutOfMemory, write_decimal};
+use crate::checks::{holds, same};
+use mls_label::{Label, write_decimal};
 use mls_range::TextKind::*;
 use mls_range::*;
 use std::alloc::Global;
-use std::test::Fail;
+use std::process::Abort;
 
 /// A text, the octet of its first fault, and what is wrong there.
 type Refused = (&'static str, usize, TextKind);
@@ -21,50 +22,56 @@ fn fault(octet: usize, kind: TextKind) -> Option<TextFault> {
     Some(TextFault { octet, kind })
 }
 
+fn append(rt: &impl Abort, text: &mut Vec<u8>, octets: &[u8]) {
+    text.extend_from_slice(octets).expect(rt, "memory");
+}
+
 /// `s0:c0,c2,c4` and so on, with as many categories.
-fn every_other(alloc: Global, count: u16) -> Result<Vec<u8>, OutOfMemory> {
+fn every_other(rt: &impl Abort, alloc: Global, count: u16) -> Vec<u8> {
     let mut text = Vec::new(alloc);
-    text.extend_from_slice(b"s0")?;
-    let mut separator = b':';
+    append(rt, &mut text, b"s0");
     for i in 0..count {
-        text.push(separator)?;
-        text.push(b'c')?;
-        write_decimal(2 * u64::from(i), &mut text)?;
-        separator = b',';
+        append(rt, &mut text, if i == 0 { b":c" } else { b",c" });
+        write_decimal(2 * u64::from(i), &mut text).expect(rt, "memory");
     }
-    Ok(text)
+    text
+}
+
+/// What is a label, and the one form in which it is written.
+const LABELS: &[(&str, &str)] = &[
+    ("s0", "s0"),
+    ("s255", "s255"),
+    ("s2:c1,c3", "s2:c1,c3"),
+    ("s0:c65534", "s0:c65534"),
+    ("s0:c0.c65534", "s0:c0.c65534"),
+    ("s0:c3,c1,c1.c2", "s0:c1.c3"),
+    ("s0:c0.c1", "s0:c0,c1"),
+    ("s1:c5,c4,c3,c2,c1,c0", "s1:c0.c5"),
+    ("s0:c7,c7,c5.c9", "s0:c5.c9"),
+    ("s0:c10.c12,c14,c13,c0", "s0:c0,c10.c14"),
+    ("s9:c0.c2,c4.c5,c7", "s9:c0.c2,c4,c5,c7"),
+];
+
+fn reads_label(rt: &impl Abort, alloc: Global, text: &str, written: &str, lent: &mut Label) {
+    let label = read_label(text.as_bytes()).expect(rt, text);
+    same(rt, text, read_label_into(text.as_bytes(), lent), Ok(()));
+    holds(rt, text, lent.same(&label));
+    let mut out = Vec::new(alloc);
+    out.push(b'>').expect(rt, "memory");
+    write_label(&label, &mut out).expect(rt, text);
+    same(rt, text, &out[1..], written.as_bytes());
 }
 
 #[test]
-fn reads_labels_and_writes_their_one_form(rt: HostRuntime) -> Result<(), Fail> {
-    let cases = [
-        ("s0", "s0"),
-        ("s255", "s255"),
-        ("s2:c1,c3", "s2:c1,c3"),
-        ("s0:c65534", "s0:c65534"),
-        ("s0:c0.c65534", "s0:c0.c65534"),
-        ("s0:c3,c1,c1.c2", "s0:c1.c3"),
-        ("s0:c0.c1", "s0:c0,c1"),
-        ("s1:c5,c4,c3,c2,c1,c0", "s1:c0.c5"),
-        ("s0:c7,c7,c5.c9", "s0:c5.c9"),
-        ("s0:c10.c12,c14,c13,c0", "s0:c0,c10.c14"),
-        ("s9:c0.c2,c4.c5,c7", "s9:c0.c2,c4,c5,c7"),
-    ];
+fn reads_labels_and_writes_their_one_form(rt: HostRuntime) {
     let mut lent = read_label(b"s200:c0.c30000").expect(&rt, "lent");
-    for (text, written) in cases {
-        let label = read_label(text.as_bytes()).expect(&rt, text);
-        assert_eq!(rt; read_label_into(text.as_bytes(), &mut lent), Ok(()));
-        assert!(rt; lent.same(&label), "{text}");
-        let mut out = Vec::new(rt.alloc());
-        out.push(b'>')?;
-        write_label(&label, &mut out).expect(&rt, text);
-        assert_eq!(rt; &out[1..], written.as_bytes());
+    for (text, written) in LABELS {
+        reads_label(&rt, rt.alloc(), text, written, &mut lent);
     }
-    Ok(())
 }
 
 /// What is no label, and why.
-const REFUSED_LABELS: [Refused; 44] = [
+const REFUSED_LABELS: &[Refused] = &[
     ("", 0, End),
     ("x", 0, Grammar),
     ("S0", 0, Grammar),
@@ -112,21 +119,53 @@ const REFUSED_LABELS: [Refused; 44] = [
 ];
 
 #[test]
-fn refuses_labels_at_their_first_fault(rt: HostRuntime) -> Result<(), Fail> {
+fn refuses_labels_at_their_first_fault(rt: HostRuntime) {
     for (text, octet, kind) in REFUSED_LABELS {
-        assert_eq!(rt; label_stop(text.as_bytes()), fault(octet, kind), "{text}");
+        same(
+            &rt,
+            *text,
+            label_stop(text.as_bytes()),
+            fault(*octet, *kind),
+        );
     }
+}
+
+#[test]
+fn refuses_a_category_of_many_digits(rt: HostRuntime) {
     let mut long = Vec::new(rt.alloc());
-    long.extend_from_slice(b"s0:c1")?;
-    for _ in 0..300 {
-        long.push(b'0')?;
+    append(&rt, &mut long, b"s0:c1");
+    append(&rt, &mut long, &[b'0'; 300]);
+    same(&rt, "300 zeros", label_stop(&long), fault(9, Grammar));
+}
+
+/// What is a range, and the one form in which it is written.
+const RANGES: &[(&str, &str)] = &[
+    ("s0", "s0"),
+    ("s0-s2:c1,c3", "s0-s2:c1,c3"),
+    ("s1:c0-s1:c0", "s1:c0"),
+    ("s0:c1-s3:c0.c5", "s0:c1-s3:c0.c5"),
+    ("s0:c2,c1-s0:c1.c2", "s0:c1,c2"),
+];
+
+fn reads_range(rt: &impl Abort, alloc: Global, text: &str, written: &str) {
+    let range = read_range(text.as_bytes()).expect(rt, text);
+    let mut out = Vec::new(alloc);
+    write_range(&range, &mut out).expect(rt, text);
+    write_range(&range.copy(), &mut out).expect(rt, text);
+    let half = out.len() / 2;
+    same(rt, text, &out[..half], written.as_bytes());
+    same(rt, text, &out[half..], written.as_bytes());
+}
+
+#[test]
+fn reads_ranges_and_writes_their_one_form(rt: HostRuntime) {
+    for (text, written) in RANGES {
+        reads_range(&rt, rt.alloc(), text, written);
     }
-    assert_eq!(rt; label_stop(&long), fault(9, Grammar));
-    Ok(())
 }
 
 /// What is no range, and why.
-const REFUSED_RANGES: [Refused; 22] = [
+const REFUSED_RANGES: &[Refused] = &[
     ("", 0, End),
     ("-", 0, Grammar),
     ("-s0", 0, Grammar),
@@ -152,102 +191,95 @@ const REFUSED_RANGES: [Refused; 22] = [
 ];
 
 #[test]
-fn reads_and_refuses_ranges(rt: HostRuntime) -> Result<(), Fail> {
-    for (text, written) in [
-        ("s0", "s0"),
-        ("s0-s2:c1,c3", "s0-s2:c1,c3"),
-        ("s1:c0-s1:c0", "s1:c0"),
-        ("s0:c1-s3:c0.c5", "s0:c1-s3:c0.c5"),
-        ("s0:c2,c1-s0:c1.c2", "s0:c1,c2"),
-    ] {
-        let range = read_range(text.as_bytes()).expect(&rt, text);
-        let mut out = Vec::new(rt.alloc());
-        write_range(&range, &mut out).expect(&rt, text);
-        write_range(&range.copy(), &mut out).expect(&rt, text);
-        let half = out.len() / 2;
-        assert_eq!(rt; &out[..half], written.as_bytes());
-        assert_eq!(rt; &out[half..], written.as_bytes());
-    }
+fn refuses_ranges_at_their_first_fault(rt: HostRuntime) {
     let mut lent = read_range(b"s1:c7-s2:c7,c9").expect(&rt, "lent");
     for (text, octet, kind) in REFUSED_RANGES {
-        assert_eq!(rt; range_stop(text.as_bytes()), fault(octet, kind), "{text}");
-        assert_eq!(rt;
-            read_range_into(text.as_bytes(), &mut lent).err(),
-            fault(octet, kind)
-        );
-        assert!(rt; lent.high().dominates(lent.low()), "{text}");
+        let wanted = fault(*octet, *kind);
+        same(&rt, *text, range_stop(text.as_bytes()), wanted);
+        let stop = read_range_into(text.as_bytes(), &mut lent).err();
+        same(&rt, *text, stop, wanted);
+        holds(&rt, *text, lent.high().dominates(lent.low()));
     }
-    Ok(())
+}
+
+/// Where reading stops, of a label and of a range.
+fn stops(text: &[u8]) -> (Option<TextFault>, Option<TextFault>) {
+    (label_stop(text), range_stop(text))
 }
 
 #[test]
-fn takes_1952_runs_and_no_more(rt: HostRuntime) -> Result<(), Fail> {
-    let mut text = every_other(rt.alloc(), 1952).expect(&rt, "1952 runs");
+fn takes_1952_runs_and_no_more(rt: HostRuntime) {
+    let mut text = every_other(&rt, rt.alloc(), 1952);
     let label = read_label(&text).expect(&rt, "1952 runs");
-    assert_eq!(rt; label.cats.runs(), 1952);
+    same(&rt, "1952 runs", label.cats.runs(), 1952);
 
-    let term = text.len() + 1;
-    text.extend_from_slice(b",c3904")?;
-    assert_eq!(rt; label_stop(&text), fault(term, TooManyRuns));
-    assert_eq!(rt; range_stop(&text), fault(term, TooManyRuns));
+    let many = fault(text.len() + 1, TooManyRuns);
+    append(&rt, &mut text, b",c3904");
+    same(&rt, "one more", stops(&text), (many, many));
 
     // a later fault doesn't count, and a term without its end neither
     let whole = text.len();
-    for (behind, label_fault, range_fault) in [
-        (",x", fault(term, TooManyRuns), fault(term, TooManyRuns)),
-        ("-s0", fault(whole, Grammar), fault(term, TooManyRuns)),
-        ("x", fault(whole, Grammar), fault(whole, Grammar)),
-        (".", fault(whole + 1, End), fault(whole + 1, End)),
+    let other = fault(whole, Grammar);
+    let end = fault(whole + 1, End);
+    for (behind, wanted) in [
+        (",x", (many, many)),
+        ("-s0", (other, many)),
+        ("x", (other, other)),
+        (".", (end, end)),
     ] {
-        text.extend_from_slice(behind.as_bytes())?;
-        assert_eq!(rt; label_stop(&text), label_fault, "{behind}");
-        assert_eq!(rt; range_stop(&text), range_fault, "{behind}");
+        append(&rt, &mut text, behind.as_bytes());
+        same(&rt, behind, stops(&text), wanted);
         text.truncate(whole);
     }
-
-    // a term that joins two runs makes room
-    text.truncate(term - 1);
-    text.extend_from_slice(b",c1,c3904")?;
-    assert_eq!(rt; label_stop(&text), None);
-    Ok(())
 }
 
 #[test]
-fn counts_runs_in_the_high_label(rt: HostRuntime) -> Result<(), Fail> {
-    let high = every_other(rt.alloc(), 1953).expect(&rt, "1953 runs");
+fn a_term_that_joins_two_runs_makes_room(rt: HostRuntime) {
+    let mut text = every_other(&rt, rt.alloc(), 1952);
+    append(&rt, &mut text, b",c1,c3904");
+    same(&rt, "joined", label_stop(&text), None);
+}
+
+#[test]
+fn counts_runs_in_the_high_label(rt: HostRuntime) {
     let mut text = Vec::new(rt.alloc());
-    text.extend_from_slice(b"s0-")?;
-    text.extend_from_slice(&high)?;
+    append(&rt, &mut text, b"s0-");
+    append(&rt, &mut text, &every_other(&rt, rt.alloc(), 1953));
     let whole = text.len();
     let term = fault(whole.saturating_sub(5), TooManyRuns);
-    assert_eq!(rt; range_stop(&text), term);
-    text.push(b'-')?;
-    assert_eq!(rt; range_stop(&text), fault(whole, Grammar));
-    Ok(())
+    same(&rt, "1953 runs", range_stop(&text), term);
+    append(&rt, &mut text, b"-");
+    same(&rt, "no label", range_stop(&text), fault(whole, Grammar));
 }
 
+/// Which labels a range from `s1:c1` to `s3:c0.c5` holds.
+const HELD: &[(&str, bool)] = &[
+    ("s1:c1", true),
+    ("s3:c0.c5", true),
+    ("s2:c1,c4", true),
+    ("s0:c1", false),
+    ("s2:c4", false),
+    ("s4:c1", false),
+    ("s2:c1,c6", false),
+];
+
 #[test]
-fn holds_what_lies_between(rt: HostRuntime) -> Result<(), Fail> {
+fn holds_what_lies_between(rt: HostRuntime) {
     let range = read_range(b"s1:c1-s3:c0.c5").expect(&rt, "range");
-    assert_eq!(rt; range.low().level, 1);
-    assert_eq!(rt; range.high().level, 3);
-    for (text, held) in [
-        ("s1:c1", true),
-        ("s3:c0.c5", true),
-        ("s2:c1,c4", true),
-        ("s0:c1", false),
-        ("s2:c4", false),
-        ("s4:c1", false),
-        ("s2:c1,c6", false),
-    ] {
+    same(
+        &rt,
+        "levels",
+        (range.low().level, range.high().level),
+        (1, 3),
+    );
+    for (text, held) in HELD {
         let label = read_label(text.as_bytes()).expect(&rt, text);
-        assert_eq!(rt; range.holds(&label), held, "{text}");
+        same(&rt, *text, range.holds(&label), *held);
     }
-    Ok(())
 }
 
 #[test]
-fn keeps_ranges_with_ample_memory(rt: HostRuntime) -> Result<(), Fail> {
+fn keeps_ranges_with_ample_memory(rt: HostRuntime) {
     let high = read_label(b"s2:c1,c3").expect(&rt, "label");
     let mut range = Range::lowest();
     range.assign_ends(&Label::lowest(), &high);
@@ -255,6 +287,5 @@ fn keeps_ranges_with_ample_memory(rt: HostRuntime) -> Result<(), Fail> {
     let copy = kept.copy(rt.alloc()).expect(&rt, "copy");
     let mut out = Vec::new(rt.alloc());
     write_range(copy.range(), &mut out).expect(&rt, "written");
-    assert_eq!(rt; &out[..], "s0-s2:c1,c3".as_bytes());
-    Ok(())
+    same(&rt, "kept", out.as_slice(), "s0-s2:c1,c3".as_bytes());
 }
