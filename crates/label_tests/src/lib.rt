@@ -2,6 +2,8 @@
 #![tactic(auto)]
 
 #[cfg(test)]
+mod checks;
+#[cfg(test)]
 mod of_calipso_option;
 #[cfg(test)]
 mod of_category_bitmap;

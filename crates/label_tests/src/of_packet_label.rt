@@ -4,12 +4,13 @@
 ghost use Rattle.ip_headers.specs.declared.version.Version.TheVariants as version;
 ghost use Rattle.ip_headers.specs.Written.{IsLabelOption};
 
+use crate::checks::{are_octets, holds, octets, same};
 use arrayvec::ArrayVec;
 use ip_headers::{HeadFault, HeadKind, read4, read6};
 use mls_label::{Label, Tag};
 use packet_label::*;
-use std::test::*;
-use worked_values::octets_of;
+use std::alloc::Global;
+use std::process::Abort;
 use worked_values::packets::{
     ALERT_6, BEHIND_4, BITMAP_16, CALIPSO_9, CUT_4, LABELLED_4, LIST_10, MISALIGNED_4, PLAIN_4,
     WRONG_SUM_4,
@@ -26,7 +27,7 @@ type Labelled = (
     &'static [u16],
 );
 
-const LABELLED: [Labelled; 9] = [
+const LABELLED: &[Labelled] = &[
     (
         "version 4, a bitmap",
         LABELLED_4,
@@ -102,7 +103,7 @@ const LABELLED: [Labelled; 9] = [
     ),
 ];
 
-const FAULTS: [(&str, &str, CarryFault); 28] = [
+const FAULTS: &[(&str, &str, CarryFault)] = &[
     ("no octet", "", CarryFault::Header { octet: 0 }),
     ("version 5 over a 4", "54", CarryFault::Header { octet: 0 }),
     ("version 0 over a 6", "06", CarryFault::Header { octet: 0 }),
@@ -233,7 +234,7 @@ const FAULTS: [(&str, &str, CarryFault); 28] = [
     ),
 ];
 
-const PLACES: [(&str, &str, Option<usize>); 8] = [
+const PLACES: &[(&str, &str, Option<usize>)] = &[
     ("version 4, a label", LABELLED_4, Some(20)),
     (
         "version 4, a broken label",
@@ -293,88 +294,95 @@ fn has_cats(label: &Label, cats: &[u16]) -> bool {
     label.cats.count() as usize == cats.len() && cats.iter().all(|c| label.cats.contains(*c))
 }
 
-#[test]
-fn labels_of_worked_packets(rt: HostRuntime) -> Result<(), Fail> {
-    for (name, text, at, doi, tag, level, cats) in LABELLED {
-        let bytes = octets_of(rt.alloc(), text)?;
-        let found = carried(&bytes).ok().ok_or(name)?;
-        let wire = found.wire.as_ref().ok_or(name)?;
-        assert_eq!(rt; wire.at(), at, "{name}");
-        assert_eq!(rt; wire.doi(), doi, "{name}");
-        assert_eq!(rt; tag_of(wire), tag, "{name}");
-        assert_eq!(rt; wire.label().level, level, "{name}");
-        assert!(rt; has_cats(wire.label(), cats), "{name}");
-    }
-    Ok(())
+fn is_labelled(rt: &impl Abort, alloc: Global, row: &Labelled) {
+    let (name, text, at, doi, tag, level, cats) = *row;
+    let bytes = octets(rt, alloc, text);
+    let found = carried(&bytes).expect(rt, name);
+    let wire = found.wire.as_ref().expect(rt, name);
+    let label = wire.label();
+    let parts = (wire.at(), wire.doi(), tag_of(wire), label.level);
+    same(rt, name, parts, (at, doi, tag, level));
+    holds(rt, name, has_cats(label, cats));
 }
 
 #[test]
-fn first_faults_of_broken_packets(rt: HostRuntime) -> Result<(), Fail> {
-    for (name, text, fault) in FAULTS {
-        let bytes = octets_of(rt.alloc(), text)?;
-        let got = carried(&bytes).err();
-        assert_eq!(rt; got, Some(fault), "{name}");
+fn labels_of_worked_packets(rt: HostRuntime) {
+    for row in LABELLED {
+        is_labelled(&rt, rt.alloc(), row);
     }
-    Ok(())
 }
 
 #[test]
-fn places_of_first_labels(rt: HostRuntime) -> Result<(), Fail> {
-    for (name, text, place) in PLACES {
-        let bytes = octets_of(rt.alloc(), text)?;
-        let (_, got) = label_at(&bytes).ok().ok_or(name)?;
-        assert_eq!(rt; got, place, "{name}");
+fn first_faults_of_broken_packets(rt: HostRuntime) {
+    for &(name, text, fault) in FAULTS {
+        let bytes = octets(&rt, rt.alloc(), text);
+        same(&rt, name, carried(&bytes).err(), Some(fault));
+    }
+}
+
+#[test]
+fn places_of_first_labels(rt: HostRuntime) {
+    for &(name, text, place) in PLACES {
+        let bytes = octets(&rt, rt.alloc(), text);
+        let (_, found) = label_at(&bytes).expect(&rt, name);
+        same(&rt, name, found, place);
     }
     let none = HeadFault {
         octet: 0,
         kind: HeadKind::Version,
     };
-    assert_eq!(rt; label_at(&[]).err(), Some(none));
-    assert_eq!(rt; label_at(&[0x54]).err(), Some(none));
-    Ok(())
+    same(&rt, "no octet", label_at(&[]).err(), Some(none));
+    same(&rt, "version 5", label_at(&[0x54]).err(), Some(none));
+}
+
+/// Packets, and what they are without their labels.
+const BARE: &[(&str, &str)] = &[
+    (
+        LABELLED_4,
+        "4500001c00000000401166cf0a0000010a00000203e8003500080000",
+    ),
+    (PLAIN_4, PLAIN_4),
+    (
+        CALIPSO_9,
+        "6000000000081140fd000000000000000000000000000001fd00000000000000000000000000000203e80035000801bd",
+    ),
+];
+
+fn is_bared(rt: &impl Abort, alloc: Global, text: &str, bare: &str) {
+    let bytes = octets(rt, alloc, text);
+    let found = carried(&bytes).expect(rt, text);
+    let mut out = Vec::new(alloc);
+    same(rt, text, relabel(&found.packet, None, 64, &mut out), Ok(()));
+    are_octets(rt, alloc, text, &out, bare);
 }
 
 #[test]
-fn packets_without_their_labels(rt: HostRuntime) -> Result<(), Fail> {
-    let cases = [
-        (
-            LABELLED_4,
-            "4500001c00000000401166cf0a0000010a00000203e8003500080000",
-        ),
-        (PLAIN_4, PLAIN_4),
-        (
-            CALIPSO_9,
-            "6000000000081140fd000000000000000000000000000001fd00000000000000000000000000000203e80035000801bd",
-        ),
-    ];
-    for (text, bare) in cases {
-        let bytes = octets_of(rt.alloc(), text)?;
-        let want = octets_of(rt.alloc(), bare)?;
-        let found = carried(&bytes).ok().ok_or(text)?;
-        let mut out = Vec::new(rt.alloc());
-        assert_eq!(rt; relabel(&found.packet, None, 64, &mut out), Ok(()));
-        assert_eq!(rt; out.as_slice(), want.as_slice());
+fn packets_without_their_labels(rt: HostRuntime) {
+    for (text, bare) in BARE {
+        is_bared(&rt, rt.alloc(), text, bare);
     }
-    Ok(())
 }
 
 #[test]
-fn packets_with_another_label(rt: HostRuntime) -> Result<(), Fail> {
-    let bytes = octets_of(rt.alloc(), PLAIN_4)?;
-    let packet = Packet::V4(read4(&bytes).ok().ok_or("a packet")?);
+fn a_packet_of_version_4_with_another_label(rt: HostRuntime) {
+    let bytes = octets(&rt, rt.alloc(), PLAIN_4);
+    let packet = Packet::V4(read4(&bytes).expect(&rt, "a packet"));
     let option = WireOption::Cipso(cipso());
-    let want = octets_of(rt.alloc(), BITMAP_16)?;
     let mut out = Vec::new(rt.alloc());
-    assert_eq!(rt; relabel(&packet, Some(&option), 64, &mut out), Ok(()));
-    assert_eq!(rt; out.as_slice(), want.as_slice());
-    let bytes = octets_of(rt.alloc(), ALERT_6)?;
-    let packet = Packet::V6(read6(&bytes).ok().ok_or("a packet")?);
+    let done = relabel(&packet, Some(&option), 64, &mut out);
+    same(&rt, "done", done, Ok(()));
+    are_octets(&rt, rt.alloc(), "written", &out, BITMAP_16);
+}
+
+#[test]
+fn a_packet_of_version_6_with_another_label(rt: HostRuntime) {
+    let bytes = octets(&rt, rt.alloc(), ALERT_6);
+    let packet = Packet::V6(read6(&bytes).expect(&rt, "a packet"));
     let option = WireOption::Calipso(calipso());
-    let want = octets_of(
-        rt.alloc(),
-        "6000000000200040fd000000000000000000000000000001fd00000000000000000000000000000211020708000000100002bfd901040000000005020000010003e8003500080000",
-    )?;
-    assert_eq!(rt; relabel(&packet, Some(&option), 64, &mut out), Ok(()));
-    assert_eq!(rt; out.as_slice(), want.as_slice());
-    Ok(())
+    let mut out = Vec::new(rt.alloc());
+    let done = relabel(&packet, Some(&option), 64, &mut out);
+    same(&rt, "done", done, Ok(()));
+    let labelled =
+        "6000000000200040fd000000000000000000000000000001fd00000000000000000000000000000211020708000000100002bfd901040000000005020000010003e8003500080000";
+    are_octets(&rt, rt.alloc(), "written", &out, labelled);
 }

@@ -4,10 +4,11 @@
 ghost use Rattle.ip_headers.specs.declared.version.Version.TheVariants.{V4, V6};
 ghost use Rattle.ip_headers.specs.Written.{IsLabelOption};
 
+use crate::checks::{are_octets, octets, same};
 use ip_headers::{Fields4, Fields6, read4, read6, write4, write6};
-use std::alloc::{AllocError, Global};
+use std::alloc::Global;
+use std::process::Abort;
 use version_cross::*;
-use worked_values::octets_of;
 use worked_values::packets::{BITMAP_8, CALIPSO_9, LIST_10, PLAIN_4};
 
 const SOURCE4: [u8; 4] = [10, 0, 0, 1];
@@ -19,7 +20,7 @@ const SOURCE6: [u8; 16] = [0xfd, 0, 0, 0, 0, 0, 0, 0, 0, 0, 0, 0, 0, 0, 0, 1];
 const DESTINATION6: [u8; 16] = [0xfd, 0, 0, 0, 0, 0, 0, 0, 0, 0, 0, 0, 0, 0, 0, 2];
 
 /// A name, the packet of version 4, and what it is in version 6.
-const TO_SIX: [(&str, &str, &str); 7] = [
+const TO_SIX: &[(&str, &str, &str)] = &[
     ("UDP", BITMAP_8, CALIPSO_9),
     (
         "TCP, one octet of data, a type of service",
@@ -54,7 +55,7 @@ const TO_SIX: [(&str, &str, &str); 7] = [
 ];
 
 /// A name, the packet of version 6, and what it is in version 4.
-const TO_FOUR: [(&str, &str, &str); 3] = [
+const TO_FOUR: &[(&str, &str, &str)] = &[
     (
         "UDP, its last octet damaged",
         "600000000018003ffd000000000000000000000000000001fd0000000000000000000000000000021101070c00000009010214b35000000003e80035000801be",
@@ -72,7 +73,7 @@ const TO_FOUR: [(&str, &str, &str); 3] = [
     ),
 ];
 
-const CAUSES4: [(&str, &str, Option<Cause>); 17] = [
+const CAUSES4: &[(&str, &str, Option<Cause>)] = &[
     ("UDP without options", PLAIN_4, None),
     (
         "the reserved flag",
@@ -156,7 +157,7 @@ const CAUSES4: [(&str, &str, Option<Cause>); 17] = [
     ),
 ];
 
-const CAUSES6: [(&str, &str, Option<Cause>); 11] = [
+const CAUSES6: &[(&str, &str, Option<Cause>)] = &[
     (
         "UDP",
         "6000000000180040fd000000000000000000000000000001fd0000000000000000000000000000021101070c00000009010214b35000000003e80035000801bd",
@@ -235,79 +236,81 @@ fn listed() -> [u8; 14]
     [134, 14, 0, 0, 0, 10, 2, 8, 0, 12, 0, 4, 0, 5]
 }
 
+/// Writes into `out` what a packet of version 4 is in version 6, one hop on.
+fn cross4(rt: &impl Abort, name: &str, bytes: &[u8], out: &mut Vec<u8>) {
+    let view = read4(bytes).expect(rt, "a packet");
+    assert_eq!(rt; crossable4(&view), None, "{name}");
+    let hops = view.hops().saturating_sub(1);
+    let done = cross4to6(&view, SOURCE6, DESTINATION6, &calipso(), hops, out);
+    same(rt, name, done, Ok(()));
+}
+
+/// Writes into `out` what a packet of version 6 is in version 4, one hop on.
+fn cross6(rt: &impl Abort, name: &str, bytes: &[u8], out: &mut Vec<u8>) {
+    let view = read6(bytes).expect(rt, "a packet");
+    assert_eq!(rt; crossable6(&view), None, "{name}");
+    let hops = view.hops().saturating_sub(1);
+    let done = cross6to4(&view, SOURCE4, DESTINATION4, &cipso(), hops, out);
+    same(rt, name, done, Ok(()));
+}
+
 #[test]
 fn packets_of_version_4_cross(rt: HostRuntime) {
-    let option = calipso();
     let mut out = Vec::new(rt.alloc());
     for (name, from, to) in TO_SIX {
-        let bytes = octets_of(rt.alloc(), from).expect(&rt, "memory");
-        let want = octets_of(rt.alloc(), to).expect(&rt, "memory");
-        let view = read4(&bytes).ok().expect(&rt, "a packet");
-        assert_eq!(rt; crossable4(&view), None, "{name}");
-        let hops = view.hops().saturating_sub(1);
-        let got = cross4to6(&view, SOURCE6, DESTINATION6, &option, hops, &mut out);
-        assert_eq!(rt; got, Ok(()), "{name}");
-        assert_eq!(rt; out.as_slice(), want.as_slice(), "{name}");
+        cross4(&rt, name, &octets(&rt, rt.alloc(), from), &mut out);
+        are_octets(&rt, rt.alloc(), name, &out, to);
     }
 }
 
 #[test]
 fn packets_of_version_6_cross(rt: HostRuntime) {
-    let option = cipso();
     let mut out = Vec::new(rt.alloc());
     for (name, from, to) in TO_FOUR {
-        let bytes = octets_of(rt.alloc(), from).expect(&rt, "memory");
-        let want = octets_of(rt.alloc(), to).expect(&rt, "memory");
-        let view = read6(&bytes).ok().expect(&rt, "a packet");
-        assert_eq!(rt; crossable6(&view), None, "{name}");
-        let hops = view.hops().saturating_sub(1);
-        let got = cross6to4(&view, SOURCE4, DESTINATION4, &option, hops, &mut out);
-        assert_eq!(rt; got, Ok(()), "{name}");
-        assert_eq!(rt; out.as_slice(), want.as_slice(), "{name}");
+        cross6(&rt, name, &octets(&rt, rt.alloc(), from), &mut out);
+        are_octets(&rt, rt.alloc(), name, &out, to);
     }
 }
 
 #[test]
 fn a_packet_crosses_and_comes_back(rt: HostRuntime) {
-    let bytes = octets_of(rt.alloc(), BITMAP_8).expect(&rt, "memory");
-    let want = octets_of(rt.alloc(), LIST_10).expect(&rt, "memory");
-    let view = read4(&bytes).ok().expect(&rt, "a packet");
-    assert_eq!(rt; crossable4(&view), None);
     let mut half = Vec::new(rt.alloc());
-    let got = cross4to6(&view, SOURCE6, DESTINATION6, &calipso(), 63, &mut half);
-    assert_eq!(rt; got, Ok(()));
-    let view = read6(&half).ok().expect(&rt, "a packet");
+    cross4(&rt, "there", &octets(&rt, rt.alloc(), BITMAP_8), &mut half);
+    let view = read6(&half).expect(&rt, "a packet");
+    same(&rt, "hops", view.hops(), 63);
     assert_eq!(rt; crossable6(&view), None);
     let mut far = Vec::new(rt.alloc());
-    let got = cross6to4(&view, SOURCE4, DESTINATION4, &listed(), 62, &mut far);
-    assert_eq!(rt; got, Ok(()));
-    assert_eq!(rt; far.as_slice(), want.as_slice());
+    let done = cross6to4(&view, SOURCE4, DESTINATION4, &listed(), 62, &mut far);
+    same(&rt, "back", done, Ok(()));
+    are_octets(&rt, rt.alloc(), "back", &far, LIST_10);
+}
+
+fn has_cause4(rt: &impl Abort, name: &str, bytes: &[u8], cause: Option<Cause>) {
+    let view = read4(bytes).expect(rt, "a packet");
+    same(rt, name, crossable4(&view), cause);
+}
+
+fn has_cause6(rt: &impl Abort, name: &str, bytes: &[u8], cause: Option<Cause>) {
+    let view = read6(bytes).expect(rt, "a packet");
+    same(rt, name, crossable6(&view), cause);
 }
 
 #[test]
 fn first_causes_of_version_4(rt: HostRuntime) {
-    for (name, text, cause) in CAUSES4 {
-        let bytes = octets_of(rt.alloc(), text).expect(&rt, "memory");
-        let view = read4(&bytes).ok().expect(&rt, "a packet");
-        assert_eq!(rt; crossable4(&view), cause, "{name}");
+    for &(name, text, cause) in CAUSES4 {
+        has_cause4(&rt, name, &octets(&rt, rt.alloc(), text), cause);
     }
 }
 
 #[test]
 fn first_causes_of_version_6(rt: HostRuntime) {
-    for (name, text, cause) in CAUSES6 {
-        let bytes = octets_of(rt.alloc(), text).expect(&rt, "memory");
-        let view = read6(&bytes).ok().expect(&rt, "a packet");
-        assert_eq!(rt; crossable6(&view), cause, "{name}");
+    for &(name, text, cause) in CAUSES6 {
+        has_cause6(&rt, name, &octets(&rt, rt.alloc(), text), cause);
     }
 }
 
-fn zeros(alloc: Global, size: usize) -> Result<Vec<u8>, AllocError> {
-    let mut zeros = Vec::new(alloc);
-    for _ in 0..size {
-        zeros.push(0)?;
-    }
-    Ok(zeros)
+fn zeros(rt: &impl Abort, alloc: Global, size: usize) -> Vec<u8> {
+    vec![in alloc; 0u8; size].expect(rt, "memory")
 }
 
 /// The longest CALIPSO option, of 254 octets.
@@ -320,9 +323,8 @@ fn longest() -> [u8; 254]
     option
 }
 
-// A Hop-by-Hop header of 256 octets, and 65,279 of TCP behind it; one octet more doesn't go.
-#[test]
-fn longest_packets_of_version_6(rt: HostRuntime) {
+/// A packet of TCP of version 4 with so many octets.
+fn packet4(rt: &impl Abort, alloc: Global, size: usize) -> Vec<u8> {
     let fields = Fields4 {
         tos: 0,
         id: 0,
@@ -332,23 +334,15 @@ fn longest_packets_of_version_6(rt: HostRuntime) {
         source: SOURCE4,
         destination: DESTINATION4,
     };
-    let option = longest();
-    let mut packet = Vec::new(rt.alloc());
-    let mut out = Vec::new(rt.alloc());
-    for (size, answer, length) in [(65279, Ok(()), 65575), (65280, Err(CrossFault::TooLong), 0)] {
-        let payload = zeros(rt.alloc(), size).expect(&rt, "memory");
-        assert_eq!(rt; write4(&fields, None, &payload, &mut packet), Ok(()));
-        let view = read4(&packet).ok().expect(&rt, "a packet");
-        assert_eq!(rt; crossable4(&view), None);
-        let got = cross4to6(&view, SOURCE6, DESTINATION6, &option, 63, &mut out);
-        assert_eq!(rt; got, answer, "{size}");
-        assert_eq!(rt; out.len(), length, "{size}");
-    }
+    let payload = zeros(rt, alloc, size);
+    let mut packet = Vec::new(alloc);
+    let found = write4(&fields, None, &payload, &mut packet);
+    same(rt, size, found, Ok(()));
+    packet
 }
 
-// A header of 32 octets, and 65,503 of TCP behind it; one octet more doesn't go.
-#[test]
-fn longest_packets_of_version_4(rt: HostRuntime) {
+/// A packet of TCP of version 6 with so many octets.
+fn packet6(rt: &impl Abort, alloc: Global, size: usize) -> Vec<u8> {
     let fields = Fields6 {
         class: 0,
         flow_label: 0,
@@ -357,16 +351,46 @@ fn longest_packets_of_version_4(rt: HostRuntime) {
         source: SOURCE6,
         destination: DESTINATION6,
     };
-    let option = cipso();
-    let mut packet = Vec::new(rt.alloc());
+    let payload = zeros(rt, alloc, size);
+    let mut packet = Vec::new(alloc);
+    let found = write6(&fields, None, &payload, &mut packet);
+    same(rt, size, found, Ok(()));
+    packet
+}
+
+/// An answer, and how many octets are written then.
+type Answer = (Result<(), CrossFault>, usize);
+
+fn cross_longest4(rt: &impl Abort, packet: &[u8], out: &mut Vec<u8>, wanted: Answer) {
+    let view = read4(packet).expect(rt, "a packet");
+    assert_eq!(rt; crossable4(&view), None);
+    let done = cross4to6(&view, SOURCE6, DESTINATION6, &longest(), 63, out);
+    same(rt, packet.len(), (done, out.len()), wanted);
+}
+
+fn cross_longest6(rt: &impl Abort, packet: &[u8], out: &mut Vec<u8>, wanted: Answer) {
+    let view = read6(packet).expect(rt, "a packet");
+    assert_eq!(rt; crossable6(&view), None);
+    let done = cross6to4(&view, SOURCE4, DESTINATION4, &cipso(), 63, out);
+    same(rt, packet.len(), (done, out.len()), wanted);
+}
+
+// A Hop-by-Hop header of 256 octets, and 65,279 of TCP behind it; one octet more doesn't go, and what was written goes.
+#[test]
+fn longest_packets_of_version_6(rt: HostRuntime) {
     let mut out = Vec::new(rt.alloc());
-    for (size, answer, length) in [(65503, Ok(()), 65535), (65504, Err(CrossFault::TooLong), 0)] {
-        let payload = zeros(rt.alloc(), size).expect(&rt, "memory");
-        assert_eq!(rt; write6(&fields, None, &payload, &mut packet), Ok(()));
-        let view = read6(&packet).ok().expect(&rt, "a packet");
-        assert_eq!(rt; crossable6(&view), None);
-        let got = cross6to4(&view, SOURCE4, DESTINATION4, &option, 63, &mut out);
-        assert_eq!(rt; got, answer, "{size}");
-        assert_eq!(rt; out.len(), length, "{size}");
-    }
+    let packet = packet4(&rt, rt.alloc(), 65279);
+    cross_longest4(&rt, &packet, &mut out, (Ok(()), 65575));
+    let packet = packet4(&rt, rt.alloc(), 65280);
+    cross_longest4(&rt, &packet, &mut out, (Err(CrossFault::TooLong), 0));
+}
+
+// A header of 32 octets, and 65,503 of TCP behind it; one octet more doesn't go, and what was written goes.
+#[test]
+fn longest_packets_of_version_4(rt: HostRuntime) {
+    let mut out = Vec::new(rt.alloc());
+    let packet = packet6(&rt, rt.alloc(), 65503);
+    cross_longest6(&rt, &packet, &mut out, (Ok(()), 65535));
+    let packet = packet6(&rt, rt.alloc(), 65504);
+    cross_longest6(&rt, &packet, &mut out, (Err(CrossFault::TooLong), 0));
 }
