@@ -2,6 +2,8 @@
 #![tactic(auto)]
 
 #[cfg(test)]
+mod checks;
+#[cfg(test)]
 mod of_captures;
 #[cfg(test)]
 mod of_file_window;

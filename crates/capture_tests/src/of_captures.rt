@@ -4,12 +4,13 @@ ghost use Rattle.net_io.specs.Memory.{memory_state};
 ghost use Rattle.captures.specs.Reader.{IsReadable};
 ghost use Rattle.captures.specs.Written.{IsTime};
 
+use crate::checks::{holds, same};
 use captures::*;
 use net_io::MemoryDepot;
 use pcap_frames::{CaptureFault, CaptureKind, FrameHead};
 use pcapng_frames::{NgFault, NgKind};
 use std::alloc::{AllocError, Global};
-use std::test::Fail;
+use std::process::Abort;
 
 /// UDP from 10.0.0.1 to 10.0.0.2, in IPv4 without a label.
 const PACKET: [u8; 28] = [
@@ -138,16 +139,16 @@ fn ends(reader: &mut CaptureReader, depot: &mut MemoryDepot, into: &mut PacketIn
 }
 
 /// A folder with one file, of which one call moves at most seven octets.
-fn folder(alloc: Global, file: &[u8]) -> Result<MemoryDepot, Fail> {
-    let mut depot = MemoryDepot::new(alloc, &[], 7)?;
-    depot.put("c", file)?;
-    Ok(depot)
+fn folder(rt: &impl Abort, alloc: Global, file: &[u8]) -> MemoryDepot {
+    let mut depot = MemoryDepot::new(alloc, &[], 7).expect(rt, "memory");
+    depot.put("c", file).expect(rt, "memory");
+    depot
 }
 
 /// Why the file's reading doesn't begin; None where it begins.
-fn refusal(alloc: Global, file: &[u8]) -> Result<Option<ReadStop>, Fail> {
-    let mut depot = folder(alloc, file)?;
-    Ok(CaptureReader::begin(alloc, &mut depot, "c").err())
+fn refusal(rt: &impl Abort, alloc: Global, file: &[u8]) -> Option<ReadStop> {
+    let mut depot = folder(rt, alloc, file);
+    CaptureReader::begin(alloc, &mut depot, "c").err()
 }
 
 fn broken(octet: u64, kind: CaptureKind) -> ReadStop {
@@ -158,23 +159,40 @@ fn ng_broken(octet: u64, kind: NgKind) -> ReadStop {
     ReadStop::Ng(NgFault { octet, kind })
 }
 
+/// Ends the test unless a file is of this format, has these frames and then ends.
+fn file_has(
+    rt: &impl Abort,
+    alloc: Global,
+    file: &[u8],
+    format: CaptureFormat,
+    wanted: &[(FrameHead, bool, &[u8])],
+) {
+    let mut depot = folder(rt, alloc, file);
+    let mut reader = CaptureReader::begin(alloc, &mut depot, "c").expect(rt, "a reader");
+    same(rt, "format", reader.format(), format);
+    let mut into = no_packet(alloc);
+    let are = frames_are(&mut reader, &mut depot, &mut into, wanted);
+    holds(rt, ("frames", format), are);
+    holds(
+        rt,
+        ("end", format),
+        ends(&mut reader, &mut depot, &mut into),
+    );
+}
+
+fn append(rt: &impl Abort, file: &mut Vec<u8>, octets: &[u8]) {
+    file.extend_from_slice(octets).expect(rt, "memory");
+}
+
 #[test]
-fn a_libpcap_file_has_one_link_type(rt: HostRuntime) -> Result<(), Fail> {
-    let alloc = rt.alloc();
-    let mut file = Vec::new(alloc);
-    file.extend_from_slice(&ETHERNET)?;
-    for (front, packet) in [
-        (&PLAIN[..], &PACKET[..]),
-        (&TAGGED[..], &PACKET[..]),
-        (&ARP[..], &PACKET[..4]),
-        (&[][..], &PACKET[..3]),
-        (&PLAIN[..], &[][..]),
-    ] {
-        add_record(&mut file, front, packet)?;
-    }
-    let mut depot = folder(alloc, &file)?;
-    let mut reader = CaptureReader::begin(alloc, &mut depot, "c")?;
-    assert_eq!(rt; reader.format(), CaptureFormat::Pcap { nanos: false });
+fn a_libpcap_file_has_one_link_type(rt: HostRuntime) {
+    let mut file = Vec::new(rt.alloc());
+    append(&rt, &mut file, &ETHERNET);
+    add_record(&mut file, &PLAIN, &PACKET).expect(&rt, "memory");
+    add_record(&mut file, &TAGGED, &PACKET).expect(&rt, "memory");
+    add_record(&mut file, &ARP, &PACKET[..4]).expect(&rt, "memory");
+    add_record(&mut file, &[], &PACKET[..3]).expect(&rt, "memory");
+    add_record(&mut file, &PLAIN, &[]).expect(&rt, "memory");
     let arp = [2, 0, 0, 0, 0, 2, 2, 0, 0, 0, 0, 1, 8, 6, 0x45, 0, 0, 0x1c];
     let one = time(1, 5);
     let wanted = [
@@ -184,25 +202,19 @@ fn a_libpcap_file_has_one_link_type(rt: HostRuntime) -> Result<(), Fail> {
         (one, false, &PACKET[..3]),
         (one, true, &[][..]),
     ];
-    let mut into = no_packet(alloc);
-    assert!(rt; frames_are(&mut reader, &mut depot, &mut into, &wanted));
-    assert!(rt; ends(&mut reader, &mut depot, &mut into));
-    Ok(())
+    let format = CaptureFormat::Pcap { nanos: false };
+    file_has(&rt, rt.alloc(), &file, format, &wanted);
 }
 
 #[test]
-fn a_packet_of_pcapng_has_a_link_type_of_its_own(rt: HostRuntime) -> Result<(), Fail> {
-    let alloc = rt.alloc();
-    let mut file = Vec::new(alloc);
-    file.extend_from_slice(&SECTION)?;
-    add_packet(&mut file, 0, 1_000_005, &[], &PACKET)?;
-    add_packet(&mut file, 1, 1_000_000_005, &TAGGED, &PACKET)?;
-    add_packet(&mut file, 1, 1_000_000_005, &PLAIN, &PACKET)?;
-    add_packet(&mut file, 0, 1_000_005, &PLAIN, &PACKET[..2])?;
-    add_packet(&mut file, 1, 3_999_999_999, &ARP, &PACKET[..2])?;
-    let mut depot = folder(alloc, &file)?;
-    let mut reader = CaptureReader::begin(alloc, &mut depot, "c")?;
-    assert_eq!(rt; reader.format(), CaptureFormat::Pcapng);
+fn a_packet_of_pcapng_has_a_link_type_of_its_own(rt: HostRuntime) {
+    let mut file = Vec::new(rt.alloc());
+    append(&rt, &mut file, &SECTION);
+    add_packet(&mut file, 0, 1_000_005, &[], &PACKET).expect(&rt, "memory");
+    add_packet(&mut file, 1, 1_000_000_005, &TAGGED, &PACKET).expect(&rt, "memory");
+    add_packet(&mut file, 1, 1_000_000_005, &PLAIN, &PACKET).expect(&rt, "memory");
+    add_packet(&mut file, 0, 1_000_005, &PLAIN, &PACKET[..2]).expect(&rt, "memory");
+    add_packet(&mut file, 1, 3_999_999_999, &ARP, &PACKET[..2]).expect(&rt, "memory");
     let raw = [2, 0, 0, 0, 0, 2, 2, 0, 0, 0, 0, 1, 8, 0, 0x45, 0];
     let arp = [2, 0, 0, 0, 0, 2, 2, 0, 0, 0, 0, 1, 8, 6, 0x45, 0];
     let wanted = [
@@ -212,122 +224,134 @@ fn a_packet_of_pcapng_has_a_link_type_of_its_own(rt: HostRuntime) -> Result<(), 
         (time(1, 5000), true, &raw[..]),
         (time(3, 999_999_999), false, &arp[..]),
     ];
-    let mut into = no_packet(alloc);
-    assert!(rt; frames_are(&mut reader, &mut depot, &mut into, &wanted));
-    assert!(rt; ends(&mut reader, &mut depot, &mut into));
-    Ok(())
+    file_has(&rt, rt.alloc(), &file, CaptureFormat::Pcapng, &wanted);
 }
 
 #[test]
-fn the_first_four_octets_tell_the_format(rt: HostRuntime) -> Result<(), Fail> {
+fn the_first_four_octets_tell_the_format(rt: HostRuntime) {
     let alloc = rt.alloc();
     for n in 0..5usize {
         let short = Some(broken(n as u64, CaptureKind::Short));
-        assert_eq!(rt; refusal(alloc, &BIG[..n])?, short, "at {n}");
+        same(&rt, ("libpcap", n), refusal(&rt, alloc, &BIG[..n]), short);
         let ng = Some(ng_broken(n as u64, NgKind::Short));
         let wanted = if n < 4 { short } else { ng };
-        assert_eq!(rt; refusal(alloc, &SECTION[..n])?, wanted, "at {n}");
+        let found = refusal(&rt, alloc, &SECTION[..n]);
+        same(&rt, ("pcapng", n), found, wanted);
     }
     for (file, stop) in [
         (&SECTION[1..], broken(0, CaptureKind::Magic)),
         (&SECTION[..11], ng_broken(11, NgKind::Short)),
         (&BIG[..23], broken(23, CaptureKind::Short)),
     ] {
-        assert_eq!(rt; refusal(alloc, file)?, Some(stop));
+        same(&rt, file, refusal(&rt, alloc, file), Some(stop));
     }
-    assert_eq!(rt; refusal(alloc, &SECTION[..28])?, None);
-    assert_eq!(rt; refusal(alloc, &BIG)?, None);
-    Ok(())
+    same(&rt, "pcapng", refusal(&rt, alloc, &SECTION[..28]), None);
+    same(&rt, "libpcap", refusal(&rt, alloc, &BIG), None);
 }
 
-/// Whether a reader gives two frames of `PACKET`, then this fault again and again, and no octets with it.
-fn breaks_behind_two(
-    alloc: Global,
-    file: &[u8],
-    head: FrameHead,
-    stop: ReadStop,
-) -> Result<bool, Fail> {
-    let mut depot = folder(alloc, file)?;
+/// Ends the test unless a reader gives two frames of `PACKET`, then this fault again and again, and no octets with it.
+fn breaks_behind_two(rt: &impl Abort, alloc: Global, file: &[u8], head: FrameHead, stop: ReadStop) {
+    let mut depot = folder(rt, alloc, file);
     let mut into = no_packet(alloc);
-    let mut reader = CaptureReader::begin(alloc, &mut depot, "c")?;
+    let mut reader = CaptureReader::begin(alloc, &mut depot, "c").expect(rt, "a reader");
     let wanted = [(head, true, &PACKET[..]), (head, true, &PACKET[..])];
-    Ok(
-        frames_are(&mut reader, &mut depot, &mut into, &wanted)
-            && reader.next(&mut depot, &mut into) == Err(stop)
-            && into.bytes.as_slice().is_empty()
-            && reader.next(&mut depot, &mut into) == Err(stop),
-    )
+    let are = frames_are(&mut reader, &mut depot, &mut into, &wanted);
+    holds(rt, ("frames", stop), are);
+    same(rt, "first", reader.next(&mut depot, &mut into), Err(stop));
+    holds(rt, ("no octets", stop), into.bytes.as_slice().is_empty());
+    same(rt, "again", reader.next(&mut depot, &mut into), Err(stop));
 }
 
 #[test]
-fn a_fault_is_told_with_its_format(rt: HostRuntime) -> Result<(), Fail> {
-    let alloc = rt.alloc();
-    let mut file = Vec::new(alloc);
-    file.extend_from_slice(&BIG)?;
+fn a_fault_is_told_of_libpcap(rt: HostRuntime) {
+    let mut file = Vec::new(rt.alloc());
+    append(&rt, &mut file, &BIG);
     for _ in 0..3u32 {
-        file.extend_from_slice(&BIG_RECORD)?;
-        file.extend_from_slice(&PACKET)?;
+        append(&rt, &mut file, &BIG_RECORD);
+        append(&rt, &mut file, &PACKET);
     }
-    assert_eq!(rt; file.len(), 156);
+    same(&rt, "octets", file.len(), 156);
     let stop = broken(155, CaptureKind::Short);
-    assert!(rt; breaks_behind_two(alloc, cut(&file, 155), time(1, 5), stop)?);
-    let mut ng_file = Vec::new(alloc);
-    ng_file.extend_from_slice(&SECTION)?;
+    breaks_behind_two(&rt, rt.alloc(), cut(&file, 155), time(1, 5), stop);
+}
+
+#[test]
+fn a_fault_is_told_of_pcapng(rt: HostRuntime) {
+    let mut file = Vec::new(rt.alloc());
+    append(&rt, &mut file, &SECTION);
     for interface in [0, 0, 2] {
-        add_packet(&mut ng_file, interface, 1_000_005, &[], &PACKET)?;
+        add_packet(&mut file, interface, 1_000_005, &[], &PACKET).expect(&rt, "memory");
     }
-    assert_eq!(rt; ng_file.len(), 260);
+    same(&rt, "octets", file.len(), 260);
     let head = time(1, 5000);
     let stop = ng_broken(208, NgKind::Interface);
-    assert!(rt; breaks_behind_two(alloc, &ng_file, head, stop)?);
+    breaks_behind_two(&rt, rt.alloc(), &file, head, stop);
     let stop = ng_broken(259, NgKind::Short);
-    assert!(rt; breaks_behind_two(alloc, cut(&ng_file, 259), head, stop)?);
-    Ok(())
+    breaks_behind_two(&rt, rt.alloc(), cut(&file, 259), head, stop);
 }
 
 #[test]
-fn reads_that_fail_are_told(rt: HostRuntime) -> Result<(), Fail> {
-    let alloc = rt.alloc();
-    let mut depot = folder(alloc, &BIG)?;
-    assert_eq!(rt;
-        CaptureReader::begin(alloc, &mut depot, "absent").err(),
-        Some(ReadStop::ReadFault)
-    );
-    for (file, front) in [(&BIG[..], 1u32), (&SECTION[..], 1)] {
-        for fail in [front, front + 1] {
-            let mut depot = MemoryDepot::new(alloc, &[fail], 1000)?;
-            depot.put("c", file)?;
-            let begun = CaptureReader::begin(alloc, &mut depot, "c");
-            assert_eq!(rt; begun.err(), Some(ReadStop::ReadFault));
-        }
+fn an_absent_file_is_told(rt: HostRuntime) {
+    let mut depot = folder(&rt, rt.alloc(), &BIG);
+    let begun = CaptureReader::begin(rt.alloc(), &mut depot, "absent").err();
+    same(&rt, "absent", begun, Some(ReadStop::ReadFault));
+}
+
+/// Why the file's reading doesn't begin where its first or its second read fails.
+fn unread(rt: &impl Abort, alloc: Global, file: &[u8], fail: u32) -> Option<ReadStop> {
+    let mut depot = MemoryDepot::new(alloc, &[fail], 1000).expect(rt, "memory");
+    depot.put("c", file).expect(rt, "memory");
+    CaptureReader::begin(alloc, &mut depot, "c").err()
+}
+
+#[test]
+fn reads_that_fail_are_told(rt: HostRuntime) {
+    for fail in [1, 2] {
+        let stop = Some(ReadStop::ReadFault);
+        let found = unread(&rt, rt.alloc(), &BIG, fail);
+        same(&rt, ("libpcap", fail), found, stop);
+        let found = unread(&rt, rt.alloc(), &SECTION, fail);
+        same(&rt, ("pcapng", fail), found, stop);
     }
-    Ok(())
 }
 
-#[test]
-fn a_packet_is_put_in_the_memory_that_was_lent(rt: HostRuntime) -> Result<(), Fail> {
-    let alloc = rt.alloc();
-    let mut file = Vec::new(alloc);
-    file.extend_from_slice(&ETHERNET)?;
-    add_record(&mut file, &PLAIN, &PACKET)?;
-    add_record(&mut file, &PLAIN, &PACKET)?;
-    let mut depot = folder(alloc, cut(&file, 139))?;
+/// A packet in memory of so many octets.
+fn packet_of(rt: &impl Abort, alloc: Global, count: usize) -> PacketIn {
     let mut octets = Vec::new(alloc);
-    octets.reserve(100_000)?;
-    let mut into = PacketIn {
+    octets.reserve(count).expect(rt, "memory");
+    PacketIn {
         bytes: Octets::of(octets),
         is_ip: false,
-    };
-    let mut reader = CaptureReader::begin(alloc, &mut depot, "c")?;
-    assert_eq!(rt; reader.next(&mut depot, &mut into), Ok(Some(time(1, 5))));
-    assert_eq!(rt; into.bytes.as_slice(), PACKET.as_slice());
-    assert!(rt; reader.next(&mut depot, &mut into).is_err());
-    assert!(rt; into.bytes.into_vec().capacity() >= 100_000);
-    Ok(())
+    }
 }
 
-/// Whether a file that is written in this format gives what was written.
-fn reads_back(alloc: Global, format: CaptureFormat) -> Result<bool, Fail>
+#[test]
+fn a_packet_is_put_in_the_memory_that_was_lent(rt: HostRuntime) {
+    let mut file = Vec::new(rt.alloc());
+    append(&rt, &mut file, &ETHERNET);
+    add_record(&mut file, &PLAIN, &PACKET).expect(&rt, "memory");
+    add_record(&mut file, &PLAIN, &PACKET).expect(&rt, "memory");
+    lends(&rt, rt.alloc(), cut(&file, 139));
+}
+
+/// Ends the test unless a packet, and a fault after it, leave the memory that was lent.
+fn lends(rt: &impl Abort, alloc: Global, file: &[u8]) {
+    let mut depot = folder(rt, alloc, file);
+    let mut into = packet_of(rt, alloc, 100_000);
+    let mut reader = CaptureReader::begin(alloc, &mut depot, "c").expect(rt, "a reader");
+    let found = reader.next(&mut depot, &mut into);
+    same(rt, "a packet", found, Ok(Some(time(1, 5))));
+    same(rt, "its octets", into.bytes.as_slice(), PACKET.as_slice());
+    holds(rt, "a fault", reader.next(&mut depot, &mut into).is_err());
+    holds(
+        rt,
+        "the memory",
+        into.bytes.into_vec().capacity() >= 100_000,
+    );
+}
+
+/// Ends the test unless a file that is written in this format gives what was written.
+fn reads_back(rt: &impl Abort, alloc: Global, format: CaptureFormat)
     requires { IsTime format (record { seconds = 7; fraction = 999999999 }) }
 {
     let late = FrameHead {
@@ -335,27 +359,22 @@ fn reads_back(alloc: Global, format: CaptureFormat) -> Result<bool, Fail>
         fraction: 999_999_999,
     };
     let mut file = Vec::new(alloc);
-    format.write_head(&mut file)?;
-    format.write_frame(late, &PACKET, &mut file)?;
-    format.write_frame(late, &PACKET[..27], &mut file)?;
-    let mut depot = folder(alloc, &file)?;
-    let mut reader = CaptureReader::begin(alloc, &mut depot, "c")?;
-    let mut into = no_packet(alloc);
+    format.write_head(&mut file).expect(rt, "memory");
+    format
+        .write_frame(late, &PACKET, &mut file)
+        .expect(rt, "memory");
+    format
+        .write_frame(late, &PACKET[..27], &mut file)
+        .expect(rt, "memory");
     let wanted = [(late, true, &PACKET[..]), (late, true, &PACKET[..27])];
-    Ok(
-        reader.format() == format
-            && frames_are(&mut reader, &mut depot, &mut into, &wanted)
-            && ends(&mut reader, &mut depot, &mut into),
-    )
+    file_has(rt, alloc, &file, format, &wanted);
 }
 
 #[test]
-fn what_is_written_is_read_back(rt: HostRuntime) -> Result<(), Fail> {
-    let alloc = rt.alloc();
-    assert!(rt; reads_back(alloc, CaptureFormat::Pcap { nanos: false })?);
-    assert!(rt; reads_back(alloc, CaptureFormat::Pcap { nanos: true })?);
-    assert!(rt; reads_back(alloc, CaptureFormat::Pcapng)?);
-    Ok(())
+fn what_is_written_is_read_back(rt: HostRuntime) {
+    reads_back(&rt, rt.alloc(), CaptureFormat::Pcap { nanos: false });
+    reads_back(&rt, rt.alloc(), CaptureFormat::Pcap { nanos: true });
+    reads_back(&rt, rt.alloc(), CaptureFormat::Pcapng);
 }
 
 const RAW: CaptureFormat = CaptureFormat::Pcap { nanos: true };
@@ -370,19 +389,21 @@ fn a_capture_is_made_in_pieces(rt: HostRuntime) {
     let alloc = rt.alloc();
     let mut depot = MemoryDepot::new(alloc, &[], 100000).expect(&rt, "memory");
     let mut waits = create_capture(alloc, &mut depot, "c", RAW).expect(&rt, "made");
-    assert_eq!(rt; waits.len(), 24);
-    assert_eq!(rt; depot.get("c"), Some(b"".as_slice()));
+    same(&rt, "a head waits", waits.len(), 24);
+    same(&rt, "an empty file", depot.get("c"), Some(b"".as_slice()));
     add_frame(&mut depot, "c", RAW, HEAD, &[9; 40], &mut waits).expect(&rt, "waits");
-    assert_eq!(rt; waits.len(), 80);
+    same(&rt, "a frame waits", waits.len(), 80);
     add_frame(&mut depot, "c", RAW, HEAD, &[9; 17000], &mut waits).expect(&rt, "appended");
-    assert_eq!(rt; waits.len(), 0);
+    same(&rt, "nothing waits", waits.len(), 0);
     add_frame(&mut depot, "c", RAW, HEAD, b"123", &mut waits).expect(&rt, "waits");
     append_rest(&mut depot, "c", &mut waits).expect(&rt, "appended");
-    let made = depot.get("c").expect(&rt, "there");
-    assert_eq!(rt; made.len(), 24 + 56 + 17016 + 19);
-    assert_eq!(rt; &made[..4], b"\x4d\x3c\xb2\xa1".as_slice());
-    assert_eq!(rt;
-        &made[17096..],
-        b"\x01\0\0\0\x02\0\0\0\x03\0\0\0\x03\0\0\x00123".as_slice()
-    );
+    is_made(&rt, depot.get("c").expect(&rt, "there"));
+}
+
+fn is_made(rt: &impl Abort, made: &[u8]) {
+    same(rt, "octets", made.len(), 24 + 56 + 17016 + 19);
+    let magic = b"\x4d\x3c\xb2\xa1".as_slice();
+    same(rt, "magic", made.get(..4), Some(magic));
+    let last = b"\x01\0\0\0\x02\0\0\0\x03\0\0\0\x03\0\0\x00123".as_slice();
+    same(rt, "last frame", made.get(17096..), Some(last));
 }

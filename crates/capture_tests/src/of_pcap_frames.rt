@@ -3,10 +3,11 @@ ghost use Rattle.std.specs.Prelude.{◌≡◌, ◌≤◌, length};
 ghost use Rattle.net_io.specs.Memory.{memory_state};
 ghost use Rattle.pcap_frames.specs.Reader.{IsReady};
 
+use crate::checks::{holds, same};
 use net_io::{Depot, IoFault, MemoryDepot};
 use pcap_frames::*;
-use std::alloc::{AllocError, Global};
-use std::test::Fail;
+use std::alloc::Global;
+use std::process::Abort;
 
 /// An IPv4 packet of 28 octets.
 const PACKET: [u8; 28] = [
@@ -19,46 +20,59 @@ const HEAD: FrameHead = FrameHead {
     fraction: 0xfffe_fdfc,
 };
 
-fn add_u32(file: &mut Vec<u8>, order: OctetOrder, n: u32) -> Result<(), AllocError> {
+fn add(rt: &impl Abort, file: &mut Vec<u8>, octets: &[u8]) {
+    file.extend_from_slice(octets).expect(rt, "memory");
+}
+
+fn add_u32(rt: &impl Abort, file: &mut Vec<u8>, order: OctetOrder, n: u32) {
     match order {
-        OctetOrder::Little => file.extend_from_slice(&n.to_le_bytes()),
-        OctetOrder::Big => file.extend_from_slice(&n.to_be_bytes()),
+        OctetOrder::Little => add(rt, file, &n.to_le_bytes()),
+        OctetOrder::Big => add(rt, file, &n.to_be_bytes()),
     }
 }
 
-fn add_header(
-    file: &mut Vec<u8>,
-    order: OctetOrder,
-    nanos: bool,
-    link: u32,
-) -> Result<(), AllocError> {
-    add_u32(file, order, if nanos { 0xA1B2_3C4D } else { 0xA1B2_C3D4 })?;
+fn add_header(rt: &impl Abort, file: &mut Vec<u8>, order: OctetOrder, nanos: bool, link: u32) {
+    add_u32(
+        rt,
+        file,
+        order,
+        if nanos { 0xA1B2_3C4D } else { 0xA1B2_C3D4 },
+    );
     match order {
-        OctetOrder::Little => file.extend_from_slice(&[2, 0, 4, 0])?,
-        OctetOrder::Big => file.extend_from_slice(&[0, 2, 0, 4])?,
+        OctetOrder::Little => add(rt, file, &[2, 0, 4, 0]),
+        OctetOrder::Big => add(rt, file, &[0, 2, 0, 4]),
     }
-    file.extend_from_slice(&[9; 12])?;
-    add_u32(file, order, link)
+    add(rt, file, &[9; 12]);
+    add_u32(rt, file, order, link);
 }
 
-fn add_record(file: &mut Vec<u8>, order: OctetOrder, octets: &[u8]) -> Result<(), AllocError>
+fn add_record(rt: &impl Abort, file: &mut Vec<u8>, order: OctetOrder, octets: &[u8])
     requires { length octets.now ≤ 262144 }
 {
-    add_u32(file, order, HEAD.seconds)?;
-    add_u32(file, order, HEAD.fraction)?;
-    add_u32(file, order, octets.len() as u32)?;
-    add_u32(file, order, octets.len() as u32)?;
-    file.extend_from_slice(octets)
+    add_u32(rt, file, order, HEAD.seconds);
+    add_u32(rt, file, order, HEAD.fraction);
+    add_u32(rt, file, order, octets.len() as u32);
+    add_u32(rt, file, order, octets.len() as u32);
+    add(rt, file, octets);
 }
 
 /// A capture of raw IP with some records of `PACKET`.
-fn capture(alloc: Global, order: OctetOrder, records: u32) -> Result<Vec<u8>, AllocError> {
+fn capture(rt: &impl Abort, alloc: Global, order: OctetOrder, records: u32) -> Vec<u8> {
     let mut file = Vec::new(alloc);
-    add_header(&mut file, order, false, 101)?;
+    add_header(rt, &mut file, order, false, 101);
     for _ in 0..records {
-        add_record(&mut file, order, &PACKET)?;
+        add_record(rt, &mut file, order, &PACKET);
     }
-    Ok(file)
+    file
+}
+
+/// A folder with one file, of which a call moves at most a piece, and the calls of these numbers fail.
+fn folder(rt: &impl Abort, alloc: Global, file: &[u8], fail: &[u32], piece: usize) -> MemoryDepot
+    requires { 1 ≤ piece }
+{
+    let mut depot = MemoryDepot::new(alloc, fail, piece).expect(rt, "memory");
+    depot.put("c.pcap", file).expect(rt, "memory");
+    depot
 }
 
 /// What the calls of a reader give up to the first that gives no frame.
@@ -131,19 +145,18 @@ fn grow(
 }
 
 /// What a reader gives of a file, read by pieces.
-fn read_file(alloc: Global, file: &[u8], piece: usize) -> Result<Given, Fail>
+fn read_file(rt: &impl Abort, alloc: Global, file: &[u8], piece: usize) -> Given
     requires { 1 ≤ piece }
 {
-    let mut depot = MemoryDepot::new(alloc, &[], piece)?;
-    depot.put("c.pcap", file)?;
+    let mut depot = folder(rt, alloc, file, &[], piece);
     let mut into = Vec::new(alloc);
     match Frames::begin(alloc, &mut depot, "c.pcap") {
-        Ok(mut frames) => Ok(read_on(&mut frames, &mut depot, &mut into)),
-        Err(stop) => Ok(Given {
+        Ok(mut frames) => read_on(&mut frames, &mut depot, &mut into),
+        Err(stop) => Given {
             frames: 0,
             octets: 0,
             stop: Some(stop),
-        }),
+        },
     }
 }
 
@@ -151,51 +164,53 @@ fn fault(octet: u64, kind: CaptureKind) -> Option<FrameStop> {
     Some(FrameStop::Capture(CaptureFault { octet, kind }))
 }
 
-#[test]
-fn reads_each_kind_of_capture(rt: HostRuntime) -> Result<(), Fail> {
-    for (order, nanos, link) in [
-        (OctetOrder::Little, false, 1),
-        (OctetOrder::Little, true, 101),
-        (OctetOrder::Big, false, 228),
-        (OctetOrder::Big, true, 229),
-    ] {
-        let mut file = Vec::new(rt.alloc());
-        add_header(&mut file, order, nanos, link)?;
-        add_record(&mut file, order, &PACKET)?;
-        add_record(&mut file, order, &[])?;
-        add_record(&mut file, order, &PACKET[..1])?;
-        let mut depot = MemoryDepot::new(rt.alloc(), &[], 7)?;
-        depot.put("c.pcap", &file)?;
-        let mut frames = Frames::begin(rt.alloc(), &mut depot, "c.pcap")?;
-        assert_eq!(rt; frames.link(), link);
-        assert_eq!(rt; frames.nanos(), nanos);
-        let mut into = Vec::new(rt.alloc());
-        assert!(rt; frames_are(&mut frames, &mut depot, &mut into, &PACKET, &[28, 0, 1]));
-        assert_eq!(rt; frames.next(&mut depot, &mut into), Ok(None));
-    }
-    Ok(())
+fn is_read(rt: &impl Abort, alloc: Global, order: OctetOrder, nanos: bool, link: u32) {
+    let mut file = Vec::new(alloc);
+    add_header(rt, &mut file, order, nanos, link);
+    add_record(rt, &mut file, order, &PACKET);
+    add_record(rt, &mut file, order, &[]);
+    add_record(rt, &mut file, order, &PACKET[..1]);
+    let mut depot = folder(rt, alloc, &file, &[], 7);
+    let mut frames = Frames::begin(alloc, &mut depot, "c.pcap").expect(rt, "a reader");
+    same(rt, order, (frames.link(), frames.nanos()), (link, nanos));
+    let mut into = Vec::new(alloc);
+    let are = frames_are(&mut frames, &mut depot, &mut into, &PACKET, &[28, 0, 1]);
+    holds(rt, link, are);
+    same(rt, link, frames.next(&mut depot, &mut into), Ok(None));
 }
 
 #[test]
-fn a_cut_capture_is_short_where_it_ends(rt: HostRuntime) -> Result<(), Fail> {
+fn reads_each_kind_of_capture(rt: HostRuntime) {
+    is_read(&rt, rt.alloc(), OctetOrder::Little, false, 1);
+    is_read(&rt, rt.alloc(), OctetOrder::Little, true, 101);
+    is_read(&rt, rt.alloc(), OctetOrder::Big, false, 228);
+    is_read(&rt, rt.alloc(), OctetOrder::Big, true, 229);
+}
+
+fn is_short(rt: &impl Abort, alloc: Global, file: &[u8]) {
+    let n = file.len();
+    let given = read_file(rt, alloc, file, 7);
+    same(rt, n, given.frames as usize, n.saturating_sub(24) / 44);
+    let whole = n == 24 || n == 68 || n == 112;
+    let short = fault(n as u64, CaptureKind::Short);
+    same(rt, n, given.stop, if whole { None } else { short });
+}
+
+#[test]
+fn a_cut_capture_is_short_where_it_ends(rt: HostRuntime) {
     for order in [OctetOrder::Little, OctetOrder::Big] {
-        let file = capture(rt.alloc(), order, 2)?;
+        let file = capture(&rt, rt.alloc(), order, 2);
         assert_eq!(rt; file.len(), 112);
         for n in 0..113usize {
-            let given = read_file(rt.alloc(), &file[..n], 7)?;
-            assert_eq!(rt; given.frames as usize, n.saturating_sub(24) / 44, "of {n}");
-            if n == 24 || n == 68 || n == 112 {
-                assert_eq!(rt; given.stop, None, "at {n}");
-            } else {
-                assert_eq!(rt; given.stop, fault(n as u64, CaptureKind::Short), "at {n}");
-            }
+            is_short(&rt, rt.alloc(), &file[..n]);
         }
     }
-    Ok(())
 }
 
 /// Two octets that are changed in a capture of two records, and what is then read.
-const CHANGES: [((usize, u8), (usize, u8), u32, Option<(u64, CaptureKind)>); 16] = [
+type Change = ((usize, u8), (usize, u8), u32, Option<(u64, CaptureKind)>);
+
+const CHANGES: &[Change] = &[
     ((0, 0xd4), (0, 0xd4), 2, None),
     ((0, 0xd5), (4, 3), 0, Some((0, CaptureKind::Magic))),
     ((0, 0x4d), (1, 0x3c), 2, None),
@@ -214,102 +229,128 @@ const CHANGES: [((usize, u8), (usize, u8), u32, Option<(u64, CaptureKind)>); 16]
     ((76, 12), (80, 12), 2, Some((104, CaptureKind::Captured))),
 ];
 
-#[test]
-fn a_fault_stands_at_its_octet(rt: HostRuntime) -> Result<(), Fail> {
-    for (one, two, frames, end) in CHANGES {
-        let mut file = capture(rt.alloc(), OctetOrder::Little, 2)?;
-        assert!(rt; one.0 < file.len() && two.0 < file.len());
-        file[one.0] = one.1;
-        file[two.0] = two.1;
-        let given = read_file(rt.alloc(), &file, 1000)?;
-        assert_eq!(rt; given.frames, frames, "with {} as {}", one.0, one.1);
-        match end {
-            Some((octet, kind)) => assert_eq!(rt; given.stop, fault(octet, kind)),
-            None => assert_eq!(rt; given.stop, None),
-        }
+fn is_told(rt: &impl Abort, alloc: Global, row: Change) {
+    let (one, two, frames, end) = row;
+    let mut file = capture(rt, alloc, OctetOrder::Little, 2);
+    assert!(rt; one.0 < file.len() && two.0 < file.len());
+    file[one.0] = one.1;
+    file[two.0] = two.1;
+    let given = read_file(rt, alloc, &file, 1000);
+    same(rt, row, given.frames, frames);
+    match end {
+        Some((octet, kind)) => same(rt, row, given.stop, fault(octet, kind)),
+        None => same(rt, row, given.stop, None),
     }
-    Ok(())
 }
 
 #[test]
-fn records_of_any_length_are_whole(rt: HostRuntime) -> Result<(), Fail> {
-    for piece in [5000, 1_000_000] {
-        let mut file = Vec::new(rt.alloc());
-        add_header(&mut file, OctetOrder::Big, false, 1)?;
-        let mut octets = Vec::new(rt.alloc());
-        for i in 0..262_144u32 {
-            octets.push((i % 251) as u8)?;
-        }
-        assert_eq!(rt; octets.len(), 262_144);
-        let counts = [0, 262_144, 1, 65_520, 65_521, 65_535, 0, 70_000, 28];
-        for count in counts {
-            assert!(rt; count <= octets.len());
-            add_record(&mut file, OctetOrder::Big, &octets[..count])?;
-        }
-        let mut depot = MemoryDepot::new(rt.alloc(), &[], piece)?;
-        depot.put("c.pcap", &file)?;
-        let mut frames = Frames::begin(rt.alloc(), &mut depot, "c.pcap")?;
-        let mut into = Vec::new(rt.alloc());
-        assert!(rt; frames_are(&mut frames, &mut depot, &mut into, &octets, &counts));
-        assert_eq!(rt; frames.next(&mut depot, &mut into), Ok(None));
-        assert!(rt; into.capacity() >= 262_144);
+fn a_fault_stands_at_its_octet(rt: HostRuntime) {
+    for row in CHANGES {
+        is_told(&rt, rt.alloc(), *row);
     }
-    Ok(())
+}
+
+/// Octets in turn, 251 of each kind.
+fn octets_in_turn(rt: &impl Abort, alloc: Global) -> Vec<u8> {
+    let mut octets = Vec::new(alloc);
+    for i in 0..262_144u32 {
+        octets.push((i % 251) as u8).expect(rt, "memory");
+    }
+    octets
+}
+
+const COUNTS: [usize; 9] = [0, 262_144, 1, 65_520, 65_521, 65_535, 0, 70_000, 28];
+
+/// A capture with a record of so many octets for each count.
+fn with_counts(rt: &impl Abort, alloc: Global, octets: &[u8]) -> Vec<u8> {
+    let mut file = Vec::new(alloc);
+    add_header(rt, &mut file, OctetOrder::Big, false, 1);
+    assert_eq!(rt; octets.len(), 262_144);
+    for count in COUNTS {
+        assert!(rt; count <= octets.len());
+        add_record(rt, &mut file, OctetOrder::Big, &octets[..count]);
+    }
+    file
+}
+
+fn are_whole(rt: &impl Abort, alloc: Global, depot: &mut MemoryDepot, octets: &[u8]) {
+    let mut frames = Frames::begin(alloc, depot, "c.pcap").expect(rt, "a reader");
+    let mut into = Vec::new(alloc);
+    let are = frames_are(&mut frames, depot, &mut into, octets, &COUNTS);
+    holds(rt, "frames", are);
+    same(rt, "the end", frames.next(depot, &mut into), Ok(None));
+    holds(rt, "capacity", into.capacity() >= 262_144);
+}
+
+#[test]
+fn records_of_any_length_are_whole(rt: HostRuntime) {
+    let octets = octets_in_turn(&rt, rt.alloc());
+    let file = with_counts(&rt, rt.alloc(), &octets);
+    for piece in [5000, 1_000_000] {
+        let mut depot = folder(&rt, rt.alloc(), &file, &[], piece);
+        are_whole(&rt, rt.alloc(), &mut depot, &octets);
+    }
+}
+
+/// One read fails: so many frames come before it, and the rest at the next call.
+fn costs(rt: &impl Abort, alloc: Global, file: &[u8], fail: u32, whole: u32) {
+    let mut depot = folder(rt, alloc, file, &[fail], 1_000_000);
+    let mut frames = Frames::begin(alloc, &mut depot, "c.pcap").expect(rt, "a reader");
+    let mut into = Vec::new(alloc);
+    let failed = Some(FrameStop::ReadFault);
+    let given = read_on(&mut frames, &mut depot, &mut into);
+    let stop = if fail == 5 { None } else { failed };
+    let found = (given.frames, given.stop);
+    same(rt, ("first", fail), found, (whole, stop));
+    same(rt, ("octets", fail), into.len(), 0);
+    let rest = read_on(&mut frames, &mut depot, &mut into);
+    let stop = if fail == 5 { failed } else { None };
+    let frames = whole.saturating_add(rest.frames);
+    same(rt, ("rest", fail), (frames, rest.stop), (1489, stop));
 }
 
 // The first read takes a window that ends in the last of 1,489 records; a second one takes that record, and a third finds
 // the end.
 #[test]
-fn a_window_costs_one_read_and_a_record_none(rt: HostRuntime) -> Result<(), Fail> {
-    let failed = Some(FrameStop::ReadFault);
-    let file = capture(rt.alloc(), OctetOrder::Little, 1489)?;
-    assert_eq!(rt; file.len(), 65_540);
+fn a_window_costs_one_read_and_a_record_none(rt: HostRuntime) {
+    let file = capture(&rt, rt.alloc(), OctetOrder::Little, 1489);
+    same(&rt, "octets", file.len(), 65_540);
     for (fail, whole) in [(2, 1488), (3, 1488), (4, 1489), (5, 1489)] {
-        let mut depot = MemoryDepot::new(rt.alloc(), &[fail], 1_000_000)?;
-        depot.put("c.pcap", &file)?;
-        let mut frames = Frames::begin(rt.alloc(), &mut depot, "c.pcap")?;
-        let mut into = Vec::new(rt.alloc());
-        let given = read_on(&mut frames, &mut depot, &mut into);
-        assert_eq!(rt; given.frames, whole, "where read {fail} fails");
-        assert_eq!(rt; given.stop, if fail == 5 { None } else { failed });
-        assert_eq!(rt; into.len(), 0);
-        let rest = read_on(&mut frames, &mut depot, &mut into);
-        assert_eq!(rt; whole.saturating_add(rest.frames), 1489);
-        assert_eq!(rt; rest.stop, if fail == 5 { failed } else { None });
+        costs(&rt, rt.alloc(), &file, fail, whole);
     }
-    let mut depot = MemoryDepot::new(rt.alloc(), &[1], 7)?;
-    depot.put("c.pcap", &file)?;
-    match Frames::begin(rt.alloc(), &mut depot, "c.pcap") {
-        Ok(_) => assert!(rt; false),
-        Err(stop) => assert_eq!(rt; stop, FrameStop::ReadFault),
-    }
-    Ok(())
+    let mut depot = folder(&rt, rt.alloc(), &file, &[1], 7);
+    let begun = Frames::begin(rt.alloc(), &mut depot, "c.pcap").err();
+    same(&rt, "the first read", begun, Some(FrameStop::ReadFault));
+}
+
+/// A capture with a record of 262,144 octets, in a folder of which the third read fails.
+fn with_long_record(rt: &impl Abort, alloc: Global) -> MemoryDepot {
+    let mut file = Vec::new(alloc);
+    add_header(rt, &mut file, OctetOrder::Little, true, 101);
+    let octets = vec![in alloc; 6u8; 262_144].expect(rt, "memory");
+    add_record(rt, &mut file, OctetOrder::Little, &octets);
+    folder(rt, alloc, &file, &[3], 100_000)
 }
 
 // The record that a read has failed to bring is brought by the next call, and what is appended is read too.
 #[test]
-fn a_reader_goes_on_where_it_stood(rt: HostRuntime) -> Result<(), Fail> {
-    let mut file = Vec::new(rt.alloc());
-    add_header(&mut file, OctetOrder::Little, true, 101)?;
-    let octets = vec![in rt.alloc(); 6u8; 262_144]?;
-    add_record(&mut file, OctetOrder::Little, &octets)?;
-    let mut depot = MemoryDepot::new(rt.alloc(), &[3], 100_000)?;
-    depot.put("c.pcap", &file)?;
-    let mut frames = Frames::begin(rt.alloc(), &mut depot, "c.pcap")?;
+fn a_reader_goes_on_where_it_stood(rt: HostRuntime) {
+    let mut depot = with_long_record(&rt, rt.alloc());
+    let mut frames = Frames::begin(rt.alloc(), &mut depot, "c.pcap").expect(&rt, "a reader");
     let mut into = Vec::new(rt.alloc());
-    assert_eq!(rt;
-        frames.next(&mut depot, &mut into),
-        Err(FrameStop::ReadFault)
-    );
-    assert_eq!(rt; into.len(), 0);
-    assert_eq!(rt; frames.next(&mut depot, &mut into), Ok(Some(HEAD)));
-    assert_eq!(rt; into.len(), 262_144);
-    assert_eq!(rt; frames.next(&mut depot, &mut into), Ok(None));
+    let failed = frames.next(&mut depot, &mut into);
+    let found = (failed, into.len());
+    same(&rt, "fault", found, (Err(FrameStop::ReadFault), 0));
+    let given = frames.next(&mut depot, &mut into);
+    let found = (given, into.len());
+    same(&rt, "record", found, (Ok(Some(HEAD)), 262_144));
+    same(&rt, "end", frames.next(&mut depot, &mut into), Ok(None));
     let mut more = Vec::new(rt.alloc());
-    add_record(&mut more, OctetOrder::Little, &PACKET)?;
-    assert_eq!(rt; grow(&frames, &mut depot, "c.pcap", &more), Ok(44));
-    assert!(rt; frames_are(&mut frames, &mut depot, &mut into, &PACKET, &[28]));
-    Ok(())
+    add_record(&rt, &mut more, OctetOrder::Little, &PACKET);
+    let found = grow(&frames, &mut depot, "c.pcap", &more);
+    same(&rt, "appended", found, Ok(44));
+    let are = frames_are(&mut frames, &mut depot, &mut into, &PACKET, &[28]);
+    holds(&rt, "more", are);
 }
 
 /// A capture of `PACKET` at second 1.
@@ -320,36 +361,33 @@ const WRITTEN: [u8; 68] = [
 ];
 
 #[test]
-fn a_capture_is_written_and_read_back(rt: HostRuntime) -> Result<(), Fail> {
+fn a_capture_is_written(rt: HostRuntime) {
     let mut file = Vec::new(rt.alloc());
-    write_head(false, &mut file)?;
-    write_frame(
-        FrameHead {
-            seconds: 1,
-            fraction: 0,
-        },
-        &PACKET,
-        &mut file,
-    )?;
-    assert_eq!(rt; file.as_slice(), WRITTEN.as_slice());
+    let head = FrameHead {
+        seconds: 1,
+        fraction: 0,
+    };
+    write_head(false, &mut file).expect(&rt, "memory");
+    write_frame(head, &PACKET, &mut file).expect(&rt, "memory");
+    same(&rt, "written", file.as_slice(), WRITTEN.as_slice());
+}
+
+#[test]
+fn a_capture_is_written_and_read_back(rt: HostRuntime) {
     let mut file = Vec::new(rt.alloc());
-    write_head(true, &mut file)?;
-    assert_eq!(rt; file.first(), Some(&0x4d));
-    write_frame(HEAD, &[1, 2, 3], &mut file)?;
-    let given = read_file(rt.alloc(), &file, 9)?;
-    assert_eq!(rt;
-        given,
-        Given {
-            frames: 1,
-            octets: 3,
-            stop: None
-        }
-    );
-    Ok(())
+    write_head(true, &mut file).expect(&rt, "memory");
+    same(&rt, "magic", file.first(), Some(&0x4d));
+    write_frame(HEAD, &[1, 2, 3], &mut file).expect(&rt, "memory");
+    let wanted = Given {
+        frames: 1,
+        octets: 3,
+        stop: None,
+    };
+    same(&rt, "read", read_file(&rt, rt.alloc(), &file, 9), wanted);
 }
 
 /// Frames by link type, EtherType, octets behind two addresses, and the octet from which on the packet stands.
-const FRAMES: [(u32, [u8; 8], usize, Option<usize>); 16] = [
+const FRAMES: &[(u32, [u8; 8], usize, Option<usize>)] = &[
     (1, [8, 0, 1, 2, 3, 4, 5, 6], 20, Some(14)),
     (1, [0x86, 0xdd, 1, 2, 3, 4, 5, 6], 20, Some(14)),
     (1, [8, 6, 1, 2, 3, 4, 5, 6], 20, None),
@@ -369,29 +407,29 @@ const FRAMES: [(u32, [u8; 8], usize, Option<usize>); 16] = [
 ];
 
 #[test]
-fn the_packet_stands_behind_its_type(rt: HostRuntime) -> Result<(), Fail> {
-    for (link, typed, length, from) in FRAMES {
+fn the_packet_stands_behind_its_type(rt: HostRuntime) {
+    for &(link, typed, length, from) in FRAMES {
         let mut frame = [0xffu8; 20];
         frame[12..].copy_from_slice(&typed);
         assert!(rt; length <= 20);
+        let found = ip_part(link, &frame[..length]);
+        let row = (link, typed, length);
         match from {
             Some(from) => {
                 assert!(rt; from <= length);
-                assert_eq!(rt; ip_part(link, &frame[..length]), Some(&frame[from..length]));
+                same(&rt, row, found, Some(&frame[from..length]));
             }
-            None => assert_eq!(rt; ip_part(link, &frame[..length]), None),
+            None => same(&rt, row, found, None),
         }
     }
-    Ok(())
 }
 
 fn is_sent<T: Send>(_: &T) {}
 
 // A reader may go to another thread.
 #[test]
-fn a_reader_is_sent(rt: HostRuntime) -> Result<(), Fail> {
-    let mut depot = MemoryDepot::new(rt.alloc(), &[], 7)?;
-    depot.put("c.pcap", &capture(rt.alloc(), OctetOrder::Big, 0)?)?;
-    is_sent(&Frames::begin(rt.alloc(), &mut depot, "c.pcap")?);
-    Ok(())
+fn a_reader_is_sent(rt: HostRuntime) {
+    let file = capture(&rt, rt.alloc(), OctetOrder::Big, 0);
+    let mut depot = folder(&rt, rt.alloc(), &file, &[], 7);
+    is_sent(&Frames::begin(rt.alloc(), &mut depot, "c.pcap").expect(&rt, "a reader"));
 }

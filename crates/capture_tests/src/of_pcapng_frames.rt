@@ -9,9 +9,12 @@ mod files;
 mod long;
 mod packets;
 
+use crate::checks::same;
 use net_io::{MemoryDepot, OctetOrder};
 use pcapng_frames::{NgFault, NgFrames, NgHead, NgKind, NgStop};
-use std::alloc::{AllocError, Global};
+use std::alloc::Global;
+use std::fmt::Debug;
+use std::process::Abort;
 
 /// An IPv4 packet of 28 octets.
 const PACKET: [u8; 28] = [
@@ -33,17 +36,21 @@ const ONE: NgHead = NgHead {
     link: 101,
 };
 
-fn add_u16(file: &mut Vec<u8>, order: OctetOrder, n: u16) -> Result<(), AllocError> {
+fn add(rt: &impl Abort, file: &mut Vec<u8>, octets: &[u8]) {
+    file.extend_from_slice(octets).expect(rt, "memory");
+}
+
+fn add_u16(rt: &impl Abort, file: &mut Vec<u8>, order: OctetOrder, n: u16) {
     match order {
-        OctetOrder::Little => file.extend_from_slice(&n.to_le_bytes()),
-        OctetOrder::Big => file.extend_from_slice(&n.to_be_bytes()),
+        OctetOrder::Little => add(rt, file, &n.to_le_bytes()),
+        OctetOrder::Big => add(rt, file, &n.to_be_bytes()),
     }
 }
 
-fn add_u32(file: &mut Vec<u8>, order: OctetOrder, n: u32) -> Result<(), AllocError> {
+fn add_u32(rt: &impl Abort, file: &mut Vec<u8>, order: OctetOrder, n: u32) {
     match order {
-        OctetOrder::Little => file.extend_from_slice(&n.to_le_bytes()),
-        OctetOrder::Big => file.extend_from_slice(&n.to_be_bytes()),
+        OctetOrder::Little => add(rt, file, &n.to_le_bytes()),
+        OctetOrder::Big => add(rt, file, &n.to_be_bytes()),
     }
 }
 
@@ -56,91 +63,89 @@ fn padded(count: u32) -> u32
 }
 
 /// A block of this type with this body, padded.
-fn add_block(
-    file: &mut Vec<u8>,
-    order: OctetOrder,
-    kind: u32,
-    body: &[u8],
-) -> Result<(), AllocError>
+fn add_block(rt: &impl Abort, file: &mut Vec<u8>, order: OctetOrder, kind: u32, body: &[u8])
     requires { length body.now ≤ 262144 }
 {
     let count = body.len() as u32;
     let room = padded(count);
-    add_u32(file, order, kind)?;
-    add_u32(file, order, room + 12)?;
-    file.extend_from_slice(body)?;
-    file.extend_from_slice(&[0; 3][..(room - count) as usize])?;
-    add_u32(file, order, room + 12)
+    add_u32(rt, file, order, kind);
+    add_u32(rt, file, order, room + 12);
+    add(rt, file, body);
+    add(rt, file, &[0; 3][..(room - count) as usize]);
+    add_u32(rt, file, order, room + 12);
 }
 
 /// A section header of version 1.0 without options, whose length isn't told.
-fn add_section(file: &mut Vec<u8>, order: OctetOrder) -> Result<(), AllocError> {
-    add_u32(file, order, 0x0a0d_0d0a)?;
-    add_u32(file, order, 28)?;
-    add_u32(file, order, 0x1a2b_3c4d)?;
-    add_u16(file, order, 1)?;
-    add_u16(file, order, 0)?;
-    file.extend_from_slice(&[0xff; 8])?;
-    add_u32(file, order, 28)
+fn add_section(rt: &impl Abort, file: &mut Vec<u8>, order: OctetOrder) {
+    add_u32(rt, file, order, 0x0a0d_0d0a);
+    add_u32(rt, file, order, 28);
+    add_u32(rt, file, order, 0x1a2b_3c4d);
+    add_u16(rt, file, order, 1);
+    add_u16(rt, file, order, 0);
+    add(rt, file, &[0xff; 8]);
+    add_u32(rt, file, order, 28);
 }
 
 /// An interface of this link type: without options, or with its resolution alone.
 fn add_interface(
+    rt: &impl Abort,
     file: &mut Vec<u8>,
     order: OctetOrder,
     link: u16,
     resolution: Option<u8>,
-) -> Result<(), AllocError> {
+) {
     let total = if resolution == None { 20 } else { 28 };
-    add_u32(file, order, 1)?;
-    add_u32(file, order, total)?;
-    add_u16(file, order, link)?;
-    add_u16(file, order, 0)?;
-    add_u32(file, order, 0)?;
+    add_u32(rt, file, order, 1);
+    add_u32(rt, file, order, total);
+    add_u16(rt, file, order, link);
+    add_u16(rt, file, order, 0);
+    add_u32(rt, file, order, 0);
     if let Some(resolution) = resolution {
-        add_u16(file, order, 9)?;
-        add_u16(file, order, 1)?;
-        file.extend_from_slice(&[resolution, 0, 0, 0])?;
+        add_u16(rt, file, order, 9);
+        add_u16(rt, file, order, 1);
+        add(rt, file, &[resolution, 0, 0, 0]);
     }
-    add_u32(file, order, total)
+    add_u32(rt, file, order, total);
 }
 
 /// A packet of an interface, at a count of units in its high and its low part.
 fn add_packet(
+    rt: &impl Abort,
     file: &mut Vec<u8>,
     order: OctetOrder,
     interface: u32,
     units: (u32, u32),
     octets: &[u8],
-) -> Result<(), AllocError>
+)
     requires { length octets.now ≤ 262144 }
 {
     let count = octets.len() as u32;
     let room = padded(count);
-    add_u32(file, order, 6)?;
-    add_u32(file, order, 32 + room)?;
-    add_u32(file, order, interface)?;
-    add_u32(file, order, units.0)?;
-    add_u32(file, order, units.1)?;
-    add_u32(file, order, count)?;
-    add_u32(file, order, count)?;
-    file.extend_from_slice(octets)?;
-    file.extend_from_slice(&[0; 3][..(room - count) as usize])?;
-    add_u32(file, order, 32 + room)
+    add_u32(rt, file, order, 6);
+    add_u32(rt, file, order, 32 + room);
+    add_u32(rt, file, order, interface);
+    add_u32(rt, file, order, units.0);
+    add_u32(rt, file, order, units.1);
+    add_u32(rt, file, order, count);
+    add_u32(rt, file, order, count);
+    add(rt, file, octets);
+    add(rt, file, &[0; 3][..(room - count) as usize]);
+    add_u32(rt, file, order, 32 + room);
+}
+
+/// A packet of the interface of `HEAD` at second 1.
+fn add_one(rt: &impl Abort, file: &mut Vec<u8>, octets: &[u8])
+    requires { length octets.now ≤ 262144 }
+{
+    add_packet(rt, file, OctetOrder::Little, 0, (0, 1_000_000_000), octets);
 }
 
 /// `HEAD`, and `PACKET` at second 1: 120 octets, the packet's block from octet 60 on.
-fn capture(alloc: Global) -> Result<Vec<u8>, AllocError> {
+fn capture(rt: &impl Abort, alloc: Global) -> Vec<u8> {
     let mut file = Vec::new(alloc);
-    file.extend_from_slice(&HEAD)?;
-    add_packet(
-        &mut file,
-        OctetOrder::Little,
-        0,
-        (0, 1_000_000_000),
-        &PACKET,
-    )?;
-    Ok(file)
+    add(rt, &mut file, &HEAD);
+    add_one(rt, &mut file, &PACKET);
+    file
 }
 
 /// The first `n` octets of a file, or all.
@@ -203,9 +208,15 @@ const NOTHING: Given = Given {
 };
 
 /// What a reader gives of a file that begins as pcapng does, read by pieces.
-fn read_file(alloc: Global, file: &[u8]) -> Given {
-    match answers(alloc, file) {
-        Ok(given) => given,
+fn read_file(rt: &impl Abort, alloc: Global, file: &[u8]) -> Given {
+    if !file.starts_with(&[0x0a, 0x0d, 0x0d, 0x0a]) {
+        return NOTHING;
+    }
+    let mut depot = MemoryDepot::new(alloc, &[], 50_000).expect(rt, "memory");
+    depot.put("a.pcapng", file).expect(rt, "memory");
+    let mut into = Vec::new(alloc);
+    match NgFrames::begin(alloc, &mut depot, "a.pcapng") {
+        Ok(mut frames) => read_on(&mut frames, &mut depot, &mut into),
         Err(stop) => Given {
             stop: Some(stop),
             ..NOTHING
@@ -213,15 +224,9 @@ fn read_file(alloc: Global, file: &[u8]) -> Given {
     }
 }
 
-fn answers(alloc: Global, file: &[u8]) -> Result<Given, NgStop> {
-    if !file.starts_with(&[0x0a, 0x0d, 0x0d, 0x0a]) {
-        return Ok(NOTHING);
-    }
-    let mut depot = MemoryDepot::new(alloc, &[], 50_000)?;
-    depot.put("a.pcapng", file)?;
-    let mut into = Vec::new(alloc);
-    let mut frames = NgFrames::begin(alloc, &mut depot, "a.pcapng")?;
-    Ok(read_on(&mut frames, &mut depot, &mut into))
+/// Ends the test unless a reader gives this of a file.
+fn gives<C: Debug + Drop>(rt: &impl Abort, alloc: Global, case: C, file: &[u8], wanted: Given) {
+    same(rt, case, read_file(rt, alloc, file), wanted);
 }
 
 fn whole(frames: u32, octets: usize, last: NgHead) -> Given {

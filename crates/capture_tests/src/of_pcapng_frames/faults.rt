@@ -1,14 +1,14 @@
 //! Each fault at its octet, and the first of two.
 
 use super::*;
-use std::test::Fail;
+use crate::checks::same;
 
 /// Two octets that are set in two captures one behind the other, whose blocks begin at 0, 28, 60, 120, 148 and 180: how many
 /// frames come then, and the fault. Where both make one, the row tells which is told.
 type Change = ((usize, u8), (usize, u8), u32, Option<(u64, NgKind)>);
 
 /// In a section header, the first one or the second.
-const IN_SECTIONS: [Change; 14] = [
+const IN_SECTIONS: &[Change] = &[
     ((0, 0x0a), (14, 2), 2, None),
     ((16, 0), (23, 0), 2, None),
     ((8, 0x4e), (4, 0x1d), 0, Some((8, NgKind::Magic))),
@@ -26,7 +26,7 @@ const IN_SECTIONS: [Change; 14] = [
 ];
 
 /// In an interface description and its options.
-const IN_INTERFACES: [Change; 14] = [
+const IN_INTERFACES: &[Change] = &[
     ((32, 0x10), (56, 0x10), 0, Some((32, NgKind::BlockLength))),
     ((32, 0x22), (56, 0), 0, Some((32, NgKind::BlockLength))),
     ((34, 1), (44, 9), 0, Some((240, NgKind::Short))),
@@ -45,7 +45,7 @@ const IN_INTERFACES: [Change; 14] = [
 
 /// In an enhanced packet, and in one of another type. Where 120 is 8 the second section header is passed over, and the interface
 /// behind it is the first section's second one.
-const IN_PACKETS: [Change; 24] = [
+const IN_PACKETS: &[Change] = &[
     ((64, 0x3d), (116, 0x3d), 0, Some((64, NgKind::BlockLength))),
     ((64, 0x1c), (116, 0), 0, Some((64, NgKind::BlockLength))),
     ((66, 1), (116, 0), 0, Some((240, NgKind::Short))),
@@ -72,42 +72,38 @@ const IN_PACKETS: [Change; 24] = [
     ((84, 4), (204, 0), 2, None),
 ];
 
-/// Whether a changed file gives so many frames, and this fault.
-fn is_told(alloc: Global, change_of: Change) -> Result<bool, AllocError> {
-    let (one, two, frames, fault) = change_of;
-    let mut file = capture(alloc)?;
-    let again = capture(alloc)?;
-    file.extend_from_slice(&again)?;
+/// Ends the test unless a changed file gives so many frames, and this fault.
+fn is_told(rt: &impl Abort, alloc: Global, row: &Change) {
+    let (one, two, frames, fault) = *row;
+    let mut file = capture(rt, alloc);
+    add(rt, &mut file, &capture(rt, alloc));
     change(&mut file, one.0, one.1);
     change(&mut file, two.0, two.1);
-    let given = read_file(alloc, &file);
+    let given = read_file(rt, alloc, &file);
     let stop = match fault {
         Some((octet, kind)) => broken(octet, kind).stop,
         None => None,
     };
-    Ok(given.frames == frames && given.stop == stop)
+    same(rt, row, (given.frames, given.stop), (frames, stop));
 }
 
 #[test]
-fn a_fault_of_a_section_stands_at_its_octet(rt: HostRuntime) -> Result<(), Fail> {
+fn a_fault_of_a_section_stands_at_its_octet(rt: HostRuntime) {
     for row in IN_SECTIONS {
-        assert!(rt; is_told(rt.alloc(), row)?, "with {}, {}", row.0.0, row.1.0);
+        is_told(&rt, rt.alloc(), row);
     }
-    Ok(())
 }
 
 #[test]
-fn a_fault_of_an_interface_stands_at_its_octet(rt: HostRuntime) -> Result<(), Fail> {
+fn a_fault_of_an_interface_stands_at_its_octet(rt: HostRuntime) {
     for row in IN_INTERFACES {
-        assert!(rt; is_told(rt.alloc(), row)?, "with {}, {}", row.0.0, row.1.0);
+        is_told(&rt, rt.alloc(), row);
     }
-    Ok(())
 }
 
 #[test]
-fn a_fault_of_a_packet_stands_at_its_octet(rt: HostRuntime) -> Result<(), Fail> {
+fn a_fault_of_a_packet_stands_at_its_octet(rt: HostRuntime) {
     for row in IN_PACKETS {
-        assert!(rt; is_told(rt.alloc(), row)?, "with {}, {}", row.0.0, row.1.0);
+        is_told(&rt, rt.alloc(), row);
     }
-    Ok(())
 }

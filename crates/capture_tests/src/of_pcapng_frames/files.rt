@@ -1,9 +1,9 @@
 //! Whole files, of both orders and of several sections, with blocks that are passed over; what is written.
 
 use super::*;
+use crate::checks::same;
 use pcap_frames::FrameHead;
 use pcapng_frames::{write_ng_frame, write_ng_head};
-use std::test::Fail;
 
 /// The block of `PACKET` at second 1, as it is written.
 const FRAME: [u8; 60] = [
@@ -12,63 +12,85 @@ const FRAME: [u8; 60] = [
     0xe8, 0, 0x35, 0, 8, 0xe7, 0xbe, 0x3c, 0, 0, 0,
 ];
 
-#[test]
-fn a_file_is_written_and_read_back(rt: HostRuntime) -> Result<(), Fail> {
-    let alloc = rt.alloc();
+/// A file with `PACKET` at second 1, as it is written.
+fn written(rt: &impl Abort, alloc: Global) -> Vec<u8> {
     let mut file = Vec::new(alloc);
-    write_ng_head(&mut file)?;
-    assert_eq!(rt; file.as_slice(), HEAD.as_slice());
+    write_ng_head(&mut file).expect(rt, "memory");
     let head = FrameHead {
         seconds: 1,
         fraction: 0,
     };
-    write_ng_frame(head, &PACKET, &mut file)?;
-    assert_eq!(rt; file.get(60..), Some(FRAME.as_slice()));
-    assert_eq!(rt; read_file(alloc, &file), whole(1, 28, ONE));
+    write_ng_frame(head, &PACKET, &mut file).expect(rt, "memory");
+    file
+}
+
+#[test]
+fn a_file_is_written_and_read_back(rt: HostRuntime) {
+    let file = written(&rt, rt.alloc());
+    same(&rt, "head", file.get(..60), Some(HEAD.as_slice()));
+    same(&rt, "frame", file.get(60..), Some(FRAME.as_slice()));
+    gives(&rt, rt.alloc(), "one frame", &file, whole(1, 28, ONE));
+}
+
+#[test]
+fn the_last_time_is_written_and_read_back(rt: HostRuntime) {
+    let mut file = written(&rt, rt.alloc());
     let last = FrameHead {
         seconds: 4_294_967_295,
         fraction: 999_999_999,
     };
-    write_ng_frame(last, &[1, 2, 3, 4, 5], &mut file)?;
-    assert_eq!(rt; file.len(), 160);
+    write_ng_frame(last, &[1, 2, 3, 4, 5], &mut file).expect(&rt, "memory");
+    same(&rt, "octets", file.len(), 160);
     let given = NgHead {
         seconds: 4_294_967_295,
         nanos: 999_999_999,
         link: 101,
     };
-    assert_eq!(rt; read_file(alloc, &file), whole(2, 33, given));
-    Ok(())
+    gives(&rt, rt.alloc(), "two frames", &file, whole(2, 33, given));
+}
+
+/// `capture` with one octet set.
+fn changed(rt: &impl Abort, alloc: Global, place: usize, octet: u8) -> Vec<u8> {
+    let mut file = capture(rt, alloc);
+    change(&mut file, place, octet);
+    file
 }
 
 /// What the file that was written gives when it is cut, when one octet is set (where its options end at once, its resolution is
 /// microseconds), and with a block between head and frame.
 #[test]
-fn a_written_file_that_was_changed(rt: HostRuntime) -> Result<(), Fail> {
+fn a_written_file_that_was_changed(rt: HostRuntime) {
     let alloc = rt.alloc();
-    let mut file = capture(alloc)?;
-    assert_eq!(rt;
-        read_file(alloc, cut(&file, 100)),
-        broken(100, NgKind::Short)
+    let file = capture(&rt, alloc);
+    gives(
+        &rt,
+        alloc,
+        "cut",
+        cut(&file, 100),
+        broken(100, NgKind::Short),
     );
-    change(&mut file, 116, 0);
-    assert_eq!(rt; read_file(alloc, &file), broken(116, NgKind::Trailer));
-    let mut file = capture(alloc)?;
-    change(&mut file, 68, 1);
-    assert_eq!(rt; read_file(alloc, &file), broken(68, NgKind::Interface));
-    let mut file = capture(alloc)?;
-    change(&mut file, 44, 0);
+    let file = changed(&rt, alloc, 116, 0);
+    gives(&rt, alloc, "trailer", &file, broken(116, NgKind::Trailer));
+    let file = changed(&rt, alloc, 68, 1);
+    gives(
+        &rt,
+        alloc,
+        "interface",
+        &file,
+        broken(68, NgKind::Interface),
+    );
+    let file = changed(&rt, alloc, 44, 0);
     let microseconds = NgHead {
         seconds: 1000,
         nanos: 0,
         link: 101,
     };
-    assert_eq!(rt; read_file(alloc, &file), whole(1, 28, microseconds));
+    gives(&rt, alloc, "options", &file, whole(1, 28, microseconds));
     let mut file = Vec::new(alloc);
-    file.extend_from_slice(&HEAD)?;
-    file.extend_from_slice(&[1, 0, 0, 0x80, 12, 0, 0, 0, 12, 0, 0, 0])?;
-    file.extend_from_slice(&FRAME)?;
-    assert_eq!(rt; read_file(alloc, &file), whole(1, 28, ONE));
-    Ok(())
+    add(&rt, &mut file, &HEAD);
+    add(&rt, &mut file, &[1, 0, 0, 0x80, 12, 0, 0, 0, 12, 0, 0, 0]);
+    add(&rt, &mut file, &FRAME);
+    gives(&rt, alloc, "a block between", &file, whole(1, 28, ONE));
 }
 
 /// A section header as dumpcap writes one: hardware, system, program, and the end of its options.
@@ -121,20 +143,19 @@ const COMMENTED_HEAD: NgHead = NgHead {
 };
 
 #[test]
-fn a_file_as_dumpcap_writes_it(rt: HostRuntime) -> Result<(), Fail> {
+fn a_file_as_dumpcap_writes_it(rt: HostRuntime) {
     let alloc = rt.alloc();
     let mut file = Vec::new(alloc);
     for block in [&SECTION[..], &INTERFACE, &SECRETS, &NAMES, &COMMENTED] {
-        file.extend_from_slice(block)?;
+        add(&rt, &mut file, block);
     }
-    file.extend_from_slice(&STATISTICS)?;
-    assert_eq!(rt; read_file(alloc, &file), whole(1, 4, COMMENTED_HEAD));
-    Ok(())
+    add(&rt, &mut file, &STATISTICS);
+    gives(&rt, alloc, "dumpcap", &file, whole(1, 4, COMMENTED_HEAD));
 }
 
 /// Types of blocks that are passed over: name resolution, statistics, a journal entry, secrets, custom blocks of both kinds, and
 /// those that nobody has named, among them 1, 2, 3 and 6 in the other order.
-const PASSED: [u32; 13] = [
+const PASSED: &[u32] = &[
     0,
     4,
     5,
@@ -150,73 +171,84 @@ const PASSED: [u32; 13] = [
     0x0600_0000,
 ];
 
+fn is_passed_over(rt: &impl Abort, alloc: Global, order: OctetOrder, kind: u32) {
+    let mut file = Vec::new(alloc);
+    add_section(rt, &mut file, order);
+    add_block(rt, &mut file, order, kind, &[]);
+    add_interface(rt, &mut file, order, 101, Some(9));
+    add_block(rt, &mut file, order, kind, &[1, 2, 3, 4, 5]);
+    add_packet(rt, &mut file, order, 0, (0, 1_000_000_000), &PACKET);
+    add_block(rt, &mut file, order, kind, &[6; 12]);
+    gives(rt, alloc, (order, kind), &file, whole(1, 28, ONE));
+}
+
 #[test]
-fn other_blocks_are_passed_over(rt: HostRuntime) -> Result<(), Fail> {
-    let alloc = rt.alloc();
-    for order in [OctetOrder::Little, OctetOrder::Big] {
-        for kind in PASSED {
-            let mut file = Vec::new(alloc);
-            add_section(&mut file, order)?;
-            add_block(&mut file, order, kind, &[])?;
-            add_interface(&mut file, order, 101, Some(9))?;
-            add_block(&mut file, order, kind, &[1, 2, 3, 4, 5])?;
-            add_packet(&mut file, order, 0, (0, 1_000_000_000), &PACKET)?;
-            add_block(&mut file, order, kind, &[6; 12])?;
-            assert_eq!(rt; read_file(alloc, &file), whole(1, 28, ONE), "type {kind}");
-        }
+fn other_blocks_are_passed_over(rt: HostRuntime) {
+    for kind in PASSED {
+        is_passed_over(&rt, rt.alloc(), OctetOrder::Little, *kind);
+        is_passed_over(&rt, rt.alloc(), OctetOrder::Big, *kind);
     }
-    Ok(())
+}
+
+/// A section of the other order behind `capture`, with interfaces of its own and two packets.
+fn two_sections(rt: &impl Abort, alloc: Global) -> Vec<u8> {
+    let mut file = capture(rt, alloc);
+    let big = OctetOrder::Big;
+    add_section(rt, &mut file, big);
+    add_interface(rt, &mut file, big, 1, None);
+    add_interface(rt, &mut file, big, 229, Some(9));
+    add_packet(rt, &mut file, big, 1, (0, 5), &[1, 2]);
+    add_packet(rt, &mut file, big, 0, (0, 1_000_005), &[1, 2, 3]);
+    file
 }
 
 /// Sections of both orders one behind another: each has its own order and its own interfaces.
 #[test]
-fn sections_have_their_own_order_and_interfaces(rt: HostRuntime) -> Result<(), Fail> {
+fn sections_have_their_own_order_and_interfaces(rt: HostRuntime) {
     let alloc = rt.alloc();
-    let mut file = capture(alloc)?;
-    let big = OctetOrder::Big;
-    add_section(&mut file, big)?;
-    add_interface(&mut file, big, 1, None)?;
-    add_interface(&mut file, big, 229, Some(9))?;
-    add_packet(&mut file, big, 1, (0, 5), &[1, 2])?;
-    add_packet(&mut file, big, 0, (0, 1_000_005), &[1, 2, 3])?;
+    let mut file = two_sections(&rt, alloc);
     let microsecond = NgHead {
         seconds: 1,
         nanos: 5000,
         link: 1,
     };
-    assert_eq!(rt; read_file(alloc, &file), whole(3, 33, microsecond));
-    add_section(&mut file, OctetOrder::Little)?;
+    gives(&rt, alloc, "two sections", &file, whole(3, 33, microsecond));
+    add_section(&rt, &mut file, OctetOrder::Little);
     let at = file.len() as u64;
-    add_packet(&mut file, OctetOrder::Little, 0, (0, 5), &[1])?;
-    let given = read_file(alloc, &file);
-    assert_eq!(rt; given.frames, 3);
-    assert_eq!(rt;
-        given.stop,
-        broken(at.saturating_add(8), NgKind::Interface).stop
+    add_packet(&rt, &mut file, OctetOrder::Little, 0, (0, 5), &[1]);
+    let given = read_file(&rt, alloc, &file);
+    let stop = broken(at.saturating_add(8), NgKind::Interface).stop;
+    same(&rt, "no interface", (given.frames, given.stop), (3, stop));
+}
+
+fn is_short(rt: &impl Abort, alloc: Global, file: &[u8], n: usize) {
+    let between = n == 28 || n == 56 || n == 72;
+    let short = broken(n as u64, NgKind::Short);
+    gives(
+        rt,
+        alloc,
+        n,
+        cut(file, n),
+        if between { NOTHING } else { short },
     );
-    Ok(())
+}
+
+fn is_cut(rt: &impl Abort, alloc: Global, order: OctetOrder) {
+    let mut file = Vec::new(alloc);
+    add_section(rt, &mut file, order);
+    add_interface(rt, &mut file, order, 101, Some(9));
+    add_block(rt, &mut file, order, 4, &[7, 7, 7]);
+    add_packet(rt, &mut file, order, 0, (0, 1_000_000_000), &PACKET);
+    same(rt, order, file.len(), 132);
+    for n in 4..132usize {
+        is_short(rt, alloc, &file, n);
+    }
+    gives(rt, alloc, order, &file, whole(1, 28, ONE));
 }
 
 /// A file cut within its first four blocks, of which the last is a packet, is Short at its length, and whole between blocks.
 #[test]
-fn a_file_is_cut_at_each_octet(rt: HostRuntime) -> Result<(), Fail> {
-    let alloc = rt.alloc();
-    for order in [OctetOrder::Little, OctetOrder::Big] {
-        let mut file = Vec::new(alloc);
-        add_section(&mut file, order)?;
-        add_interface(&mut file, order, 101, Some(9))?;
-        add_block(&mut file, order, 4, &[7, 7, 7])?;
-        add_packet(&mut file, order, 0, (0, 1_000_000_000), &PACKET)?;
-        assert_eq!(rt; file.len(), 132);
-        for n in 4..132usize {
-            let given = read_file(alloc, cut(&file, n));
-            if n == 28 || n == 56 || n == 72 {
-                assert_eq!(rt; given, NOTHING, "at {n}");
-            } else {
-                assert_eq!(rt; given, broken(n as u64, NgKind::Short), "at {n}");
-            }
-        }
-        assert_eq!(rt; read_file(alloc, &file), whole(1, 28, ONE));
-    }
-    Ok(())
+fn a_file_is_cut_at_each_octet(rt: HostRuntime) {
+    is_cut(&rt, rt.alloc(), OctetOrder::Little);
+    is_cut(&rt, rt.alloc(), OctetOrder::Big);
 }

@@ -1,10 +1,11 @@
 //! Times, interfaces and padding of packets.
 
 use super::*;
-use std::test::Fail;
 
 /// A resolution, if it is told, the parts of a time, and seconds and nanoseconds; none where they are 2^32 seconds or more.
-const TIMES: [(Option<u8>, (u32, u32), Option<(u32, u32)>); 12] = [
+type Time = (Option<u8>, (u32, u32), Option<(u32, u32)>);
+
+const TIMES: &[Time] = &[
     (None, (0, 0), Some((0, 0))),
     (None, (0, 1_000_005), Some((1, 5000))),
     (Some(6), (0, 1_000_005), Some((1, 5000))),
@@ -27,36 +28,39 @@ const TIMES: [(Option<u8>, (u32, u32), Option<(u32, u32)>); 12] = [
     (Some(9), (1_000_000_000, 0), None),
 ];
 
-#[test]
-fn a_time_is_a_count_of_units(rt: HostRuntime) -> Result<(), Fail> {
-    let alloc = rt.alloc();
-    for order in [OctetOrder::Little, OctetOrder::Big] {
-        for (resolution, units, time) in TIMES {
-            let mut file = Vec::new(alloc);
-            add_section(&mut file, order)?;
-            add_interface(&mut file, order, 228, resolution)?;
-            let at = file.len() as u64;
-            add_packet(&mut file, order, 0, units, &[9])?;
-            let wanted = match time {
-                Some((seconds, nanos)) => whole(
-                    1,
-                    1,
-                    NgHead {
-                        seconds,
-                        nanos,
-                        link: 228,
-                    },
-                ),
-                None => broken(at.saturating_add(12), NgKind::Time),
-            };
-            assert_eq!(rt; read_file(alloc, &file), wanted);
-        }
+/// What a packet of an interface of this link type gives at a time.
+fn at_time((seconds, nanos): (u32, u32), link: u32) -> NgHead {
+    NgHead {
+        seconds,
+        nanos,
+        link,
     }
-    Ok(())
+}
+
+fn is_counted(rt: &impl Abort, alloc: Global, order: OctetOrder, row: &Time) {
+    let (resolution, units, time) = *row;
+    let mut file = Vec::new(alloc);
+    add_section(rt, &mut file, order);
+    add_interface(rt, &mut file, order, 228, resolution);
+    let at = file.len() as u64;
+    add_packet(rt, &mut file, order, 0, units, &[9]);
+    let wanted = match time {
+        Some(time) => whole(1, 1, at_time(time, 228)),
+        None => broken(at.saturating_add(12), NgKind::Time),
+    };
+    gives(rt, alloc, (order, row), &file, wanted);
+}
+
+#[test]
+fn a_time_is_a_count_of_units(rt: HostRuntime) {
+    for row in TIMES {
+        is_counted(&rt, rt.alloc(), OctetOrder::Little, row);
+        is_counted(&rt, rt.alloc(), OctetOrder::Big, row);
+    }
 }
 
 /// Interfaces of one section, by link type and resolution, and what a packet of each is.
-const INTERFACES: [(u16, Option<u8>, Result<(u32, u32), NgKind>); 9] = [
+const INTERFACES: &[(u16, Option<u8>, Result<(u32, u32), NgKind>)] = &[
     (113, None, Err(NgKind::LinkType)),
     (1, None, Ok((7, 8000))),
     (101, Some(6), Ok((7, 8000))),
@@ -68,47 +72,54 @@ const INTERFACES: [(u16, Option<u8>, Result<(u32, u32), NgKind>); 9] = [
     (1, Some(9), Ok((0, 7_000_008))),
 ];
 
-#[test]
-fn a_packet_is_of_its_interface(rt: HostRuntime) -> Result<(), Fail> {
-    let alloc = rt.alloc();
-    for order in [OctetOrder::Little, OctetOrder::Big] {
-        let mut head = Vec::new(alloc);
-        add_section(&mut head, order)?;
-        for (link, resolution, _) in INTERFACES {
-            add_interface(&mut head, order, link, resolution)?;
-        }
-        let at = (head.len() as u64).saturating_add(8);
-        let mut place = 0;
-        for (link, _, said) in INTERFACES {
-            let mut file = Vec::new(alloc);
-            file.extend_from_slice(&head)?;
-            add_packet(&mut file, order, place, (0, 7_000_008), &[1, 2])?;
-            let wanted = match said {
-                Ok((seconds, nanos)) => {
-                    let link = u32::from(link);
-                    whole(
-                        1,
-                        2,
-                        NgHead {
-                            seconds,
-                            nanos,
-                            link,
-                        },
-                    )
-                }
-                Err(kind) => broken(at, kind),
-            };
-            assert_eq!(rt; read_file(alloc, &file), wanted, "interface {place}");
-            place = place.saturating_add(1);
-        }
-        add_packet(&mut head, order, place, (0, 0), &[])?;
-        assert_eq!(rt; read_file(alloc, &head), broken(at, NgKind::Interface));
+/// A section with these interfaces.
+fn interfaces(rt: &impl Abort, alloc: Global, order: OctetOrder) -> Vec<u8> {
+    let mut head = Vec::new(alloc);
+    add_section(rt, &mut head, order);
+    for &(link, resolution, _) in INTERFACES {
+        add_interface(rt, &mut head, order, link, resolution);
     }
-    Ok(())
+    head
+}
+
+/// Ends the test unless a packet of the interface of this place gives this.
+fn place_gives(rt: &impl Abort, alloc: Global, order: OctetOrder, place: u32, wanted: Given) {
+    let mut file = interfaces(rt, alloc, order);
+    add_packet(rt, &mut file, order, place, (0, 7_000_008), &[1, 2]);
+    gives(rt, alloc, (order, place), &file, wanted);
+}
+
+fn are_of_their_interfaces(rt: &impl Abort, alloc: Global, order: OctetOrder) {
+    let head = interfaces(rt, alloc, order).len() as u64;
+    let at = head.saturating_add(8);
+    let mut place = 0;
+    for &(link, _, said) in INTERFACES {
+        let wanted = match said {
+            Ok(time) => whole(1, 2, at_time(time, u32::from(link))),
+            Err(kind) => broken(at, kind),
+        };
+        place_gives(rt, alloc, order, place, wanted);
+        place = place.saturating_add(1);
+    }
+    let mut file = interfaces(rt, alloc, order);
+    add_packet(rt, &mut file, order, place, (0, 0), &[]);
+    gives(
+        rt,
+        alloc,
+        (order, place),
+        &file,
+        broken(at, NgKind::Interface),
+    );
+}
+
+#[test]
+fn a_packet_is_of_its_interface(rt: HostRuntime) {
+    are_of_their_interfaces(&rt, rt.alloc(), OctetOrder::Little);
+    are_of_their_interfaces(&rt, rt.alloc(), OctetOrder::Big);
 }
 
 /// Octets of a packet by their number, in a block of this many; a fault where they pass it with their padding.
-const PADDED: [(u8, u8, bool); 9] = [
+const PADDED: &[(u8, u8, bool)] = &[
     (0, 32, true),
     (1, 36, true),
     (4, 36, true),
@@ -120,25 +131,34 @@ const PADDED: [(u8, u8, bool); 9] = [
     (29, 60, false),
 ];
 
+/// `HEAD` and a packet of so many octets in a block of this length, filled with octets that aren't zero.
+fn with_total(rt: &impl Abort, alloc: Global, count: u8, total: u8) -> Vec<u8> {
+    let mut file = Vec::new(alloc);
+    add(rt, &mut file, &HEAD);
+    add(rt, &mut file, &[6, 0, 0, 0, total, 0, 0, 0, 0, 0, 0, 0]);
+    add(
+        rt,
+        &mut file,
+        &[0, 0, 0, 0, 0, 0xca, 0x9a, 0x3b, count, 0, 0, 0],
+    );
+    add(rt, &mut file, &[count, 0, 0, 0]);
+    for _ in 32..total {
+        add(rt, &mut file, &[5]);
+    }
+    add(rt, &mut file, &[total, 0, 0, 0]);
+    file
+}
+
 #[test]
-fn padding_counts_and_options_follow(rt: HostRuntime) -> Result<(), Fail> {
+fn padding_counts_and_options_follow(rt: HostRuntime) {
     let alloc = rt.alloc();
-    for (count, total, fits) in PADDED {
-        let mut file = capture(alloc)?;
-        file.truncate(60);
-        file.extend_from_slice(&[6, 0, 0, 0, total, 0, 0, 0, 0, 0, 0, 0])?;
-        file.extend_from_slice(&[0, 0, 0, 0, 0, 0xca, 0x9a, 0x3b, count, 0, 0, 0])?;
-        file.extend_from_slice(&[count, 0, 0, 0])?;
-        for _ in 32..total {
-            file.push(5)?;
-        }
-        file.extend_from_slice(&[total, 0, 0, 0])?;
+    for &(count, total, fits) in PADDED {
+        let file = with_total(&rt, alloc, count, total);
         let wanted = if fits {
             whole(1, usize::from(count), ONE)
         } else {
             broken(64, NgKind::BlockLength)
         };
-        assert_eq!(rt; read_file(alloc, &file), wanted, "of {count}");
+        gives(&rt, alloc, (count, total), &file, wanted);
     }
-    Ok(())
 }
