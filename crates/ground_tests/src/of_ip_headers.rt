@@ -492,42 +492,20 @@ fn a_labelled_packet_of_version_4(rt: HostRuntime) {
     let bytes = octets(&rt, rt.alloc(), LABELLED_4);
     let option = cipso();
     let packet = read4(&bytes).expect(&rt, "a packet");
-    same(
-        &rt,
-        "hops, protocol",
-        (packet.hops(), packet.protocol()),
-        (64, 17),
-    );
+    let fields = (packet.hops(), packet.protocol(), packet.has_others());
+    same(&rt, "fields", fields, (64, 17, false));
     same(&rt, "source", packet.source(), [10, 0, 0, 1]);
     same(&rt, "destination", packet.destination(), [10, 0, 0, 2]);
-    same(
-        &rt,
-        "others, length",
-        (packet.has_others(), packet.payload().len()),
-        (false, 8),
-    );
-    same(
-        &rt,
-        "label option",
-        packet.label_option(),
-        Some((20, &option[..])),
-    );
+    same(&rt, "payload", packet.payload().len(), 8);
+    let found = packet.label_option();
+    same(&rt, "label option", found, Some((20, &option[..])));
     let mut out = Vec::new(rt.alloc());
-    same(
-        &rt,
-        "labelled",
-        rebuild4(&packet, Some(&option), 64, &mut out),
-        Ok(()),
-    );
+    let done = rebuild4(&packet, Some(&option), 64, &mut out);
+    same(&rt, "labelled", done, Ok(()));
     same(&rt, "labelled", out.as_slice(), bytes.as_slice());
     same(&rt, "bare", rebuild4(&packet, None, 64, &mut out), Ok(()));
-    are_octets(
-        &rt,
-        rt.alloc(),
-        "bare",
-        &out,
-        "4500001c00000000401166cf0a0000010a00000203e8003500080000",
-    );
+    let bare = "4500001c00000000401166cf0a0000010a00000203e8003500080000";
+    are_octets(&rt, rt.alloc(), "bare", &out, bare);
 }
 
 #[test]
@@ -538,12 +516,8 @@ fn a_plain_packet_of_version_4(rt: HostRuntime) {
     same(&rt, "fields", fields, (0, 0, 0x4000));
     same(&rt, "label option", packet.label_option(), None);
     let mut out = Vec::new(rt.alloc());
-    same(
-        &rt,
-        "labelled",
-        rebuild4(&packet, Some(&cipso()), 64, &mut out),
-        Ok(()),
-    );
+    let done = rebuild4(&packet, Some(&cipso()), 64, &mut out);
+    same(&rt, "labelled", done, Ok(()));
     are_octets(&rt, rt.alloc(), "labelled", &out, BITMAP_16);
 }
 
@@ -593,12 +567,8 @@ fn another_option_in_place_of_those_of_one_type(rt: HostRuntime) {
         let bytes = octets(&rt, rt.alloc(), text);
         let option = octets(&rt, rt.alloc(), option);
         let mut out = Vec::new(rt.alloc());
-        same(
-            &rt,
-            name,
-            swap(&rt, name, &bytes, &option, &mut out),
-            Ok(()),
-        );
+        let found = swap(&rt, name, &bytes, &option, &mut out);
+        same(&rt, name, found, Ok(()));
         are_octets(&rt, rt.alloc(), name, &out, swapped);
     }
 }
@@ -609,12 +579,8 @@ fn no_room_for_another_option(rt: HostRuntime) {
         let bytes = octets(&rt, rt.alloc(), text);
         let option = octets(&rt, rt.alloc(), option);
         let mut out = octets(&rt, rt.alloc(), "00");
-        same(
-            &rt,
-            name,
-            swap(&rt, name, &bytes, &option, &mut out),
-            Err(Rebuild::NoRoom),
-        );
+        let found = swap(&rt, name, &bytes, &option, &mut out);
+        same(&rt, name, found, Err(Rebuild::NoRoom));
         same(&rt, name, out.len(), 0);
     }
 }
@@ -623,45 +589,20 @@ fn no_room_for_another_option(rt: HostRuntime) {
 fn a_router_alert_keeps_its_place(rt: HostRuntime) {
     let bytes = octets(&rt, rt.alloc(), ALERT_6);
     let packet = read6(&bytes).expect(&rt, "a packet");
-    same(
-        &rt,
-        "class, flow label",
-        (packet.class(), packet.flow_label()),
-        (0, 0),
-    );
-    same(
-        &rt,
-        "hops, protocol",
-        (packet.hops(), packet.protocol()),
-        (64, 17),
-    );
-    same(
-        &rt,
-        "addresses",
-        (packet.source()[15], packet.destination()[15]),
-        (1, 2),
-    );
-    same(
-        &rt,
-        "others, length",
-        (packet.has_others(), packet.payload().len()),
-        (true, 8),
-    );
+    let fields = (packet.class(), packet.flow_label(), packet.hops());
+    same(&rt, "fields", fields, (0, 0, 64));
+    same(&rt, "protocol", packet.protocol(), 17);
+    let last = (packet.source()[15], packet.destination()[15]);
+    same(&rt, "addresses", last, (1, 2));
+    same(&rt, "others", packet.has_others(), true);
     same(&rt, "label option", packet.label_option(), None);
+    same(&rt, "payload", packet.payload().len(), 8);
     let mut out = Vec::new(rt.alloc());
-    same(
-        &rt,
-        "labelled",
-        rebuild6(&packet, Some(&calipso()), 64, &mut out),
-        Ok(()),
-    );
-    are_octets(
-        &rt,
-        rt.alloc(),
-        "labelled",
-        &out,
-        "6000000000200040fd000000000000000000000000000001fd00000000000000000000000000000211020708000000100002bfd901040000000005020000010003e8003500080000",
-    );
+    let done = rebuild6(&packet, Some(&calipso()), 64, &mut out);
+    same(&rt, "labelled", done, Ok(()));
+    let labelled =
+        "6000000000200040fd000000000000000000000000000001fd00000000000000000000000000000211020708000000100002bfd901040000000005020000010003e8003500080000";
+    are_octets(&rt, rt.alloc(), "labelled", &out, labelled);
     same(&rt, "bare", rebuild6(&packet, None, 64, &mut out), Ok(()));
     same(&rt, "bare", out.as_slice(), bytes.as_slice());
 }
@@ -678,13 +619,9 @@ fn a_packet_of_version_4_by_its_fields(rt: HostRuntime) {
         destination: [10, 0, 0, 2],
     };
     let mut out = Vec::new(rt.alloc());
-    same(
-        &rt,
-        "written",
-        write4(&fields, Some(&cipso()), &PAYLOAD, &mut out),
-        Ok(()),
-    );
-    are_octets(&rt, rt.alloc(), "its octets", &out, BITMAP_16);
+    let done = write4(&fields, Some(&cipso()), &PAYLOAD, &mut out);
+    same(&rt, "done", done, Ok(()));
+    are_octets(&rt, rt.alloc(), "written", &out, BITMAP_16);
 }
 
 #[test]
@@ -698,19 +635,11 @@ fn a_packet_of_version_6_by_its_fields(rt: HostRuntime) {
         destination: [0xfd, 0, 0, 0, 0, 0, 0, 0, 0, 0, 0, 0, 0, 0, 0, 2],
     };
     let mut out = Vec::new(rt.alloc());
-    same(
-        &rt,
-        "written",
-        write6(&fields, Some(&calipso()), &PAYLOAD, &mut out),
-        Ok(()),
-    );
-    are_octets(
-        &rt,
-        rt.alloc(),
-        "its octets",
-        &out,
-        "612345670018003ffd000000000000000000000000000001fd00000000000000000000000000000211010708000000100002bfd90102000003e800350008e7be",
-    );
+    let done = write6(&fields, Some(&calipso()), &PAYLOAD, &mut out);
+    same(&rt, "done", done, Ok(()));
+    let written =
+        "612345670018003ffd000000000000000000000000000001fd00000000000000000000000000000211010708000000100002bfd90102000003e800350008e7be";
+    are_octets(&rt, rt.alloc(), "written", &out, written);
 }
 
 // The worked sum of RFC 1071, section 3, and a last octet with no partner.

@@ -121,12 +121,8 @@ const REFUSED_LABELS: &[Refused] = &[
 #[test]
 fn refuses_labels_at_their_first_fault(rt: HostRuntime) {
     for (text, octet, kind) in REFUSED_LABELS {
-        same(
-            &rt,
-            *text,
-            label_stop(text.as_bytes()),
-            fault(*octet, *kind),
-        );
+        let found = label_stop(text.as_bytes());
+        same(&rt, *text, found, fault(*octet, *kind));
     }
 }
 
@@ -153,8 +149,8 @@ fn reads_range(rt: &impl Abort, alloc: Global, text: &str, written: &str) {
     write_range(&range, &mut out).expect(rt, text);
     write_range(&range.copy(), &mut out).expect(rt, text);
     let half = out.len() / 2;
-    same(rt, text, &out[..half], written.as_bytes());
-    same(rt, text, &out[half..], written.as_bytes());
+    same(rt, ("it", text), &out[..half], written.as_bytes());
+    same(rt, ("its copy", text), &out[half..], written.as_bytes());
 }
 
 #[test]
@@ -195,9 +191,9 @@ fn refuses_ranges_at_their_first_fault(rt: HostRuntime) {
     let mut lent = read_range(b"s1:c7-s2:c7,c9").expect(&rt, "lent");
     for (text, octet, kind) in REFUSED_RANGES {
         let wanted = fault(*octet, *kind);
-        same(&rt, *text, range_stop(text.as_bytes()), wanted);
+        same(&rt, ("read", text), range_stop(text.as_bytes()), wanted);
         let stop = read_range_into(text.as_bytes(), &mut lent).err();
-        same(&rt, *text, stop, wanted);
+        same(&rt, ("lent", text), stop, wanted);
         holds(&rt, *text, lent.high().dominates(lent.low()));
     }
 }
@@ -266,12 +262,8 @@ const HELD: &[(&str, bool)] = &[
 #[test]
 fn holds_what_lies_between(rt: HostRuntime) {
     let range = read_range(b"s1:c1-s3:c0.c5").expect(&rt, "range");
-    same(
-        &rt,
-        "levels",
-        (range.low().level, range.high().level),
-        (1, 3),
-    );
+    let found = (range.low().level, range.high().level);
+    same(&rt, "levels", found, (1, 3));
     for (text, held) in HELD {
         let label = read_label(text.as_bytes()).expect(&rt, text);
         same(&rt, *text, range.holds(&label), *held);

@@ -71,18 +71,10 @@ fn calls_fail_by_plan(rt: HostRuntime) {
     same(&rt, "no failed call", depot.failed(), None);
     let appended = append_all(&mut depot, "c", b"12345");
     same(&rt, "the third append", appended, Err(IoFault::Failed));
-    same(
-        &rt,
-        "of no file",
-        depot.read_at("a", 0, &mut [0]),
-        Err(IoFault::Failed),
-    );
-    same(
-        &rt,
-        "first failed call",
-        depot.failed(),
-        Some(DepotCall::Append),
-    );
+    let found = depot.read_at("a", 0, &mut [0]);
+    same(&rt, "of no file", found, Err(IoFault::Failed));
+    let found = depot.failed();
+    same(&rt, "first failed call", found, Some(DepotCall::Append));
     same(&rt, "two appends", depot.get("c"), Some(b"1234".as_slice()));
     same(&rt, "read", depot.read_at("c", 3, &mut [0]), Ok(1));
 }
@@ -105,12 +97,8 @@ fn a_safe_depot_succeeds(rt: HostRuntime) {
     let whole = read_whole(rt.alloc(), &mut depot, "c", 9).expect(&rt, "3 octets");
     same(&rt, "whole", whole.as_slice(), b"123".as_slice());
     same(&rt, "no failed call", depot.failed(), None);
-    same(
-        &rt,
-        "of no file",
-        depot.read_at("b", 0, &mut [0]),
-        Err(IoFault::Failed),
-    );
+    let found = depot.read_at("b", 0, &mut [0]);
+    same(&rt, "of no file", found, Err(IoFault::Failed));
     same(&rt, "failed call", depot.failed(), Some(DepotCall::Read));
 }
 
