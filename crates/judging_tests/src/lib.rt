@@ -2,6 +2,8 @@
 #![tactic(auto)]
 
 #[cfg(test)]
+mod checks;
+#[cfg(test)]
 mod of_label_gateway;
 #[cfg(test)]
 mod of_label_receive;

@@ -1,7 +1,9 @@
 //! Packets at a node, each with the commands that the node was given, and the same one step away.
 
+use crate::checks::same;
 use domain_map::{Address, Name, read_name};
 use label_receive::*;
+use mls_label::Label;
 use mls_range::read_label;
 use packet_label::Denial;
 use std::alloc::Global;
@@ -55,7 +57,7 @@ type Case = (
 );
 
 /// Octets that are no packet, before all else.
-const BROKEN: [Case; 7] = [
+const BROKEN: &[Case] = &[
     (&[], "", Err(Denial::BadHeader { octet: 0 })),
     (
         &[DOI, MAP, SINK],
@@ -86,7 +88,7 @@ const BROKEN: [Case; 7] = [
 ];
 
 /// Packets with a label option.
-const LABELLED: [Case; 14] = [
+const LABELLED: &[Case] = &[
     (&[], LABELLED_4, Err(Denial::UnknownDoi { octet: 22 })),
     (
         &["cipsov4 add pass doi:17 tags:1"],
@@ -164,7 +166,7 @@ const LABELLED: [Case; 14] = [
 ];
 
 /// Packets without one.
-const SET: [Case; 8] = [
+const SET: &[Case] = &[
     (&[], PLAIN_4, Err(Denial::Unlabelled)),
     (&[UNLBL, ALL, SINK], PLAIN_4, Err(Denial::Unlabelled)),
     (&[ACCEPT], PLAIN_4, Err(Denial::NoStatic)),
@@ -213,7 +215,7 @@ const SET: [Case; 8] = [
 ];
 
 /// Ranges of interfaces.
-const RANGES: [Case; 7] = [
+const RANGES: &[Case] = &[
     (
         &[DOI, "range add interface:eth0 range:s0-s2:c1"],
         LABELLED_4,
@@ -270,7 +272,7 @@ const RANGES: [Case; 7] = [
 ];
 
 /// Receivers and their maps.
-const RECEIVERS: [Case; 13] = [
+const RECEIVERS: &[Case] = &[
     (
         &[
             DOI,
@@ -373,40 +375,48 @@ const RECEIVERS: [Case; 13] = [
     ),
 ];
 
-/// Each packet by both calls, with the same room for all.
-fn receives(rt: &impl Abort, alloc: Global, interface: &Name, room: &mut Room, cases: &[Case]) {
-    for (lines, text, wanted) in cases {
-        let network = node_after(alloc, lines).expect(rt, "a node");
-        assert!(rt; network.nodes() > 0);
-        let packet = octets_of(alloc, text).expect(rt, "memory");
-        let found = receive_into(network.node(0), interface, &packet, room);
-        let delivered = receive(network.node(0), interface, &packet);
-        match wanted {
-            Ok((label, receiver)) => {
-                let label = read_label(label.as_bytes()).expect(rt, "a label");
-                let delivered = delivered.expect(rt, text);
-                assert_eq!(rt; found, Ok(*receiver), "{text}");
-                assert_eq!(rt; delivered.receiver, *receiver, "{text}");
-                assert!(rt;
-                    room.local.same(&label) && delivered.label.same(&label),
-                    "{text}"
-                );
-            }
-            Err(denial) => {
-                assert_eq!(rt; found, Err(*denial), "{text}");
-                assert_eq!(rt; delivered.err(), Some(*denial), "{text}");
-            }
-        }
+/// What one call answers, and the label that it found.
+fn answers(
+    rt: &impl Abort,
+    text: &str,
+    found: Result<Address, Denial>,
+    local: &Label,
+    wanted: Result<(&str, Address), Denial>,
+) {
+    same(rt, text, found, wanted.map(|(_, receiver)| receiver));
+    if let Ok((label, _)) = wanted {
+        let label = read_label(label.as_bytes()).expect(rt, "a label");
+        assert!(rt; local.same(&label), "{text}");
     }
 }
 
+/// A packet by both calls.
+fn receives(
+    rt: &impl Abort,
+    alloc: Global,
+    interface: &Name,
+    room: &mut Room,
+    (lines, text, wanted): Case,
+) {
+    let network = node_after(alloc, lines).expect(rt, "a node");
+    assert!(rt; network.nodes() > 0);
+    let packet = octets_of(alloc, text).expect(rt, "memory");
+    let found = receive_into(network.node(0), interface, &packet, room);
+    answers(rt, text, found, &room.local, wanted);
+    match receive(network.node(0), interface, &packet) {
+        Ok(delivered) => answers(rt, text, Ok(delivered.receiver), &delivered.label, wanted),
+        Err(denial) => answers(rt, text, Err(denial), &room.local, wanted),
+    }
+}
+
+/// Each packet of a node, with the same room for all.
 #[test]
 fn packets_at_a_node(rt: HostRuntime) {
     let interface = read_name(b"eth0").expect(&rt, "a name");
     let mut room = Room::lowest();
-    receives(&rt, rt.alloc(), &interface, &mut room, &BROKEN);
-    receives(&rt, rt.alloc(), &interface, &mut room, &LABELLED);
-    receives(&rt, rt.alloc(), &interface, &mut room, &SET);
-    receives(&rt, rt.alloc(), &interface, &mut room, &RANGES);
-    receives(&rt, rt.alloc(), &interface, &mut room, &RECEIVERS);
+    for cases in [BROKEN, LABELLED, SET, RANGES, RECEIVERS] {
+        for case in cases {
+            receives(&rt, rt.alloc(), &interface, &mut room, *case);
+        }
+    }
 }

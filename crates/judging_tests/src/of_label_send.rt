@@ -1,6 +1,7 @@
 //! Packets that are sent at a node, each with the commands that the node was given, and the same one step away. The octets were
 //! worked from RFC 791, RFC 8200, FIPS 188 and RFC 5570, apart from the program.
 
+use crate::checks::same;
 use domain_map::{Name, read_name};
 use label_send::*;
 use mls_label::Label;
@@ -66,7 +67,7 @@ type Long = (&'static str, u8, usize, &'static str);
 type LongCase = (&'static [&'static str], &'static str, Long, Answer, Long);
 
 /// Faults of the header, and label options that are there already: they come before all else.
-const BEFORE: [Case; 10] = [
+const BEFORE: &[Case] = &[
     (
         &[],
         "s2:c1,c3",
@@ -140,7 +141,7 @@ const BEFORE: [Case; 10] = [
 ];
 
 /// The interface's range, the map for the domain and the destination, and the version.
-const FOUND: [Case; 12] = [
+const FOUND: &[Case] = &[
     (
         &["range add interface:eth0 range:s0-s2:c1"],
         "s2:c1,c3",
@@ -226,7 +227,7 @@ const FOUND: [Case; 12] = [
 ];
 
 /// Packets without a label: what is kept, and what is lost.
-const UNLABELLED: [Case; 7] = [
+const UNLABELLED: &[Case] = &[
     (&[UNLBL], "s2:c1,c3", PLAIN_4, PLAIN, PLAIN_4),
     (
         &[UNLBL],
@@ -267,7 +268,7 @@ const UNLABELLED: [Case; 7] = [
 ];
 
 /// CIPSO: tags 1, 2 and 5, pairs of numbers, and the room of a header.
-const CIPSO: [Case; 20] = [
+const CIPSO: &[Case] = &[
     (&[DOI, MAP], "s2:c1,c3", PLAIN_4, C8, BITMAP_8),
     (
         &[DOI, MAP],
@@ -399,7 +400,7 @@ const CIPSO: [Case; 20] = [
 ];
 
 /// CALIPSO: 61 words, and pairs of numbers.
-const CALIPSO: [Case; 9] = [
+const CALIPSO: &[Case] = &[
     (
         &[ONE_TO_SEVEN, MAP_SIX],
         "s2:c1",
@@ -448,7 +449,7 @@ const CALIPSO: [Case; 9] = [
 ];
 
 /// Packets at the edges of room and length.
-const LONG: [LongCase; 10] = [
+const LONG: &[LongCase] = &[
     (
         &[UNLBL],
         "s2",
@@ -579,56 +580,60 @@ struct Lent {
     out: Vec<u8>,
 }
 
-/// A packet by both calls.
-fn sends(
+/// What one call answers, and what it writes.
+fn answers(
     rt: &impl Abort,
     alloc: Global,
-    lent: &mut Lent,
-    (lines, label, packet, wanted, written): &LongCase,
+    (found, out): (Answer, &[u8]),
+    (_, label, packet, wanted, written): LongCase,
 ) {
-    let network = node_after(alloc, lines).expect(rt, "a node");
+    same(rt, (label, packet), found, wanted);
+    let written = octets(rt, alloc, written);
+    assert!(rt; out == written.as_slice(), "{label} {packet:?}");
+}
+
+/// A packet by both calls.
+fn sends(rt: &impl Abort, alloc: Global, lent: &mut Lent, case: LongCase) {
+    let network = node_after(alloc, case.0).expect(rt, "a node");
     assert!(rt; network.nodes() > 0);
-    let tables = network.node(0);
-    let label = read_label(label.as_bytes()).expect(rt, "a label");
-    let packet = octets(rt, alloc, *packet);
-    let written = octets(rt, alloc, *written);
+    let label = read_label(case.1.as_bytes()).expect(rt, "a label");
+    let packet = octets(rt, alloc, case.2);
     let Lent {
         domain,
         interface,
         wire,
         out,
     } = lent;
+    let tables = network.node(0);
     let found = send_into(tables, domain, interface, &label, &packet, wire, out);
-    assert_eq!(rt; found, *wanted, "{}", packet.len());
-    assert!(rt; out.as_slice() == written.as_slice(), "{}", packet.len());
+    answers(rt, alloc, (found, out.as_slice()), case);
     let found = send(tables, domain, interface, &label, &packet, out);
-    assert_eq!(rt; found, *wanted);
-    assert!(rt; out.as_slice() == written.as_slice());
+    answers(rt, alloc, (found, out.as_slice()), case);
+}
+
+fn lent(rt: &impl Abort, alloc: Global) -> Lent {
+    Lent {
+        domain: read_name(b"web_t").expect(rt, "a name"),
+        interface: read_name(b"eth0").expect(rt, "a name"),
+        wire: Label::lowest(),
+        out: Vec::new(alloc),
+    }
 }
 
 fn sends_each(rt: &impl Abort, alloc: Global, lent: &mut Lent, cases: &[Case]) {
-    for (lines, label, packet, wanted, written) in cases {
-        let packet = (*packet, 0, 0, "");
-        let written = (*written, 0, 0, "");
-        sends(rt, alloc, lent, &(lines, label, packet, *wanted, written));
+    for &(lines, label, packet, wanted, written) in cases {
+        let (packet, written) = ((packet, 0, 0, ""), (written, 0, 0, ""));
+        sends(rt, alloc, lent, (lines, label, packet, wanted, written));
     }
 }
 
 #[test]
 fn packets_of_a_node(rt: HostRuntime) {
-    let alloc = rt.alloc();
-    let mut lent = Lent {
-        domain: read_name(b"web_t").expect(&rt, "a name"),
-        interface: read_name(b"eth0").expect(&rt, "a name"),
-        wire: Label::lowest(),
-        out: Vec::new(alloc),
-    };
-    sends_each(&rt, alloc, &mut lent, &BEFORE);
-    sends_each(&rt, alloc, &mut lent, &FOUND);
-    sends_each(&rt, alloc, &mut lent, &UNLABELLED);
-    sends_each(&rt, alloc, &mut lent, &CIPSO);
-    sends_each(&rt, alloc, &mut lent, &CALIPSO);
-    for case in &LONG {
-        sends(&rt, alloc, &mut lent, case);
+    let mut lent = lent(&rt, rt.alloc());
+    for cases in [BEFORE, FOUND, UNLABELLED, CIPSO, CALIPSO] {
+        sends_each(&rt, rt.alloc(), &mut lent, cases);
+    }
+    for case in LONG {
+        sends(&rt, rt.alloc(), &mut lent, *case);
     }
 }

@@ -1,3 +1,4 @@
+use crate::checks::same;
 use doi_table::Proto;
 use label_receive::Room;
 use packet_label::{Denial, Stop};
@@ -14,7 +15,7 @@ const DOI: &str =
 /// A packet, what is answered, and what is written: all in hexadecimal digits.
 type Case = (&'static str, Result<(), Stop>, &'static str);
 
-const COME_IN: [Case; 16] = [
+const COME_IN: &[Case] = &[
     // What was worked by hand.
     (
         "4600002000000000401189460a0000010a00000282045a8003e8003500080000",
@@ -105,7 +106,7 @@ const COME_IN: [Case; 16] = [
     ),
 ];
 
-const GO_OUT: [Case; 14] = [
+const GO_OUT: &[Case] = &[
     // What was worked by hand.
     (
         "480000280000000040119ca00a0000010a000002860b0000001001050002400003e8003500080000",
@@ -185,8 +186,22 @@ const GO_OUT: [Case; 14] = [
     ),
 ];
 
+fn crosses(
+    rt: &impl Abort,
+    alloc: Global,
+    border: &Border,
+    room: &mut Room,
+    out: &mut Vec<u8>,
+    (text, answer, written): Case,
+) {
+    let octets = octets_of(alloc, text).expect(rt, "digits");
+    same(rt, text, cross(border, Some(&octets), room, out), answer);
+    let wanted = octets_of(alloc, written).expect(rt, "digits");
+    same(rt, text, out.as_slice(), wanted.as_slice());
+}
+
 /// Whether each packet becomes what is wanted.
-fn cross_as<R: Abort>(rt: &R, alloc: Global, way: Way, cases: &[Case]) {
+fn cross_as(rt: &impl Abort, alloc: Global, way: Way, cases: &[Case]) {
     let network = node_after(alloc, &[DOI]).expect(rt, "tables");
     assert!(rt; network.nodes() == 1);
     let definition = network
@@ -202,21 +217,23 @@ fn cross_as<R: Abort>(rt: &R, alloc: Global, way: Way, cases: &[Case]) {
     let mut room = Room::lowest();
     let mut out = Vec::new(alloc);
     for case in cases {
-        let octets = octets_of(alloc, case.0).expect(rt, "digits");
-        let wanted = octets_of(alloc, case.2).expect(rt, "digits");
-        assert_eq!(rt; cross(&border, Some(&octets), &mut room, &mut out), case.1);
-        assert_eq!(rt; out.as_slice(), wanted.as_slice());
+        crosses(rt, alloc, &border, &mut room, &mut out, *case);
     }
     let not_ip = Err(Stop::Denied(Denial::NotIp));
-    assert_eq!(rt; cross(&border, None, &mut room, &mut out), not_ip);
+    same(
+        rt,
+        "not IP",
+        cross(&border, None, &mut room, &mut out),
+        not_ip,
+    );
 }
 
 #[test]
 fn packets_come_in(rt: HostRuntime) {
-    cross_as(&rt, rt.alloc(), Way::In, &COME_IN);
+    cross_as(&rt, rt.alloc(), Way::In, COME_IN);
 }
 
 #[test]
 fn packets_go_out(rt: HostRuntime) {
-    cross_as(&rt, rt.alloc(), Way::Out, &GO_OUT);
+    cross_as(&rt, rt.alloc(), Way::Out, GO_OUT);
 }

@@ -2,6 +2,8 @@
 #![tactic(auto)]
 
 #[cfg(test)]
+mod checks;
+#[cfg(test)]
 mod of_address_text;
 #[cfg(test)]
 mod of_command_values;

@@ -1,3 +1,4 @@
+use crate::checks::same;
 use doi_table::*;
 use mls_label::{Label, Tag};
 use std::alloc::Global;
@@ -20,15 +21,16 @@ fn plan_of(rt: &impl Abort, alloc: Global, levels: &[(u8, u8)], cats: &[(u16, u1
     }
 }
 
-fn add(
+// Adds a definition, which the table answers so.
+fn answers(
     rt: &impl Abort,
     table: &mut DoiTable,
-    proto: Proto,
-    doi: u32,
+    (proto, doi): (Proto, u32),
     plan: &DoiPlan,
-) -> Result<(), DoiFault> {
+    wanted: Result<(), DoiFault>,
+) {
     assert!(rt; 0 < doi && plan.is_plan());
-    table.add(proto, doi, plan)
+    same(rt, doi, table.add(proto, doi, plan), wanted);
 }
 
 fn label_of(rt: &impl Abort, (level, cats): (u8, &[u16])) -> Label {
@@ -42,7 +44,7 @@ fn label_of(rt: &impl Abort, (level, cats): (u8, &[u16])) -> Label {
 }
 
 // Definitions: the DOI, the pairs of levels, then those of categories.
-const DEFINITIONS: [(u32, Levels, Cats); 3] = [
+const DEFINITIONS: &[(u32, Levels, Cats)] = &[
     (8, &[(0, 5), (1, 3)], &[(0, 1), (1, 0)]),
     (9, &[(2, 7)], &[(1, 0), (4, 3000)]),
     (
@@ -55,7 +57,9 @@ const DEFINITIONS: [(u32, Levels, Cats); 3] = [
 type Numbers = (u8, &'static [u16]);
 
 // A definition's place, whether the label goes out, its level and its categories; then what it becomes, worked by hand.
-const ROWS: [(usize, bool, Numbers, Result<Numbers, Unmapped>); 15] = [
+type Row = (usize, bool, Numbers, Result<Numbers, Unmapped>);
+
+const ROWS: &[Row] = &[
     (0, true, (0, &[0]), Ok((5, &[1]))),
     (0, false, (3, &[0]), Ok((1, &[1]))),
     (0, false, (3, &[]), Ok((1, &[]))),
@@ -93,18 +97,27 @@ fn is_translated(
     }
 }
 
+fn defined(rt: &impl Abort, alloc: Global) -> DoiTable {
+    let mut table = DoiTable::empty(alloc);
+    for &(doi, levels, cats) in DEFINITIONS {
+        let plan = plan_of(rt, alloc, levels, cats);
+        answers(rt, &mut table, (Proto::Cipso, doi), &plan, Ok(()));
+    }
+    table
+}
+
+fn translates(rt: &impl Abort, table: &DoiTable, row: usize, (by, out, label, wanted): Row) {
+    assert!(rt; by < table.count());
+    let (_, _, def) = table.entry(by);
+    let label = label_of(rt, label);
+    assert!(rt; is_translated(rt, def, out, &label, wanted), "row {row}");
+}
+
 #[test]
 fn translates_labels_by_their_pairs(rt: HostRuntime) {
-    let mut table = DoiTable::empty(rt.alloc());
-    for (doi, levels, cats) in DEFINITIONS {
-        let plan = plan_of(&rt, rt.alloc(), levels, cats);
-        add(&rt, &mut table, Proto::Cipso, doi, &plan).expect(&rt, "one-to-one");
-    }
-    for (i, (by, out, label, wanted)) in ROWS.iter().enumerate() {
-        assert!(rt; *by < table.count());
-        let (_, _, def) = table.entry(*by);
-        let label = label_of(&rt, *label);
-        assert!(rt; is_translated(&rt, def, *out, &label, *wanted), "row {i}");
+    let table = defined(&rt, rt.alloc());
+    for (i, row) in ROWS.iter().enumerate() {
+        translates(&rt, &table, i, *row);
     }
 }
 
@@ -118,24 +131,49 @@ fn halved(rt: &impl Abort, alloc: Global, count: u16) -> Vec<(u16, u16)> {
     pairs
 }
 
-// 1,952 pairs: the wire label with categories 0 to 1,951 becomes one of 1,952 runs.
+fn answers_halved(
+    rt: &impl Abort,
+    alloc: Global,
+    table: &mut DoiTable,
+    count: u16,
+    wanted: Result<(), DoiFault>,
+) {
+    let plan = plan_of(rt, alloc, &[(0, 0)], &halved(rt, alloc, count));
+    answers(rt, table, (Proto::Cipso, 3), &plan, wanted);
+}
+
+// The wire label with categories 0 to 1,951 becomes one of 1,952 runs.
+fn translates_1952_runs(rt: &impl Abort, def: &DoiDef) {
+    let mut wire = Label::lowest();
+    wire.cats.add_run(0, 1951).expect(rt, "one run");
+    let local = to_local(def, &wire).expect(rt, "each has a pair");
+    same(rt, "runs", local.cats.runs(), 1952);
+    same(rt, "highest", local.cats.highest(), Some(3902));
+    let back = to_wire(def, &local).expect(rt, "each has a pair");
+    assert!(rt; back.same(&wire));
+}
+
 #[test]
 fn takes_1952_pairs_and_no_more(rt: HostRuntime) {
     let mut table = DoiTable::empty(rt.alloc());
-    let more = plan_of(&rt, rt.alloc(), &[(0, 0)], &halved(&rt, rt.alloc(), 1953));
-    assert!(rt; add(&rt, &mut table, Proto::Cipso, 3, &more) == Err(DoiFault::TooManyPairs));
-    let most = plan_of(&rt, rt.alloc(), &[(0, 0)], &halved(&rt, rt.alloc(), 1952));
-    add(&rt, &mut table, Proto::Cipso, 3, &most).expect(&rt, "1952 pairs");
-    let def = table.find(Proto::Cipso, 3).expect(&rt, "added");
-    let mut wire = Label::lowest();
-    wire.cats.add_run(0, 1951).expect(&rt, "one run");
-    let local = to_local(def, &wire).expect(&rt, "each has a pair");
-    assert_eq!(rt;
-        (local.cats.runs(), local.cats.highest()),
-        (1952, Some(3902))
+    answers_halved(
+        &rt,
+        rt.alloc(),
+        &mut table,
+        1953,
+        Err(DoiFault::TooManyPairs),
     );
-    let back = to_wire(def, &local).expect(&rt, "each has a pair");
-    assert!(rt; back.same(&wire));
+    answers_halved(&rt, rt.alloc(), &mut table, 1952, Ok(()));
+    translates_1952_runs(&rt, table.find(Proto::Cipso, 3).expect(&rt, "added"));
+}
+
+fn passes_all(rt: &impl Abort, def: &DoiDef) {
+    let label = label_of(rt, (255, &[0, 65534]));
+    let mut into = label_of(rt, (1, &[7]));
+    to_wire_into(def, &label, &mut into).expect(rt, "passes");
+    assert!(rt; into.same(&label));
+    same(rt, "level", def.local_level(255), Some(255));
+    same(rt, "category", def.local_category(65534), Some(65534));
 }
 
 #[test]
@@ -143,20 +181,12 @@ fn leaves_labels_where_all_numbers_pass(rt: HostRuntime) {
     let mut plan = plan_of(&rt, rt.alloc(), &[], &[]);
     plan.trans = false;
     let mut table = DoiTable::empty(rt.alloc());
-    add(&rt, &mut table, Proto::Calipso, 9, &plan).expect(&rt, "passes");
-    let def = table.find(Proto::Calipso, 9).expect(&rt, "added");
-    let label = label_of(&rt, (255, &[0, 65534]));
-    let mut into = label_of(&rt, (1, &[7]));
-    to_wire_into(def, &label, &mut into).expect(&rt, "passes");
-    assert!(rt; into.same(&label));
-    assert_eq!(rt;
-        (def.local_level(255), def.local_category(65534)),
-        (Some(255), Some(65534))
-    );
+    answers(&rt, &mut table, (Proto::Calipso, 9), &plan, Ok(()));
+    passes_all(&rt, table.find(Proto::Calipso, 9).expect(&rt, "added"));
 }
 
 // Plans that aren't one-to-one: equal local levels, equal remote levels, one pair twice, equal categories of either kind.
-const TWICE: [(Levels, Cats); 5] = [
+const TWICE: &[(Levels, Cats)] = &[
     (&[(0, 5), (0, 6)], &[]),
     (&[(0, 5), (1, 5)], &[]),
     (&[(0, 5), (0, 5)], &[]),
@@ -164,59 +194,102 @@ const TWICE: [(Levels, Cats); 5] = [
     (&[(0, 5)], &[(4, 1), (2, 3), (4, 2)]),
 ];
 
+// A table with all the definitions of a protocol that it takes.
+fn full(rt: &impl Abort, alloc: Global, plan: &DoiPlan) -> DoiTable {
+    let mut table = DoiTable::empty(alloc);
+    for doi in 1..65u32 {
+        answers(rt, &mut table, (Proto::Cipso, doi), plan, Ok(()));
+    }
+    table
+}
+
+fn refuses_many(rt: &impl Abort, alloc: Global, table: &mut DoiTable) {
+    let many = plan_of(rt, alloc, &[(0, 5), (1, 5)], &halved(rt, alloc, 1953));
+    answers(rt, table, (Proto::Cipso, 64), &many, Err(DoiFault::Exists));
+    answers(
+        rt,
+        table,
+        (Proto::Cipso, 65),
+        &many,
+        Err(DoiFault::TooManyPairs),
+    );
+}
+
+fn refuses_twice(rt: &impl Abort, alloc: Global, table: &mut DoiTable) {
+    for &(levels, cats) in TWICE {
+        let plan = plan_of(rt, alloc, levels, cats);
+        answers(
+            rt,
+            table,
+            (Proto::Cipso, 65),
+            &plan,
+            Err(DoiFault::NotOneToOne),
+        );
+    }
+}
+
 // The first fault of several, in the order: defined, too many pairs, not one-to-one, full.
 #[test]
 fn refuses_plans_by_the_first_fault(rt: HostRuntime) {
-    let mut table = DoiTable::empty(rt.alloc());
     let good = plan_of(&rt, rt.alloc(), &[(0, 5)], &[(4, 1), (1, 4)]);
-    for doi in 1..65u32 {
-        add(&rt, &mut table, Proto::Cipso, doi, &good).expect(&rt, "room");
-    }
-    let many = plan_of(
+    let mut table = full(&rt, rt.alloc(), &good);
+    refuses_many(&rt, rt.alloc(), &mut table);
+    refuses_twice(&rt, rt.alloc(), &mut table);
+    answers(
         &rt,
-        rt.alloc(),
-        &[(0, 5), (1, 5)],
-        &halved(&rt, rt.alloc(), 1953),
+        &mut table,
+        (Proto::Cipso, 65),
+        &good,
+        Err(DoiFault::Full),
     );
-    assert!(rt; add(&rt, &mut table, Proto::Cipso, 64, &many) == Err(DoiFault::Exists));
-    assert!(rt; add(&rt, &mut table, Proto::Cipso, 65, &many) == Err(DoiFault::TooManyPairs));
-    for (levels, cats) in TWICE {
-        let plan = plan_of(&rt, rt.alloc(), levels, cats);
-        assert!(rt; add(&rt, &mut table, Proto::Cipso, 65, &plan) == Err(DoiFault::NotOneToOne));
+    answers(&rt, &mut table, (Proto::Calipso, 64), &good, Ok(()));
+    same(&rt, "count", table.count(), 65);
+}
+
+const CAME: &[(Proto, u32)] = &[
+    (Proto::Cipso, 9),
+    (Proto::Calipso, 9),
+    (Proto::Cipso, 4_294_967_295),
+];
+
+// What is there once the first of them has gone and come again.
+const STANDING: &[(Proto, u32)] = &[
+    (Proto::Calipso, 9),
+    (Proto::Cipso, 4_294_967_295),
+    (Proto::Cipso, 9),
+];
+
+fn goes(rt: &impl Abort, table: &mut DoiTable) {
+    assert!(rt; table.del(Proto::Calipso, 8).is_err());
+    assert!(rt; table.del(Proto::Cipso, 9).is_ok());
+    assert!(rt; table.find(Proto::Cipso, 9).is_none());
+}
+
+fn stands(rt: &impl Abort, table: &DoiTable, i: usize, name: (Proto, u32)) {
+    assert!(rt; i < table.count());
+    let (proto, doi, def) = table.entry(i);
+    same(rt, i, (proto, doi), name);
+    assert!(rt; def.levels_by_wire() == [(3, 1), (5, 0)].as_slice());
+    assert!(rt; def.plan().levels.as_slice() == [(0, 5), (1, 3)].as_slice());
+}
+
+fn come_and_gone(rt: &impl Abort, alloc: Global) -> DoiTable {
+    let plan = plan_of(rt, alloc, &[(0, 5), (1, 3)], &[(0, 1)]);
+    let mut table = DoiTable::empty(alloc);
+    for &name in CAME {
+        answers(rt, &mut table, name, &plan, Ok(()));
     }
-    assert!(rt; add(&rt, &mut table, Proto::Cipso, 65, &good) == Err(DoiFault::Full));
-    assert!(rt; add(&rt, &mut table, Proto::Calipso, 64, &good) == Ok(()));
-    assert_eq!(rt; table.count(), 65);
+    goes(rt, &mut table);
+    answers(rt, &mut table, (Proto::Cipso, 9), &plan, Ok(()));
+    table.copy().expect(rt, "memory")
 }
 
 // Entries stay in order of insertion, also in a copy.
 #[test]
 fn keeps_the_order_of_insertion(rt: HostRuntime) {
-    let plan = plan_of(&rt, rt.alloc(), &[(0, 5), (1, 3)], &[(0, 1)]);
-    let mut table = DoiTable::empty(rt.alloc());
-    for (proto, doi) in [
-        (Proto::Cipso, 9),
-        (Proto::Calipso, 9),
-        (Proto::Cipso, 4_294_967_295),
-    ] {
-        add(&rt, &mut table, proto, doi, &plan).expect(&rt, "room");
-    }
-    assert!(rt; table.del(Proto::Calipso, 8).is_err());
-    assert!(rt; table.del(Proto::Cipso, 9).is_ok());
-    assert!(rt; table.find(Proto::Cipso, 9).is_none());
-    add(&rt, &mut table, Proto::Cipso, 9, &plan).expect(&rt, "room");
-    let copy = table.copy().expect(&rt, "memory");
-    let wanted = [
-        (Proto::Calipso, 9),
-        (Proto::Cipso, 4_294_967_295),
-        (Proto::Cipso, 9),
-    ];
-    assert_eq!(rt; copy.count(), 3);
-    for (i, name) in wanted.iter().enumerate() {
-        assert!(rt; i < copy.count());
-        let (proto, doi, def) = copy.entry(i);
-        assert!(rt; (proto, doi) == *name);
-        assert!(rt; def.levels_by_wire() == [(3, 1), (5, 0)].as_slice());
-        assert!(rt; def.plan().levels.as_slice() == [(0, 5), (1, 3)].as_slice());
+    let copy = come_and_gone(&rt, rt.alloc());
+    same(&rt, "count", copy.count(), 3);
+    for (i, name) in STANDING.iter().enumerate() {
+        stands(&rt, &copy, i, *name);
     }
 }

@@ -1,3 +1,4 @@
+use crate::checks::same;
 use label_commands::*;
 use mls_label::Label;
 use std::alloc::Global;
@@ -18,7 +19,7 @@ fn reading(
 }
 
 // What is named, and the fault. The meanings of levels from 0 on have to increase.
-const REFUSED: [(&str, Levels, Cats, ReadingFault); 10] = [
+const REFUSED: &[(&str, Levels, Cats, ReadingFault)] = &[
     (
         "level 0 above 1",
         &[(0, 5)],
@@ -83,84 +84,94 @@ const REFUSED: [(&str, Levels, Cats, ReadingFault); 10] = [
 
 #[test]
 fn refuses_by_the_first_fault(rt: HostRuntime) {
-    for (name, levels, cats, wanted) in REFUSED {
+    for &(name, levels, cats, wanted) in REFUSED {
         let found = reading(&rt, rt.alloc(), levels, cats);
-        assert!(rt; found.err() == Some(wanted), "{name}");
+        same(&rt, name, found.err(), Some(wanted));
     }
 }
 
+const LEVELS: Levels = &[(255, 4_294_967_295), (254, 1000), (253, 253)];
+
+const CATS: Cats = &[
+    (7, 1),
+    (8, 3),
+    (1, 7),
+    (3, 8),
+    (65534, 65535),
+    (0, 4_294_967_295),
+];
+
+fn named(rt: &impl Abort, alloc: Global) -> Reading {
+    reading(rt, alloc, LEVELS, CATS).expect(rt, "a reading")
+}
+
 #[test]
-fn names_what_it_is_given(rt: HostRuntime) {
-    let levels: Levels = &[(255, 4_294_967_295), (254, 1000), (253, 253)];
-    let cats: Cats = &[
-        (7, 1),
-        (8, 3),
-        (1, 7),
-        (3, 8),
-        (65534, 65535),
-        (0, 4_294_967_295),
-    ];
-    let found = reading(&rt, rt.alloc(), levels, cats).expect(&rt, "a reading");
-    assert_eq!(rt;
-        [
-            found.level(0),
-            found.level(253),
-            found.level(254),
-            found.level(255)
-        ],
-        [0, 253, 1000, 4_294_967_295]
-    );
-    for (category, meaning) in cats {
-        assert!(rt; *category < 65535);
-        assert_eq!(rt; found.category(*category), *meaning);
+fn names_levels(rt: HostRuntime) {
+    let found = named(&rt, rt.alloc());
+    for (level, meaning) in [(0, 0), (253, 253), (254, 1000), (255, 4_294_967_295)] {
+        same(&rt, level, found.level(level), meaning);
     }
-    assert_eq!(rt; (found.category(2), found.category(65533)), (2, 65533));
-    assert_eq!(rt;
-        [
-            found.find_category(1),
-            found.find_category(65535),
-            found.find_category(2),
-            found.find_category(65533)
-        ],
-        [Some(7), Some(65534), Some(2), Some(65533)]
-    );
-    assert_eq!(rt;
-        [
-            found.find_category(0),
-            found.find_category(65534),
-            found.find_category(65536)
-        ],
-        [None, None, None]
-    );
-    assert_eq!(rt; found.named_categories(), 6);
+}
+
+fn means(rt: &impl Abort, found: &Reading, category: u16, meaning: u32) {
+    assert!(rt; category < 65535);
+    same(rt, category, found.category(category), meaning);
+}
+
+#[test]
+fn names_categories(rt: HostRuntime) {
+    let found = named(&rt, rt.alloc());
+    for &(category, meaning) in CATS {
+        means(&rt, &found, category, meaning);
+    }
+    means(&rt, &found, 2, 2);
+    means(&rt, &found, 65533, 65533);
+    same(&rt, "named", found.named_categories(), 6);
     assert_eq!(rt; found.named_category(1), (8, 3));
+}
+
+/// Meanings, and the categories that have them.
+const MEANT: &[(u32, Option<u16>)] = &[
+    (1, Some(7)),
+    (65535, Some(65534)),
+    (2, Some(2)),
+    (65533, Some(65533)),
+    (0, None),
+    (65534, None),
+    (65536, None),
+];
+
+#[test]
+fn finds_categories(rt: HostRuntime) {
+    let found = named(&rt, rt.alloc());
+    for &(meaning, category) in MEANT {
+        same(&rt, meaning, found.find_category(meaning), category);
+    }
 }
 
 #[test]
 fn names_nothing(rt: HostRuntime) {
     let found = Reading::identity(rt.alloc()).expect(&rt, "memory");
-    assert_eq!(rt;
-        (
-            found.level(255),
-            found.category(65534),
-            found.named_categories()
-        ),
-        (255, 65534, 0)
-    );
+    same(&rt, "level", found.level(255), 255);
+    same(&rt, "category", found.category(65534), 65534);
+    same(&rt, "named", found.named_categories(), 0);
+}
+
+fn many(rt: &impl Abort, alloc: Global) -> Vec<(u16, u32)> {
+    let mut cats = Vec::new(alloc);
+    for c in 0..60000u16 {
+        cats.push((c, u32::from(c) + 100_000)).expect(rt, "memory");
+    }
+    cats
 }
 
 // Sixty thousand pairs, which is about what one line of a script has room for.
 #[test]
 fn takes_as_many_pairs_as_a_line_has(rt: HostRuntime) {
-    let mut cats = Vec::new(rt.alloc());
-    for c in 0..60000u16 {
-        cats.push((c, u32::from(c) + 100_000)).expect(&rt, "memory");
-    }
+    let cats = many(&rt, rt.alloc());
     let found = reading(&rt, rt.alloc(), &[], &cats).expect(&rt, "a reading");
-    assert_eq!(rt;
-        (found.category(59999), found.category(60000)),
-        (159_999, 60000)
-    );
+    means(&rt, &found, 59999, 159_999);
+    means(&rt, &found, 60000, 60000);
 }
 
 type Runs = &'static [(u16, u16)];
@@ -178,16 +189,24 @@ fn label(rt: &impl Abort, level: u8, runs: &[(u16, u16)]) -> Label {
     label
 }
 
+/// The reading of a side, and its label.
+fn read_side(
+    rt: &impl Abort,
+    alloc: Global,
+    (levels, cats, level, runs): Side,
+) -> (Reading, Label) {
+    let read = reading(rt, alloc, levels, cats).expect(rt, "a reading");
+    (read, label(rt, level, runs))
+}
+
 fn dominates(rt: &impl Abort, alloc: Global, here: Side, there: Side) -> bool {
-    let own_reading = reading(rt, alloc, here.0, here.1).expect(rt, "a reading");
-    let other_reading = reading(rt, alloc, there.0, there.1).expect(rt, "a reading");
-    let own = label(rt, here.2, here.3);
-    let other = label(rt, there.2, there.3);
+    let (own_reading, own) = read_side(rt, alloc, here);
+    let (other_reading, other) = read_side(rt, alloc, there);
     meaning_dominates(&own_reading, &own, &other_reading, &other)
 }
 
 // Two labels, each at its node, and whether the first one's meaning dominates the second one's.
-const ROWS: [(&str, Side, Side, bool); 16] = [
+const ROWS: &[(&str, Side, Side, bool)] = &[
     (
         "numbers mean themselves",
         (&[], &[], 2, &[(0, 5)]),
@@ -288,10 +307,7 @@ const ROWS: [(&str, Side, Side, bool); 16] = [
 
 #[test]
 fn compares_what_labels_mean(rt: HostRuntime) {
-    for (shown, here, there, wanted) in ROWS {
-        assert!(rt;
-            dominates(&rt, rt.alloc(), here, there) == wanted,
-            "{shown}"
-        );
+    for &(shown, here, there, wanted) in ROWS {
+        same(&rt, shown, dominates(&rt, rt.alloc(), here, there), wanted);
     }
 }

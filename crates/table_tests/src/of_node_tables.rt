@@ -1,9 +1,10 @@
 //! Commands and what they answer.
 
+use crate::checks::same;
 use domain_map::{Address, Name, Protocol, read_address, read_name};
 use mls_label::Proto;
 use node_tables::*;
-use script_lines::{Command, Step, command_of, read_said, words_into};
+use script_lines::{Command, Said, Step, command_of, read_said, words_into};
 use std::alloc::Global;
 use std::process::Abort;
 
@@ -266,10 +267,14 @@ const APART: Rows = &[
     (1, "cipsov4 list", "cipsov4 add pass doi:16 tags:2\n"),
 ];
 
-fn step(rt: &impl Abort, alloc: Global, node: usize, line: &[u8]) -> Step {
+fn said(rt: &impl Abort, alloc: Global, line: &[u8]) -> Said {
     let mut words = Vec::new(alloc);
     words_into(line, &mut words).expect(rt, "memory");
-    let said = read_said(alloc, false, &words, line.len()).expect(rt, "a command");
+    read_said(alloc, false, &words, line.len()).expect(rt, "a command")
+}
+
+fn step(rt: &impl Abort, alloc: Global, node: usize, line: &[u8]) -> Step {
+    let said = said(rt, alloc, line);
     let command = command_of(said.row, said.fields).expect(rt, "a command");
     let step = Step { node, command };
     step.copy(alloc).expect(rt, "memory")
@@ -293,6 +298,12 @@ fn append_lines(rt: &impl Abort, lines: &ListText, said: &mut Vec<u8>) {
     }
 }
 
+fn said_of(rt: &impl Abort, alloc: Global, reply: &Reply) -> Vec<u8> {
+    let mut said = Vec::new(alloc);
+    append_reply(rt, reply, &mut said);
+    said
+}
+
 /// Carries out a command, and says the reply.
 fn reply(
     rt: &impl Abort,
@@ -303,10 +314,18 @@ fn reply(
 ) -> Vec<u8> {
     let step = step(rt, alloc, node, line);
     assert!(rt; step.node < network.nodes());
-    let reply = network.apply(&step).expect(rt, "memory");
-    let mut said = Vec::new(alloc);
-    append_reply(rt, &reply, &mut said);
-    said
+    said_of(rt, alloc, &network.apply(&step).expect(rt, "memory"))
+}
+
+/// Carries out a command, which is answered so.
+fn answers(
+    rt: &impl Abort,
+    alloc: Global,
+    network: &mut Network,
+    (node, line, wanted): (usize, &str, &str),
+) {
+    let said = reply(rt, alloc, network, node, line.as_bytes());
+    same(rt, line, said.as_slice(), wanted.as_bytes());
 }
 
 /// All that a node lists.
@@ -319,24 +338,28 @@ fn listings(rt: &impl Abort, alloc: Global, network: &mut Network, node: usize) 
     all
 }
 
-fn answers(rt: &impl Abort, alloc: Global, network: &mut Network, rows: Rows) {
-    for (node, line, wanted) in rows {
-        let before = listings(rt, alloc, network, *node);
-        let said = reply(rt, alloc, network, *node, line.as_bytes());
-        assert_eq!(rt; said.as_slice(), wanted.as_bytes(), "of {line}");
-        let after = listings(rt, alloc, network, *node);
-        assert!(rt;
-            *wanted == "done" || before == after,
-            "{line} changed a table"
-        );
+fn answers_row(rt: &impl Abort, alloc: Global, network: &mut Network, row: Row) {
+    let (node, line, wanted) = row;
+    let before = listings(rt, alloc, network, node);
+    answers(rt, alloc, network, row);
+    let unchanged = before == listings(rt, alloc, network, node);
+    assert!(rt; wanted == "done" || unchanged, "{line} changed a table");
+}
+
+fn answers_all(rt: &impl Abort, alloc: Global, network: &mut Network, rows: Rows) {
+    for row in rows {
+        answers_row(rt, alloc, network, *row);
     }
 }
 
+/// What is answered by a network of two nodes.
+const ALL: &[Rows] = &[NAMED, DEFINITIONS, ENTRIES, LABELS, OTHERS, APART];
+
 #[test]
 fn answers_commands(rt: HostRuntime) {
-    for rows in [NAMED, DEFINITIONS, ENTRIES, LABELS, OTHERS, APART] {
+    for rows in ALL {
         let mut network = Network::fresh(rt.alloc(), 2).expect(&rt, "memory");
-        answers(&rt, rt.alloc(), &mut network, rows);
+        answers_all(&rt, rt.alloc(), &mut network, rows);
     }
 }
 
@@ -348,26 +371,33 @@ fn of_both(rt: &impl Abort, alloc: Global, network: &mut Network) -> Vec<u8> {
     all
 }
 
+fn goes_on_by(
+    rt: &impl Abort,
+    alloc: Global,
+    replied: &mut Network,
+    silent: &mut Network,
+    (node, line, _): Row,
+) {
+    let step = step(rt, alloc, node, line.as_bytes());
+    assert!(rt; step.node < replied.nodes() && step.node < silent.nodes());
+    let _reply = replied.apply(&step).expect(rt, "memory");
+    silent.advance(&step).expect(rt, "memory");
+    let unchanged = of_both(rt, alloc, replied) == of_both(rt, alloc, silent);
+    assert!(rt; unchanged, "{line} without its reply");
+}
+
 /// Gives the steps of these rows to one network with their replies, and to another without them.
 fn goes_on(rt: &impl Abort, alloc: Global, rows: Rows) {
     let mut replied = Network::fresh(alloc, 2).expect(rt, "memory");
     let mut silent = Network::fresh(alloc, 2).expect(rt, "memory");
-    for (node, line, _) in rows {
-        let step = step(rt, alloc, *node, line.as_bytes());
-        assert!(rt; step.node < replied.nodes() && step.node < silent.nodes());
-        let _reply = replied.apply(&step).expect(rt, "memory");
-        silent.advance(&step).expect(rt, "memory");
-        let (all, same) = (
-            of_both(rt, alloc, &mut replied),
-            of_both(rt, alloc, &mut silent),
-        );
-        assert!(rt; all == same, "{line} without its reply");
+    for row in rows {
+        goes_on_by(rt, alloc, &mut replied, &mut silent, *row);
     }
 }
 
 #[test]
 fn goes_on_without_replies(rt: HostRuntime) {
-    for rows in [NAMED, DEFINITIONS, ENTRIES, LABELS, OTHERS, APART] {
+    for rows in ALL {
         goes_on(&rt, rt.alloc(), rows);
     }
 }
@@ -435,15 +465,17 @@ fn address(rt: &impl Abort, text: &str) -> Address {
     read_address(text.as_bytes()).expect(rt, "an address")
 }
 
+fn protocol(rt: &impl Abort, tables: &Tables, domain: &str, text: &str) -> Option<Protocol> {
+    tables.map().find(&name(rt, domain), &address(rt, text))
+}
+
 /// The protocols of four domains and addresses.
 fn protocols(rt: &impl Abort, tables: &Tables) -> [Option<Protocol>; 4] {
-    let (web, other) = (name(rt, "web_t"), name(rt, "other_t"));
-    let map = tables.map();
     [
-        map.find(&web, &address(rt, "10.1.2.3")),
-        map.find(&web, &address(rt, "10.9.9.9")),
-        map.find(&web, &address(rt, "11.0.0.1")),
-        map.find(&other, &address(rt, "11.0.0.1")),
+        protocol(rt, tables, "web_t", "10.1.2.3"),
+        protocol(rt, tables, "web_t", "10.9.9.9"),
+        protocol(rt, tables, "web_t", "11.0.0.1"),
+        protocol(rt, tables, "other_t", "11.0.0.1"),
     ]
 }
 
@@ -476,50 +508,90 @@ fn paired(tables: &Tables, last: u8) -> (Option<u8>, Option<u8>) {
     )
 }
 
+/// A network with all that is set, with less of it and with none: copies of one, which goes on.
+#[derive(Drop)]
+struct Stages {
+    set: Network,
+    less: Network,
+    none: Network,
+}
+
+fn staged(rt: &impl Abort, alloc: Global) -> Stages {
+    let mut network = Network::fresh(alloc, 2).expect(rt, "memory");
+    answers_all(rt, alloc, &mut network, SET);
+    let set = network.copy().expect(rt, "memory");
+    answers_all(rt, alloc, &mut network, LESS);
+    let less = network.copy().expect(rt, "memory");
+    answers_all(rt, alloc, &mut network, NONE);
+    Stages {
+        set,
+        less,
+        none: network,
+    }
+}
+
+fn tables<'a>(rt: &impl Abort, network: &'a Network, node: usize) -> &'a Tables {
+    assert!(rt; network.nodes() == 2 && node < 2);
+    network.node(node)
+}
+
+fn finds_protocols(rt: &impl Abort, network: &Network, node: usize, wanted: [Option<Protocol>; 4]) {
+    let found = protocols(rt, tables(rt, network, node));
+    same(rt, wanted, found, wanted);
+}
+
 #[test]
-fn finds_what_was_set(rt: HostRuntime) {
-    let mut network = Network::fresh(rt.alloc(), 2).expect(&rt, "memory");
-    answers(&rt, rt.alloc(), &mut network, SET);
-    let set = network.copy().expect(&rt, "memory");
-    answers(&rt, rt.alloc(), &mut network, LESS);
-    let less = network.copy().expect(&rt, "memory");
-    answers(&rt, rt.alloc(), &mut network, NONE);
-    assert!(rt; set.nodes() == 2 && less.nodes() == 2 && network.nodes() == 2);
-    let (set, less, none) = (set.node(1), less.node(1), network.node(1));
+fn finds_protocols_that_were_set(rt: HostRuntime) {
+    let stages = staged(&rt, rt.alloc());
     let unlbl = Some(Protocol::Unlbl);
-    assert_eq!(rt; protocols(&rt, set), [SECOND, FIRST, None, unlbl]);
-    assert_eq!(rt; protocols(&rt, less), [FIRST, FIRST, None, unlbl]);
-    assert_eq!(rt; protocols(&rt, none), [unlbl; 4]);
-    assert_eq!(rt; protocols(&rt, network.node(0)), [None; 4]);
-    assert_eq!(rt;
-        [range(&rt, set, "eth0"), range(&rt, set, "eth1")],
-        [Some((0, 3)), Some((0, 1))]
-    );
-    assert_eq!(rt;
-        [range(&rt, less, "eth0"), range(&rt, none, "eth0")],
-        [Some((0, 1)), None]
-    );
-    assert_eq!(rt;
-        [receiver(&rt, set), receiver(&rt, less)],
-        [Some((1, 2)), None]
-    );
-    assert_eq!(rt; [labels(&rt, set), labels(&rt, less)], [Some((1, 2)), None]);
-    assert_eq!(rt;
-        [paired(set, 1), paired(set, 2)],
-        [(Some(1), Some(1)), (Some(2), Some(2))]
-    );
-    assert_eq!(rt;
-        [paired(less, 1), paired(less, 2)],
-        [(None, None), (Some(2), Some(2))]
-    );
+    finds_protocols(&rt, &stages.set, 1, [SECOND, FIRST, None, unlbl]);
+    finds_protocols(&rt, &stages.less, 1, [FIRST, FIRST, None, unlbl]);
+    finds_protocols(&rt, &stages.none, 1, [unlbl; 4]);
+    finds_protocols(&rt, &stages.none, 0, [None; 4]);
+}
+
+#[test]
+fn finds_ranges_that_were_set(rt: HostRuntime) {
+    let stages = staged(&rt, rt.alloc());
+    let (set, less) = (tables(&rt, &stages.set, 1), tables(&rt, &stages.less, 1));
+    let none = tables(&rt, &stages.none, 1);
+    same(&rt, "set", range(&rt, set, "eth0"), Some((0, 3)));
+    same(&rt, "default", range(&rt, set, "eth1"), Some((0, 1)));
+    same(&rt, "less", range(&rt, less, "eth0"), Some((0, 1)));
+    same(&rt, "none", range(&rt, none, "eth0"), None);
+}
+
+#[test]
+fn finds_labels_that_were_set(rt: HostRuntime) {
+    let stages = staged(&rt, rt.alloc());
+    let (set, less) = (tables(&rt, &stages.set, 1), tables(&rt, &stages.less, 1));
+    same(&rt, "receiver, set", receiver(&rt, set), Some((1, 2)));
+    same(&rt, "receiver, less", receiver(&rt, less), None);
+    same(&rt, "labels, set", labels(&rt, set), Some((1, 2)));
+    same(&rt, "labels, less", labels(&rt, less), None);
     assert!(rt; set.accepts() && !less.accepts());
-    assert!(rt;
-        set.dois().find(Proto::Cipso, 2).is_some() && none.dois().find(Proto::Cipso, 2).is_none()
-    );
+}
+
+#[test]
+fn finds_pairs_that_were_set(rt: HostRuntime) {
+    let stages = staged(&rt, rt.alloc());
+    let (set, less) = (tables(&rt, &stages.set, 1), tables(&rt, &stages.less, 1));
+    same(&rt, "1, set", paired(set, 1), (Some(1), Some(1)));
+    same(&rt, "2, set", paired(set, 2), (Some(2), Some(2)));
+    same(&rt, "1, less", paired(less, 1), (None, None));
+    same(&rt, "2, less", paired(less, 2), (Some(2), Some(2)));
+}
+
+#[test]
+fn finds_dois_that_were_set(rt: HostRuntime) {
+    let stages = staged(&rt, rt.alloc());
+    let (set, none) = (tables(&rt, &stages.set, 1), tables(&rt, &stages.none, 1));
+    assert!(rt; set.dois().find(Proto::Cipso, 2).is_some());
+    assert!(rt; none.dois().find(Proto::Cipso, 2).is_none());
 }
 
 /// The words of a command before and behind a number, how many of these a table takes, and the refusal of one that is there.
-const LIMITS: [(&str, &str, usize, &str); 7] = [
+const LIMITS: &[(&str, &str, usize, &str)] = &[
     ("cipsov4 add pass doi:1", " tags:1", 64, "DoiExists"),
     ("calipso add pass doi:1", "", 64, "DoiExists"),
     ("map add domain:d", " protocol:unlbl", 256, "MapExists"),
@@ -553,8 +625,7 @@ fn answers_number(
     wanted: &str,
 ) {
     let line = format!(in alloc; "{head}{number}{tail}").expect(rt, "memory");
-    let said = reply(rt, alloc, network, 0, line.as_bytes());
-    assert_eq!(rt; said.as_slice(), wanted.as_bytes(), "of {line}");
+    answers(rt, alloc, network, (0, line.as_str(), wanted));
 }
 
 /// Fills a table by so many commands.
@@ -567,13 +638,20 @@ fn filled(rt: &impl Abort, alloc: Global, words: (&str, &str), most: usize) -> N
 }
 
 // What is there is told before the table is full.
+fn keeps_limit(
+    rt: &impl Abort,
+    alloc: Global,
+    (head, tail, most, exists): (&str, &str, usize, &str),
+) {
+    let mut network = filled(rt, alloc, (head, tail), most);
+    answers_number(rt, alloc, &mut network, (head, tail), 7, exists);
+    answers_number(rt, alloc, &mut network, (head, tail), most, "TableFull");
+}
+
 #[test]
 fn keeps_limits(rt: HostRuntime) {
-    let alloc = rt.alloc();
-    for (head, tail, most, exists) in LIMITS {
-        let mut network = filled(&rt, alloc, (head, tail), most);
-        answers_number(&rt, alloc, &mut network, (head, tail), 7, exists);
-        answers_number(&rt, alloc, &mut network, (head, tail), most, "TableFull");
+    for limit in LIMITS {
+        keeps_limit(&rt, rt.alloc(), *limit);
     }
 }
 
@@ -587,24 +665,26 @@ fn pair(rt: &impl Abort, network: &mut Network, high: u8, low: u8) -> Reply {
         .expect(rt, "memory")
 }
 
+fn answers_pair(
+    rt: &impl Abort,
+    alloc: Global,
+    network: &mut Network,
+    (high, low): (u8, u8),
+    wanted: &str,
+) {
+    let said = said_of(rt, alloc, &pair(rt, network, high, low));
+    same(rt, (high, low), said.as_slice(), wanted.as_bytes());
+}
+
 #[test]
 fn takes_256_pairs(rt: HostRuntime) {
-    let mut network = Network::fresh(rt.alloc(), 1).expect(&rt, "memory");
+    let alloc = rt.alloc();
+    let mut network = Network::fresh(alloc, 1).expect(&rt, "memory");
     for low in 0..=255u8 {
-        assert!(rt; matches!(pair(&rt, &mut network, 0, low), Reply::Done));
+        answers_pair(&rt, alloc, &mut network, (0, low), "done");
     }
-    assert!(rt;
-        matches!(
-            pair(&rt, &mut network, 0, 7),
-            Reply::Refused(Refusal::PairExists)
-        )
-    );
-    assert!(rt;
-        matches!(
-            pair(&rt, &mut network, 1, 0),
-            Reply::Refused(Refusal::TableFull)
-        )
-    );
+    answers_pair(&rt, alloc, &mut network, (0, 7), "PairExists");
+    answers_pair(&rt, alloc, &mut network, (1, 0), "TableFull");
 }
 
 /// A definition with so many pairs of categories.
@@ -620,7 +700,7 @@ fn definition(rt: &impl Abort, alloc: Global, front: &str, pairs: u16) -> Vec<u8
 }
 
 /// How definitions begin, how many pairs of categories they have, and how a full table and then an empty one answer them.
-const PAIRS: [(&str, u16, &str, &str); 5] = [
+const PAIRS: &[(&str, u16, &str, &str)] = &[
     (
         "cipsov4 add trans doi:10 tags:1 levels:0=0,1=0",
         1953,
@@ -653,16 +733,36 @@ const PAIRS: [(&str, u16, &str, &str); 5] = [
     ),
 ];
 
+fn answers_pairs(
+    rt: &impl Abort,
+    alloc: Global,
+    full: &mut Network,
+    empty: &mut Network,
+    (front, pairs, of_full, of_empty): (&str, u16, &str, &str),
+) {
+    let line = definition(rt, alloc, front, pairs);
+    let said = reply(rt, alloc, full, 0, &line);
+    same(
+        rt,
+        ("full", front, pairs),
+        said.as_slice(),
+        of_full.as_bytes(),
+    );
+    let said = reply(rt, alloc, empty, 0, &line);
+    same(
+        rt,
+        ("empty", front, pairs),
+        said.as_slice(),
+        of_empty.as_bytes(),
+    );
+}
+
 #[test]
 fn takes_1952_pairs_of_categories(rt: HostRuntime) {
     let alloc = rt.alloc();
     let mut full = filled(&rt, alloc, ("cipsov4 add pass doi:1", " tags:1"), 64);
     let mut empty = Network::fresh(alloc, 1).expect(&rt, "memory");
-    for (front, pairs, of_full, of_empty) in PAIRS {
-        let line = definition(&rt, alloc, front, pairs);
-        let said = reply(&rt, alloc, &mut full, 0, &line);
-        assert_eq!(rt; said.as_slice(), of_full.as_bytes());
-        let said = reply(&rt, alloc, &mut empty, 0, &line);
-        assert_eq!(rt; said.as_slice(), of_empty.as_bytes());
+    for row in PAIRS {
+        answers_pairs(&rt, alloc, &mut full, &mut empty, *row);
     }
 }

@@ -1,6 +1,9 @@
 //! Packets that are denied.
 
 use super::cases::{forward_case, line_of};
+use crate::checks::same;
+use std::alloc::Global;
+use std::process::Abort;
 
 /// Cases in which the fourth line is why the packet is denied.
 const DENIALS: &str = "a category without a pair
@@ -208,14 +211,18 @@ crossroads eth0 eth1 two_t
 4f000044000040004011102b0a0000010a000002860c0000001001060002ffff441b050505050505050505050505050505050505050505050505050003e800350008e7be
 Some(Denied(Inexpressible))";
 
+fn denies(rt: &impl Abort, alloc: Global, case: &str, out: &mut Vec<u8>) {
+    out.push(1).expect(rt, "memory");
+    let stop = forward_case(rt, alloc, case, out).err();
+    let stop = format!(in alloc; "{stop:?}").expect(rt, "memory");
+    same(rt, case, stop.as_str(), line_of(rt, case, 3));
+    assert!(rt; out.is_empty(), "{case}");
+}
+
 #[test]
 fn the_first_reason_denies(rt: HostRuntime) {
     let mut out = Vec::new(rt.alloc());
     for case in DENIALS.split("\n\n") {
-        out.push(1).expect(&rt, "memory");
-        let stop = forward_case(&rt, rt.alloc(), case, &mut out).err();
-        let stop = format!(in rt.alloc(); "{stop:?}").expect(&rt, "memory");
-        assert_eq!(rt; stop.as_str(), line_of(&rt, case, 3), "{case}");
-        assert!(rt; out.is_empty(), "{case}");
+        denies(&rt, rt.alloc(), case, &mut out);
     }
 }

@@ -2,8 +2,12 @@
 
 use super::name;
 use super::nodes::{CROSSROADS, node};
+use crate::checks::same;
 use label_gateway::{Room, forward_into};
+use node_tables::Network;
 use packet_label::{Denial, Stop};
+use std::alloc::Global;
+use std::process::Abort;
 use worked_values::{append_octets, octets_of};
 
 /// A domain, and a packet: its head, so many times a part, and what stands behind; then why it is denied, if it is, and how
@@ -16,7 +20,7 @@ type Grown = (
     usize,
 );
 
-const LENGTHS: [Grown; 13] = [
+const LENGTHS: &[Grown] = &[
     // IPv4, 65523 octets
     (
         "one_t",
@@ -151,23 +155,38 @@ const LENGTHS: [Grown; 13] = [
     ),
 ];
 
+fn grown(rt: &impl Abort, alloc: Global, [head, part, tail]: [&str; 3], times: usize) -> Vec<u8> {
+    let mut packet = octets_of(alloc, head).expect(rt, "memory");
+    for _ in 0..times {
+        append_octets(part, &mut packet).expect(rt, "memory");
+    }
+    append_octets(tail, &mut packet).expect(rt, "memory");
+    packet
+}
+
+fn is_at_bound(
+    rt: &impl Abort,
+    alloc: Global,
+    network: &Network,
+    room: &mut Room,
+    out: &mut Vec<u8>,
+    (domain, parts, times, denial, length): Grown,
+) {
+    assert!(rt; network.nodes() == 1);
+    let packet = grown(rt, alloc, parts, times);
+    let (from, to) = (name(rt, "eth0"), name(rt, "eth1"));
+    let domain = name(rt, domain);
+    let got = forward_into(network.node(0), &from, &to, &domain, &packet, room, out);
+    same(rt, (parts, times), got.err(), denial.map(Stop::Denied));
+    same(rt, (parts, times), out.len(), length);
+}
+
 #[test]
 fn lengths_at_their_bounds(rt: HostRuntime) {
     let network = node(&rt, rt.alloc(), CROSSROADS);
-    assert!(rt; network.nodes() == 1);
-    let (from, to) = (name(&rt, "eth0"), name(&rt, "eth1"));
     let mut room = Room::lowest();
     let mut out = Vec::new(rt.alloc());
-    for (domain, [head, part, tail], times, denial, length) in LENGTHS {
-        let mut packet = octets_of(rt.alloc(), head).expect(&rt, "memory");
-        for _ in 0..times {
-            append_octets(part, &mut packet).expect(&rt, "memory");
-        }
-        append_octets(tail, &mut packet).expect(&rt, "memory");
-        let domain = name(&rt, domain);
-        let node = network.node(0);
-        let got = forward_into(node, &from, &to, &domain, &packet, &mut room, &mut out);
-        assert_eq!(rt; got.err(), denial.map(Stop::Denied), "{head} {times}");
-        assert_eq!(rt; out.len(), length, "{head} {times}");
+    for case in LENGTHS {
+        is_at_bound(&rt, rt.alloc(), &network, &mut room, &mut out, *case);
     }
 }

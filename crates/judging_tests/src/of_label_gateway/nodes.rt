@@ -79,7 +79,7 @@ pair add address4:10.0.0.2 address6:fd00::2
 pair add address4:10.0.0.5 address6:fd00::5";
 
 /// The nodes by their names.
-pub(super) const NODES: [(&str, &str); 7] = [
+pub(super) const NODES: &[(&str, &str)] = &[
     ("into_six", INTO_SIX),
     ("into_four", INTO_FOUR),
     ("two_dois", TWO_DOIS),

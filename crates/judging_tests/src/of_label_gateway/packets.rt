@@ -1,7 +1,11 @@
 //! Packets that go on.
 
 use super::cases::{forward_case, line_of};
+use crate::checks::same;
+use label_gateway::Passed;
 use mls_range::read_label;
+use std::alloc::Global;
+use std::process::Abort;
 use worked_values::octets_of;
 
 /// Cases, each of these lines: a name; the node, the interfaces and the domain; the packet; what carries the label of the packet that
@@ -300,16 +304,25 @@ Cipso { doi: 17 }
 s2:c1,c3
 4f000044000040003f1115230a0000010a000002860e000000110208000200010003441a05050505050505050505050505050505050505050505050503e800350008e7be";
 
+/// What carries the label of the packet that goes on, and the label.
+fn carries(rt: &impl Abort, alloc: Global, case: &str, passed: &Passed) {
+    let carrier = format!(in alloc; "{:?}", passed.carrier).expect(rt, "memory");
+    same(rt, case, carrier.as_str(), line_of(rt, case, 3));
+    let label = read_label(line_of(rt, case, 4).as_bytes()).expect(rt, "a label");
+    assert!(rt; passed.label.same(&label), "{case}");
+}
+
+fn goes_on(rt: &impl Abort, alloc: Global, case: &str, out: &mut Vec<u8>) {
+    let passed = forward_case(rt, alloc, case, out).expect(rt, case);
+    carries(rt, alloc, case, &passed);
+    let wanted = octets_of(alloc, line_of(rt, case, 5)).expect(rt, "memory");
+    same(rt, case, out.as_slice(), wanted.as_slice());
+}
+
 #[test]
 fn worked_packets_go_on(rt: HostRuntime) {
     let mut out = Vec::new(rt.alloc());
     for case in PASSES.split("\n\n") {
-        let passed = forward_case(&rt, rt.alloc(), case, &mut out).expect(&rt, case);
-        let carrier = format!(in rt.alloc(); "{:?}", passed.carrier).expect(&rt, "memory");
-        assert_eq!(rt; carrier.as_str(), line_of(&rt, case, 3), "{case}");
-        let label = read_label(line_of(&rt, case, 4).as_bytes()).expect(&rt, "a label");
-        assert!(rt; passed.label.same(&label), "{case}");
-        let wanted = octets_of(rt.alloc(), line_of(&rt, case, 5)).expect(&rt, "memory");
-        assert_eq!(rt; out.as_slice(), wanted.as_slice(), "{case}");
+        goes_on(&rt, rt.alloc(), case, &mut out);
     }
 }
