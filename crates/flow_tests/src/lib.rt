@@ -2,6 +2,8 @@
 #![tactic(auto)]
 
 #[cfg(test)]
+mod checks;
+#[cfg(test)]
 mod of_label_flow;
 #[cfg(test)]
 mod of_made_capture;

@@ -20,7 +20,7 @@ use worked_networks::steps_of;
 use worked_values::octets_of;
 use worked_values::packets::LABELLED_4;
 
-const LINES: [(usize, &str); 4] = [
+static LINES: [(usize, &str); 4] = [
     (0, "cipsov4 add pass doi:16 tags:1"),
     (0, "map add default protocol:cipsov4,16"),
     (

@@ -2,10 +2,11 @@
 
 ghost use Rattle.std.specs.Prelude.{◌≡◌, ◌+◌, ◌^◌, ◌<◌, OnOk};
 
+use crate::checks::same;
 use made_run::Maker;
 use mls_label::OutOfMemory;
 use pcap_frames::{FrameHead, write_frame, write_head};
-use std::test::Fail;
+use std::process::Abort;
 
 /// A packet by its checksum, the last octet of its source, and its options.
 fn packet(checksum: [u8; 2], source: u8, options: [u8; 12]) -> [u8; 40] {
@@ -22,7 +23,7 @@ fn packet(checksum: [u8; 2], source: u8, options: [u8; 12]) -> [u8; 40] {
 type Changes = ([u8; 2], u8, [u8; 12]);
 
 /// The first three packets from four numbers.
-const FIRST: [(u64, Changes, Changes, Changes); 4] = [
+const FIRST: &[(u64, Changes, Changes, Changes)] = &[
     (
         0,
         (
@@ -117,31 +118,32 @@ fn is_packet(octets: &[u8], changes: Changes) -> bool {
     octets == packet(checksum, source, options).as_slice()
 }
 
+fn begins(
+    rt: &impl Abort,
+    octets: &mut Vec<u8>,
+    (seed, first, second, third): (u64, Changes, Changes, Changes),
+) {
+    let mut maker = Maker::new(seed);
+    let is_first = next_is(&mut maker, octets, 1, first).expect(rt, "memory");
+    same(rt, (1, seed), is_first, true);
+    let is_second = next_is(&mut maker, octets, 2, second).expect(rt, "memory");
+    same(rt, (2, seed), is_second, true);
+    let is_third = next_is(&mut maker, octets, 3, third).expect(rt, "memory");
+    same(rt, (3, seed), is_third, true);
+    same(rt, ("made", seed), maker.made(), 3);
+}
+
 #[test]
-fn first_packets(rt: HostRuntime) -> Result<(), Fail> {
+fn first_packets(rt: HostRuntime) {
     let mut octets = Vec::new(rt.alloc());
-    for (seed, first, second, third) in FIRST {
-        let mut maker = Maker::new(seed);
-        assert!(rt;
-            next_is(&mut maker, &mut octets, 1, first)?,
-            "1 from {seed}"
-        );
-        assert!(rt;
-            next_is(&mut maker, &mut octets, 2, second)?,
-            "2 from {seed}"
-        );
-        assert!(rt;
-            next_is(&mut maker, &mut octets, 3, third)?,
-            "3 from {seed}"
-        );
-        assert_eq!(rt; maker.made(), 3);
+    for packets in FIRST {
+        begins(&rt, &mut octets, *packets);
     }
-    Ok(())
 }
 
 /// Seeds, each with its first number above it: numbers whose labels have no category, the first alone, the last alone, those of one octet alone, or all; and those that no
 /// bit but the level's, the bitmap's or the source's tells apart.
-const NUMBERS: [(u64, Changes); 10] = [
+const NUMBERS: &[(u64, Changes)] = &[
     (
         // 0
         0x9995_b5b6_2153_5015,
@@ -218,19 +220,22 @@ const NUMBERS: [(u64, Changes); 10] = [
     ),
 ];
 
+fn comes_first(rt: &impl Abort, octets: &mut Vec<u8>, seed: u64, changes: Changes) {
+    let mut maker = Maker::new(seed);
+    maker.next(octets).expect(rt, "memory");
+    assert!(rt; is_packet(octets, changes), "from {seed}: {octets:?}");
+}
+
 #[test]
-fn packets_of_numbers(rt: HostRuntime) -> Result<(), Fail> {
+fn packets_of_numbers(rt: HostRuntime) {
     let mut octets = Vec::new(rt.alloc());
-    for (seed, changes) in NUMBERS {
-        let mut maker = Maker::new(seed);
-        maker.next(&mut octets)?;
-        assert!(rt; is_packet(&octets, changes), "from {seed}: {octets:?}");
+    for &(seed, changes) in NUMBERS {
+        comes_first(&rt, &mut octets, seed, changes);
     }
-    Ok(())
 }
 
 /// The capture of two packets from the number 1.
-const CAPTURE: [u8; 136] = [
+const CAPTURE: &[u8] = &[
     0xd4, 0xc3, 0xb2, 0xa1, 2, 0, 4, 0, 0, 0, 0, 0, 0, 0, 0, 0, 0, 0, 4, 0, 0x65, 0, 0, 0, 1, 0, 0,
     0, 0, 0, 0, 0, 0x28, 0, 0, 0, 0x28, 0, 0, 0, 0x48, 0, 0, 0x28, 0, 0, 0, 0, 0x40, 0x11, 0x84,
     0x86, 10, 0, 0, 0xac, 10, 0, 0, 2, 0x86, 12, 0, 0, 0, 16, 1, 6, 0, 0, 0x57, 0x6f, 3, 0xe8, 0,
@@ -239,41 +244,43 @@ const CAPTURE: [u8; 136] = [
     0x68, 0x86, 3, 0xe8, 0, 0x35, 0, 8, 0, 0,
 ];
 
+fn append_next(rt: &impl Abort, maker: &mut Maker, octets: &mut Vec<u8>, file: &mut Vec<u8>)
+    requires { maker.old.made + 1 < 2 ^ 32 }
+    ensures { maker.new.made ≡ maker.old.made + 1 }
+{
+    let head = maker.next(octets).expect(rt, "memory");
+    assert_eq!(rt; octets.len(), 40);
+    write_frame(head, octets, file).expect(rt, "memory");
+}
+
 #[test]
-fn a_capture_of_two_packets(rt: HostRuntime) -> Result<(), Fail> {
+fn a_capture_of_two_packets(rt: HostRuntime) {
     let mut maker = Maker::new(1);
     let mut octets = Vec::new(rt.alloc());
     let mut file = Vec::new(rt.alloc());
-    write_head(false, &mut file)?;
-    let head = maker.next(&mut octets)?;
-    assert_eq!(rt; octets.len(), 40);
-    write_frame(head, &octets, &mut file)?;
-    let head = maker.next(&mut octets)?;
-    assert_eq!(rt; octets.len(), 40);
-    write_frame(head, &octets, &mut file)?;
-    assert_eq!(rt; file.as_slice(), CAPTURE.as_slice());
-    Ok(())
+    write_head(false, &mut file).expect(&rt, "memory");
+    append_next(&rt, &mut maker, &mut octets, &mut file);
+    append_next(&rt, &mut maker, &mut octets, &mut file);
+    same(&rt, "file", file.as_slice(), CAPTURE);
 }
 
 // What the buffer held goes, and its room stays.
 #[test]
-fn a_buffer_is_used_again(rt: HostRuntime) -> Result<(), Fail> {
-    let mut octets = vec![in rt.alloc(); 9u8; 100]?;
+fn a_buffer_is_used_again(rt: HostRuntime) {
+    let mut octets = vec![in rt.alloc(); 9u8; 100].expect(&rt, "memory");
     let room = octets.capacity();
     let mut maker = Maker::new(1);
-    maker.next(&mut octets)?;
-    assert_eq!(rt; octets.len(), 40);
-    maker.next(&mut octets)?;
-    assert_eq!(rt; octets.len(), 40);
-    assert_eq!(rt; octets.capacity(), room);
-    Ok(())
+    maker.next(&mut octets).expect(&rt, "memory");
+    same(&rt, "first", octets.len(), 40);
+    maker.next(&mut octets).expect(&rt, "memory");
+    same(&rt, "second", octets.len(), 40);
+    same(&rt, "room", octets.capacity(), room);
 }
 
 fn is_sent<T: Send>(_: &T) {}
 
 // A maker may go to another thread.
 #[test]
-fn a_maker_is_sent(_rt: HostRuntime) -> Result<(), Fail> {
+fn a_maker_is_sent(_rt: HostRuntime) {
     is_sent(&Maker::new(0));
-    Ok(())
 }

@@ -1,5 +1,6 @@
 //! Captures in a folder in memory, with ample memory, against counts and files that another program computed.
 
+use crate::checks::same;
 use label_flow::OpenGate;
 use made_run::*;
 use net_io::{DepotCall, MemoryDepot};
@@ -10,7 +11,7 @@ use std::thread::Threads;
 
 /// By seed and count: how many packets are delivered, how many are denied, and the file's digest. Of 1,025 packets the last stands in a
 /// batch of its own; of 3,000 the last batch isn't full.
-const CAPTURES: [(u64, u32, u32, u32, u64); 8] = [
+const CAPTURES: &[(u64, u32, u32, u32, u64)] = &[
     (1, 0, 0, 0, 0xcad0_2cb5_1f29_1192),
     (1, 1, 0, 1, 0x4c91_3686_692c_b2db),
     (5, 1, 1, 0, 0x4eba_aa92_9974_c149),
@@ -23,7 +24,7 @@ const CAPTURES: [(u64, u32, u32, u32, u64); 8] = [
 
 /// Appends that fail, by their numbers among all calls, and how many octets of the capture of 600 packets the file holds then. An append
 /// takes at most 4,096 octets; the first piece has 16,432, the second 16,408, and 784 are left.
-const FAILS: [(u32, usize); 7] = [
+const FAILS: &[(u32, usize)] = &[
     (2, 0),
     (3, 4096),
     (6, 16384),
@@ -62,41 +63,61 @@ fn made(
     made
 }
 
+fn is_made(
+    rt: &(impl Abort + Threads + Wait + Sync),
+    alloc: Global,
+    (seed, count, delivered, denied, file): (u64, u32, u32, u32, u64),
+) {
+    let mut depot = folder(rt, alloc, 0);
+    let made = made(rt, alloc, seed, count, &mut depot);
+    same(rt, (seed, count), made, Ok(Verdicts { delivered, denied }));
+    assert!(rt; depot.failed().is_none());
+    let octets = depot.get("made.pcap").expect(rt, "a file");
+    same(rt, (seed, count), octets.len(), 24 + 56 * count as usize);
+    same(rt, (seed, count), digest(octets), file);
+}
+
 #[test]
 fn captures_are_made_and_judged(rt: HostRuntime) {
-    let alloc = rt.alloc();
-    for (seed, count, delivered, denied, file) in CAPTURES {
-        let mut depot = folder(&rt, alloc, 0);
-        let made = made(&rt, alloc, seed, count, &mut depot);
-        assert!(rt;
-            made == Ok(Verdicts { delivered, denied }),
-            "{count} from {seed}"
-        );
-        assert!(rt; depot.failed().is_none());
-        let octets = depot.get("made.pcap").expect(&rt, "a file");
-        assert!(rt; octets.len() == 24 + 56 * count as usize);
-        assert!(rt; digest(octets) == file, "{count} from {seed}");
+    for case in CAPTURES {
+        is_made(&rt, rt.alloc(), *case);
+    }
+}
+
+fn stops_at_append(
+    rt: &(impl Abort + Threads + Wait + Sync),
+    alloc: Global,
+    call: u32,
+    left: Option<&[u8]>,
+) {
+    let mut depot = folder(rt, alloc, call);
+    let made = made(rt, alloc, 1, 600, &mut depot);
+    same(rt, call, made, Err(MadeStop::Append));
+    same(rt, call, depot.failed(), Some(DepotCall::Append));
+    same(rt, call, depot.get("made.pcap"), left);
+}
+
+#[test]
+fn appends_that_fail_stop_a_making(rt: HostRuntime) {
+    let mut depot = folder(&rt, rt.alloc(), 13);
+    let made = made(&rt, rt.alloc(), 1, 600, &mut depot);
+    assert!(rt; made.is_ok() && depot.failed().is_none());
+    let whole = depot.get("made.pcap").expect(&rt, "a file");
+    for &(call, octets) in FAILS {
+        stops_at_append(&rt, rt.alloc(), call, whole.get(..octets));
     }
 }
 
 #[test]
-fn calls_that_fail_stop_a_making(rt: HostRuntime) {
-    let alloc = rt.alloc();
-    let mut depot = folder(&rt, alloc, 13);
-    let whole = made(&rt, alloc, 1, 600, &mut depot);
-    assert!(rt; whole.is_ok() && depot.failed().is_none());
-    let whole = depot.get("made.pcap").expect(&rt, "a file");
-    for (call, octets) in FAILS {
-        let mut depot = folder(&rt, alloc, call);
-        let made = made(&rt, alloc, 1, 600, &mut depot);
-        assert!(rt; made == Err(MadeStop::Append) && depot.failed() == Some(DepotCall::Append));
-        assert!(rt;
-            depot.get("made.pcap") == whole.get(..octets),
-            "call {call}"
-        );
-    }
-    let mut depot = folder(&rt, alloc, 1);
-    let made = made(&rt, alloc, 1, 600, &mut depot);
-    assert!(rt; made == Err(MadeStop::Create) && depot.failed() == Some(DepotCall::Create));
-    assert!(rt; depot.get("made.pcap") == Some(b"before".as_slice()));
+fn a_file_that_cannot_be_made_stops_a_making(rt: HostRuntime) {
+    let mut depot = folder(&rt, rt.alloc(), 1);
+    let made = made(&rt, rt.alloc(), 1, 600, &mut depot);
+    same(&rt, "made", made, Err(MadeStop::Create));
+    same(&rt, "failed", depot.failed(), Some(DepotCall::Create));
+    same(
+        &rt,
+        "left",
+        depot.get("made.pcap"),
+        Some(b"before".as_slice()),
+    );
 }

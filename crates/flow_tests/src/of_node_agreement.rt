@@ -1,4 +1,5 @@
-use label_commands::{Step, read_script};
+use crate::checks::same;
+use label_commands::{Reading, Step, read_script};
 use label_flow::*;
 use node_tables::{Network, Reply};
 use std::alloc::Global;
@@ -13,20 +14,12 @@ fn carry_out(rt: &impl Abort, network: &mut Network, steps: &[Step]) {
     }
 }
 
-// What two nodes of a script are told after its first steps.
-fn compared(
+fn agreement(
     rt: &impl Abort,
-    alloc: Global,
-    text: &str,
-    steps: usize,
+    network: &Network,
+    readings: &[Reading],
     (left, right): (usize, usize),
 ) -> Option<Disagree> {
-    let script = read_script(alloc, text.as_bytes(), "script").expect(rt, "a script");
-    let readings = script.readings.as_slice();
-    let commands = script.steps.as_slice();
-    let mut network = Network::fresh(alloc, readings.len()).expect(rt, "memory");
-    assert!(rt; steps <= commands.len());
-    carry_out(rt, &mut network, &commands[..steps]);
     assert!(rt; left < network.nodes() && right < network.nodes());
     assert!(rt; left < readings.len() && right < readings.len());
     agrees(
@@ -35,6 +28,23 @@ fn compared(
         &readings[left],
         &readings[right],
     )
+}
+
+// What two nodes of a script are told after its first steps.
+fn compared(
+    rt: &impl Abort,
+    alloc: Global,
+    text: &str,
+    steps: usize,
+    nodes: (usize, usize),
+) -> Option<Disagree> {
+    let script = read_script(alloc, text.as_bytes(), "script").expect(rt, "a script");
+    let readings = script.readings.as_slice();
+    let commands = script.steps.as_slice();
+    let mut network = Network::fresh(alloc, readings.len()).expect(rt, "memory");
+    assert!(rt; steps <= commands.len());
+    carry_out(rt, &mut network, &commands[..steps]);
+    agreement(rt, &network, readings, nodes)
 }
 
 // Protocol, DOI, whether it is a level, the number on the wire, and its two meanings.
@@ -50,7 +60,7 @@ const CIPSO: Proto = Proto::Cipso;
 const CALIPSO: Proto = Proto::Calipso;
 
 // What is shown, a script of two nodes, and what is told of them.
-const ROWS: [(&str, usize, &str, Option<Told>); 24] = [
+const ROWS: &[(&str, usize, &str, Option<Told>)] = &[
     (
         "nothing in common",
         2,
@@ -199,14 +209,14 @@ const ROWS: [(&str, usize, &str, Option<Told>); 24] = [
 
 #[test]
 fn tells_the_first_difference(rt: HostRuntime) {
-    for (name, steps, script, wanted) in ROWS {
+    for &(name, steps, script, wanted) in ROWS {
         let found = compared(&rt, rt.alloc(), script, steps, (0, 1));
-        assert!(rt; told(found) == wanted, "{name}");
+        same(&rt, name, told(found), wanted);
     }
 }
 
 // So many steps of `CROSSING` and `EXCHANGE`, two nodes, and what is told of them.
-const NEIGHBOURS: [(usize, (usize, usize), Option<Told>); 7] = [
+const NEIGHBOURS: &[(usize, (usize, usize), Option<Told>)] = &[
     (15, (0, 1), None),
     (15, (1, 2), None),
     (15, (2, 3), None),
@@ -219,8 +229,8 @@ const NEIGHBOURS: [(usize, (usize, usize), Option<Told>); 7] = [
 #[test]
 fn compares_neighbours_of_four_nodes(rt: HostRuntime) {
     let script = format!(in rt.alloc(); "{CROSSING}{EXCHANGE}").expect(&rt, "memory");
-    for (steps, nodes, wanted) in NEIGHBOURS {
+    for &(steps, nodes, wanted) in NEIGHBOURS {
         let found = compared(&rt, rt.alloc(), &script, steps, nodes);
-        assert!(rt; told(found) == wanted, "after {steps} steps");
+        same(&rt, (steps, nodes), told(found), wanted);
     }
 }

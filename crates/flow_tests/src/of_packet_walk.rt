@@ -5,6 +5,7 @@ ghost use Rattle.std.specs.Arc.{arc_value};
 ghost use Rattle.label_commands.specs.flow_lines.Hop.{node_of};
 ghost use Rattle.shared_tables.specs.Plan.{network_after};
 
+use crate::checks::same;
 use domain_map::{read_name, write_address};
 use label_commands::{FlowLine, Flows, NodeNames, read_flow};
 use label_flow::*;
@@ -22,7 +23,7 @@ use worked_values::packets::{CALIPSO_9, LABELLED_4, LIST_10, PLAIN_4};
 
 /// Four nodes: a sender, a gateway into IPv6, one back into IPv4, and a receiver with numbers of its own. Behind the first 15 commands the
 /// second gateway takes up another definition.
-const COMMANDS: [(usize, &str); 19] = [
+static COMMANDS: [(usize, &str); 19] = [
     (0, "cipsov4 add pass doi:8 tags:1"),
     (0, "map add default protocol:cipsov4,8"),
     (1, "cipsov4 add pass doi:8 tags:1"),
@@ -57,7 +58,7 @@ const COMMANDS: [(usize, &str); 19] = [
 ];
 
 /// A node that receives packets without a label until its last command.
-const RECEIVING: [(usize, &str); 5] = [
+static RECEIVING: [(usize, &str); 5] = [
     (0, "unlbl accept on"),
     (0, "unlbl add default address:0.0.0.0/0 label:s1:c2"),
     (0, "map add default protocol:unlbl"),
@@ -66,7 +67,7 @@ const RECEIVING: [(usize, &str); 5] = [
 ];
 
 /// A node that knows DOI 16, and one that also receives.
-const SITE: [(usize, &str); 6] = [
+static SITE: [(usize, &str); 6] = [
     (0, "cipsov4 add pass doi:16 tags:1"),
     (0, "map add default protocol:cipsov4,16"),
     (1, "cipsov4 add pass doi:16 tags:1"),
@@ -78,8 +79,10 @@ const SITE: [(usize, &str); 6] = [
     (0, "range add interface:eth9 range:s0-s1"),
 ];
 
-/// The way of a packet over hops, what is told of its walk, and the octets that it leaves.
-const FAR_WALKS: [(&str, &str, &str, &str); 2] = [
+/// The way of a packet over hops, the packet, what is told of its walk, and the octets that it leaves.
+type Case = (&'static str, &'static str, &'static str, &'static str);
+
+const FAR_WALKS: &[Case] = &[
     (
         "send:a,app_t,eth0,s2:c1,c3 forward:b,eth0,eth1,any forward:c,eth0,eth1,any receive:d,eth0",
         PLAIN_4,
@@ -94,7 +97,7 @@ const FAR_WALKS: [(&str, &str, &str, &str); 2] = [
     ),
 ];
 
-const SITE_WALKS: [(&str, &str, &str, &str); 6] = [
+const SITE_WALKS: &[Case] = &[
     (
         "receive:b,eth0",
         LABELLED_4,
@@ -143,7 +146,9 @@ const LIST_4: &str =
 const ONE_HOP_4: &str = "4500001c000040003f1127cf0a0000010a00000203e800350008e7be";
 
 /// The way of a packet, the versions that are named for its hops, what is told of its walk, and the octets that it leaves.
-const FAR_NAMED: [(&str, &[u32], &str, &str); 14] = [
+type NamedCase = (&'static str, &'static [u32], &'static str, &'static str);
+
+const FAR_NAMED: &[NamedCase] = &[
     (
         FAR,
         &[15, 15, 15, 15],
@@ -191,7 +196,7 @@ const FAR_NAMED: [(&str, &[u32], &str, &str); 14] = [
 ];
 
 /// The same of a node's own packets.
-const NEAR_NAMED: [(&str, &[u32], &str, &str); 6] = [
+const NEAR_NAMED: &[NamedCase] = &[
     (
         "receive:a,eth0",
         &[4],
@@ -283,46 +288,122 @@ fn stepped<R: Wait + Abort>(rt: &R, publisher: Publisher, steps: usize) -> Publi
     publisher
 }
 
+fn append(rt: &impl Abort, octets: &[u8], text: &mut Vec<u8>) {
+    text.extend_from_slice(octets).expect(rt, "memory");
+}
+
+fn tell_sent(rt: &impl Abort, alloc: Global, carrier: &Carrier, text: &mut Vec<u8>) {
+    let said = match carrier {
+        Carrier::Unlabelled => format!(in alloc; "sent unlbl"),
+        Carrier::Cipso { doi } => format!(in alloc; "sent cipso {doi}"),
+        Carrier::Calipso { doi } => format!(in alloc; "sent calipso {doi}"),
+    };
+    append(rt, said.expect(rt, "memory").as_bytes(), text);
+}
+
+fn tell_denied(rt: &impl Abort, alloc: Global, hop: u32, why: &str, text: &mut Vec<u8>) {
+    let said = format!(in alloc; "denied {why} hop {hop}").expect(rt, "memory");
+    append(rt, said.as_bytes(), text);
+}
+
+fn tell_end(rt: &impl Abort, alloc: Global, end: &End, text: &mut Vec<u8>) {
+    match end {
+        End::Delivered { label, receiver } => {
+            append(rt, b"delivered ", text);
+            write_label(label, text).expect(rt, "memory");
+            append(rt, b" to ", text);
+            write_address(receiver, text).expect(rt, "memory");
+        }
+        End::Sent { carrier } => tell_sent(rt, alloc, carrier, text),
+        End::Denied { hop, denial } => tell_denied(rt, alloc, *hop, denial.name(), text),
+    }
+}
+
+fn tell_version(rt: &impl Abort, alloc: Global, version: u32, text: &mut Vec<u8>) {
+    let said = format!(in alloc; "{version},").expect(rt, "memory");
+    append(rt, said.as_bytes(), text);
+}
+
 // What became of a packet, in words.
 fn tell(rt: &impl Abort, alloc: Global, walked: &Walked) -> Vec<u8> {
     let mut text = Vec::new(alloc);
-    match &walked.end {
-        End::Delivered { label, receiver } => {
-            text.extend_from_slice(b"delivered ").expect(rt, "memory");
-            write_label(label, &mut text).expect(rt, "memory");
-            text.extend_from_slice(b" to ").expect(rt, "memory");
-            write_address(receiver, &mut text).expect(rt, "memory");
-        }
-        End::Sent { carrier } => {
-            let said = match carrier {
-                Carrier::Unlabelled => format!(in alloc; "sent unlbl"),
-                Carrier::Cipso { doi } => format!(in alloc; "sent cipso {doi}"),
-                Carrier::Calipso { doi } => format!(in alloc; "sent calipso {doi}"),
-            };
-            text.extend_from_slice(said.expect(rt, "memory").as_bytes())
-                .expect(rt, "memory");
-        }
-        End::Denied { hop, denial } => {
-            let why = denial.name();
-            let said = format!(in alloc; "denied {why} hop {hop}").expect(rt, "memory");
-            text.extend_from_slice(said.as_bytes()).expect(rt, "memory");
-        }
-    }
-    text.extend_from_slice(b" versions ").expect(rt, "memory");
+    tell_end(rt, alloc, &walked.end, &mut text);
+    append(rt, b" versions ", &mut text);
     for version in walked.versions.as_slice() {
-        let said = format!(in alloc; "{version},").expect(rt, "memory");
-        text.extend_from_slice(said.as_bytes()).expect(rt, "memory");
+        tell_version(rt, alloc, *version, &mut text);
     }
     text
 }
 
-// Each packet goes over its hops by the call that makes what it needs, and by the one that is lent it, in one room and one place.
+fn packet_of(rt: &impl Abort, alloc: Global, digits: &str) -> PacketIn {
+    let bytes = Octets::of(octets_of(alloc, digits).expect(rt, "memory"));
+    let is_ip = !digits.is_empty();
+    PacketIn { bytes, is_ip }
+}
+
+// What is told of a walk, and the octets that it leaves.
+fn leaves(
+    rt: &impl Abort,
+    alloc: Global,
+    walked: &Walked,
+    out: &[u8],
+    (hops, told, left): (&str, &str, &str),
+) {
+    let found = tell(rt, alloc, walked);
+    same(rt, hops, found.as_slice(), told.as_bytes());
+    let left = octets_of(alloc, left).expect(rt, "memory");
+    same(rt, hops, out, left.as_slice());
+}
+
+/// A place for what becomes of a packet.
+#[derive(Drop)]
+struct Place {
+    slot: WalkedSlot,
+    shown: ShownWalks,
+}
+
+// A packet goes over its hops by the call that makes what it needs, and by the one that is lent it.
+fn walks_twice(
+    rt: &impl Abort,
+    alloc: Global,
+    viewer: &mut Viewer,
+    flow: &FlowLine,
+    room: WalkRoom,
+    place: &mut Place,
+    case: Case,
+) -> WalkRoom
+    requires { All (λ hop. node_of hop < viewer.old.plan.nodes) flow.now.hops }
+{
+    let (hops, digits, told, left) = case;
+    let packet = packet_of(rt, alloc, digits);
+    let mut out = Vec::new(alloc);
+    let walked = walk(alloc, viewer, flow, 0, 1, &packet, &mut out, &OpenGate).expect(rt, "memory");
+    leaves(rt, alloc, &walked, &out, (hops, told, left));
+    let worker = Worker {
+        flow,
+        number: 0,
+        gate: &OpenGate,
+    };
+    let room = walk_into(&worker, viewer, 2, &packet, room, &mut place.slot, &mut out).expect(
+        rt, "memory",
+    );
+    leaves(
+        rt,
+        alloc,
+        place.shown.show(&place.slot),
+        &out,
+        (hops, told, left),
+    );
+    room
+}
+
+// Each packet in one room and one place.
 fn walks<R: Wait + Abort>(
     rt: &R,
     alloc: Global,
     commands: &[(usize, &str)],
     count: usize,
-    cases: &[(&str, &str, &str, &str)],
+    cases: &[Case],
 )
     requires few { length commands.now < 2 ^ 32 }
     requires count { count ≤ length commands.now }
@@ -331,55 +412,30 @@ fn walks<R: Wait + Abort>(
     let nodes = names.len();
     assert!(rt; nodes <= 32);
     let mut room = WalkRoom::new(alloc).expect(rt, "memory");
-    let mut slot = WalkedSlot::new(alloc);
-    let mut shown = ShownWalks::new();
-    for (hops, packet, told, left) in cases {
-        let flow = flow_of(rt, alloc, &names, hops);
+    let mut place = Place {
+        slot: WalkedSlot::new(alloc),
+        shown: ShownWalks::new(),
+    };
+    for case in cases {
+        let flow = flow_of(rt, alloc, &names, case.0);
         let (publisher, mut viewer) = begun(rt, alloc, nodes, commands, count);
-        let bytes = Octets::of(octets_of(alloc, packet).expect(rt, "memory"));
-        let left = octets_of(alloc, left).expect(rt, "memory");
-        let is_ip = !packet.is_empty();
-        let packet = PacketIn { bytes, is_ip };
-        let mut out = Vec::new(alloc);
-        let walked = walk(
-            alloc,
-            &mut viewer,
-            &flow,
-            0,
-            1,
-            &packet,
-            &mut out,
-            &OpenGate,
-        )
-        .expect(rt, "memory");
-        assert!(rt; tell(rt, alloc, &walked).as_slice() == told.as_bytes());
-        assert!(rt; out.as_slice() == left.as_slice());
-        let worker = Worker {
-            flow: &flow,
-            number: 0,
-            gate: &OpenGate,
-        };
-        room = walk_into(&worker, &mut viewer, 2, &packet, room, &mut slot, &mut out).expect(
-            rt, "memory",
-        );
-        assert!(rt; tell(rt, alloc, shown.show(&slot)).as_slice() == told.as_bytes());
-        assert!(rt; out.as_slice() == left.as_slice());
+        room = walks_twice(rt, alloc, &mut viewer, &flow, room, &mut place, *case);
         drop(publisher.close(rt));
     }
 }
 
 #[test]
 fn packets_go_over_four_nodes(rt: HostRuntime) {
-    walks(&rt, rt.alloc(), &COMMANDS, 15, &FAR_WALKS);
+    walks(&rt, rt.alloc(), &COMMANDS, 15, FAR_WALKS);
 }
 
 #[test]
 fn walks_end_at_the_first_denial(rt: HostRuntime) {
-    walks(&rt, rt.alloc(), &SITE, SITE.len(), &SITE_WALKS);
+    walks(&rt, rt.alloc(), &SITE, SITE.len(), SITE_WALKS);
 }
 
 /// The versions of a word of numbers between two bounds, and whether they rise.
-const RISING: [(u32, u32, &[u32], bool); 9] = [
+const RISING: &[(u32, u32, &[u32], bool)] = &[
     (15, 19, &[15, 15, 19, 19], true),
     (15, 19, &[15, 19, 15, 15], false),
     (15, 19, &[15, 15, 18, 17], false),
@@ -393,8 +449,8 @@ const RISING: [(u32, u32, &[u32], bool); 9] = [
 
 #[test]
 fn versions_rise(rt: HostRuntime) {
-    for (low, high, versions, rises) in RISING {
-        assert!(rt; rise(low, high, versions) == rises);
+    for &(low, high, versions, rises) in RISING {
+        same(&rt, (low, high, versions), rise(low, high, versions), rises);
     }
 }
 
@@ -413,46 +469,83 @@ fn tell_named(
     }
 }
 
-// Each packet goes over its hops under the versions that are named, from the tables before the first step on.
-fn named_walks(
+/// What is lent to all walks under named versions.
+#[derive(Drop)]
+struct Lent {
+    room: WalkRoom,
+    place: Place,
+    out: Vec<u8>,
+}
+
+fn lent(rt: &impl Abort, alloc: Global) -> Lent {
+    Lent {
+        room: WalkRoom::new(alloc).expect(rt, "memory"),
+        place: Place {
+            slot: WalkedSlot::new(alloc),
+            shown: ShownWalks::new(),
+        },
+        out: Vec::new(alloc),
+    }
+}
+
+fn leaves_named(
     rt: &impl Abort,
     alloc: Global,
-    commands: &[(usize, &str)],
-    cases: &[(&str, &[u32], &str, &str)],
+    ended: Result<(), VersionsStop>,
+    lent: &mut Lent,
+    (hops, versions, told, left): NamedCase,
+) {
+    let walked = lent.place.shown.show(&lent.place.slot);
+    let said = tell_named(rt, alloc, ended, walked);
+    same(rt, (hops, versions), said.as_slice(), told.as_bytes());
+    let left = octets_of(alloc, left).expect(rt, "memory");
+    same(rt, (hops, versions), lent.out.as_slice(), left.as_slice());
+}
+
+// A packet goes over its hops under the versions that are named, from the tables before the first step on.
+fn walks_named(
+    rt: &impl Abort,
+    alloc: Global,
+    steps: &[Step],
+    nodes: usize,
+    flow: &FlowLine,
+    lent: &mut Lent,
+    case: NamedCase,
 )
+    requires few { length steps.now < 2 ^ 32 }
+    requires steps { All (λ step. step.node < nodes) steps.now }
+    requires hops { All (λ hop. node_of hop < nodes) flow.now.hops }
+{
+    let packet = packet_of(rt, alloc, PLAIN_4);
+    let mut tables = StepTables::fresh(alloc, nodes, steps).expect(rt, "memory");
+    assert!(rt; rise(tables.version(), steps.len() as u32, case.1));
+    let ended = walk_named(
+        &mut tables,
+        flow,
+        case.1,
+        &packet,
+        &mut lent.room,
+        &mut lent.place.slot,
+        &mut lent.out,
+    );
+    leaves_named(rt, alloc, ended, lent, case);
+}
+
+fn named_walks(rt: &impl Abort, alloc: Global, commands: &[(usize, &str)], cases: &[NamedCase])
     requires { length commands.now < 2 ^ 32 }
 {
     let names = names_of(rt, alloc);
     let nodes = names.len();
     let steps = steps_of(alloc, nodes, commands).expect(rt, "commands");
-    let bytes = Octets::of(octets_of(alloc, PLAIN_4).expect(rt, "memory"));
-    let packet = PacketIn { bytes, is_ip: true };
-    let mut room = WalkRoom::new(alloc).expect(rt, "memory");
-    let mut slot = WalkedSlot::new(alloc);
-    let mut shown = ShownWalks::new();
-    let mut out = Vec::new(alloc);
-    for (hops, versions, told, left) in cases {
-        let flow = flow_of(rt, alloc, &names, hops);
-        let mut tables = StepTables::fresh(alloc, nodes, &steps).expect(rt, "memory");
-        assert!(rt; rise(tables.version(), steps.len() as u32, versions));
-        let ended = walk_named(
-            &mut tables,
-            &flow,
-            versions,
-            &packet,
-            &mut room,
-            &mut slot,
-            &mut out,
-        );
-        let said = tell_named(rt, alloc, ended, shown.show(&slot));
-        assert!(rt; said.as_slice() == told.as_bytes());
-        let left = octets_of(alloc, left).expect(rt, "memory");
-        assert!(rt; out.as_slice() == left.as_slice());
+    let mut lent = lent(rt, alloc);
+    for case in cases {
+        let flow = flow_of(rt, alloc, &names, case.0);
+        walks_named(rt, alloc, &steps, nodes, &flow, &mut lent, *case);
     }
 }
 
 #[test]
 fn packets_walk_under_named_versions(rt: HostRuntime) {
-    named_walks(&rt, rt.alloc(), &COMMANDS, &FAR_NAMED);
-    named_walks(&rt, rt.alloc(), &RECEIVING, &NEAR_NAMED);
+    named_walks(&rt, rt.alloc(), &COMMANDS, FAR_NAMED);
+    named_walks(&rt, rt.alloc(), &RECEIVING, NEAR_NAMED);
 }

@@ -4,6 +4,7 @@ ghost use Rattle.std.specs.Prelude.{◌≡◌, ◌+◌, ◌<◌, ◌≤◌, ◌^
 ghost use Rattle.std.specs.Arc.{arc_value};
 ghost use Rattle.shared_tables.specs.Plan.{network_after};
 
+use crate::checks::same;
 use mls_label::Proto;
 use node_tables::{Network, Reply};
 use shared_tables::*;
@@ -14,7 +15,7 @@ use std::thread::join;
 use worked_networks::steps_of;
 
 /// Commands to one node. The fifth lists lines, and the last is refused.
-const LINES: [(usize, &str); 6] = [
+static LINES: [(usize, &str); 6] = [
     (0, "cipsov4 add pass doi:16 tags:1"),
     (0, "map add default protocol:cipsov4,16"),
     (
@@ -103,41 +104,79 @@ fn stepped<R: Wait + Abort>(rt: &R, publisher: &mut Publisher) -> &'static str
     name_of(&reply)
 }
 
+// The next step has this reply.
+fn replies<R: Wait + Abort>(rt: &R, publisher: &mut Publisher, wanted: &str)
+    requires { publisher.old.version < length publisher.old.plan.steps }
+    ensures { publisher.new ≡ record publisher.old { version = publisher.old.version + 1 } }
+{
+    let version = publisher.version();
+    same(rt, version, stepped(rt, publisher), wanted);
+}
+
+// The next look finds this.
+fn finds(rt: &impl Abort, viewer: &mut Viewer, wanted: (u32, bool, bool))
+    requires { viewer.old.plan.nodes ≡ 1 }
+    ensures { viewer.new.plan ≡ viewer.old.plan }
+{
+    same(rt, wanted, looked(rt, viewer), wanted);
+}
+
 // After a step and the note of it the next look gives version 1 and the tables after that step.
 #[test]
 fn a_viewer_learns_of_a_step(rt: HostRuntime) {
     let plan = plan_of(&rt, rt.alloc(), &LINES);
     let network = fresh(&rt, rt.alloc(), &plan);
     let (mut publisher, mut viewer) = begun(&rt, rt.alloc(), network, plan, 0);
-    assert_eq!(rt; looked(&rt, &mut viewer), (0, false, false));
-    assert_eq!(rt; stepped(&rt, &mut publisher), "done");
+    finds(&rt, &mut viewer, (0, false, false));
+    replies(&rt, &mut publisher, "done");
     viewer.learn(publisher.tell());
-    assert_eq!(rt; viewer.seen(), 1);
-    assert_eq!(rt; looked(&rt, &mut viewer), (1, true, false));
+    same(&rt, "seen", viewer.seen(), 1);
+    finds(&rt, &mut viewer, (1, true, false));
     drop(publisher.close(&rt));
+}
+
+// The tables after two steps.
+fn after_two<R: Wait + Abort>(rt: &R, alloc: Global, plan: &Arc<Plan>) -> Network
+    requires nodes { (arc_value plan.now).nodes ≡ 1 }
+    requires steps { length (arc_value plan.now).steps ≡ 6 }
+    ensures { result ≡ network_after (arc_value plan.now) 2 }
+{
+    let again = Arc::try_clone(plan).expect(rt, "memory");
+    let network = fresh(rt, alloc, plan);
+    let (mut publisher, _viewer) = begun(rt, alloc, network, again, 0);
+    replies(rt, &mut publisher, "done");
+    replies(rt, &mut publisher, "done");
+    publisher.close(rt)
+}
+
+// The other four of six steps.
+fn goes_on<R: Wait + Abort>(rt: &R, publisher: &mut Publisher, viewer: &mut Viewer)
+    requires nodes { viewer.old.plan.nodes ≡ 1 }
+    requires steps { publisher.old.version + 4 ≤ length publisher.old.plan.steps }
+{
+    finds(rt, viewer, (2, true, false));
+    replies(rt, publisher, "done");
+    replies(rt, publisher, "done");
+    finds(rt, viewer, (4, true, true));
+    replies(rt, publisher, "listed");
+    finds(rt, viewer, (5, true, true));
+    replies(rt, publisher, "DoiInUse");
+    finds(rt, viewer, (6, true, true));
 }
 
 // A listing and a refusal are versions too. A board goes on with the tables of the one before.
 #[test]
 fn each_step_is_a_version(rt: HostRuntime) {
     let plan = plan_of(&rt, rt.alloc(), &LINES);
-    let again = Arc::try_clone(&plan).expect(&rt, "memory");
-    let network = fresh(&rt, rt.alloc(), &plan);
-    let (mut publisher, viewer) = begun(&rt, rt.alloc(), network, plan, 0);
-    assert_eq!(rt; stepped(&rt, &mut publisher), "done");
-    assert_eq!(rt; stepped(&rt, &mut publisher), "done");
-    drop(viewer);
-    let network = publisher.close(&rt);
-    let (mut publisher, mut viewer) = begun(&rt, rt.alloc(), network, again, 2);
-    assert_eq!(rt; (publisher.version(), viewer.seen()), (2, 2));
-    assert_eq!(rt; looked(&rt, &mut viewer), (2, true, false));
-    assert_eq!(rt; stepped(&rt, &mut publisher), "done");
-    assert_eq!(rt; stepped(&rt, &mut publisher), "done");
-    assert_eq!(rt; looked(&rt, &mut viewer), (4, true, true));
-    assert_eq!(rt; stepped(&rt, &mut publisher), "listed");
-    assert_eq!(rt; looked(&rt, &mut viewer), (5, true, true));
-    assert_eq!(rt; stepped(&rt, &mut publisher), "DoiInUse");
-    assert_eq!(rt; looked(&rt, &mut viewer), (6, true, true));
+    let network = after_two(&rt, rt.alloc(), &plan);
+    let (mut publisher, mut viewer) = begun(&rt, rt.alloc(), network, plan, 2);
+    same(
+        &rt,
+        "versions",
+        (publisher.version(), viewer.seen()),
+        (2, 2),
+    );
+    goes_on(&rt, &mut publisher, &mut viewer);
     let network = publisher.close(&rt);
     assert!(rt; network.nodes() == 1 && network.node(0).accepts());
 }
@@ -165,7 +204,7 @@ fn looks_go_beside_steps(rt: HostRuntime) {
         || steps_twice(&rt, &mut publisher),
         || looks_twice(&rt, &mut viewer),
     );
-    assert_eq!(rt; replies, ("done", "done"));
+    same(&rt, "replies", replies, ("done", "done"));
     assert!(rt; versions.0 <= versions.1 && versions.1 <= 2);
     drop(publisher.close(&rt));
 }

@@ -2,6 +2,8 @@
 #![tactic(auto)]
 
 #[cfg(test)]
+mod checks;
+#[cfg(test)]
 mod of_command_words;
 #[cfg(test)]
 mod of_flow_lines;

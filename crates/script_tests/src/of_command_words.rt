@@ -1,9 +1,9 @@
+use crate::checks::same;
 use label_commands::*;
 use std::alloc::Global;
-use std::process::Abort;
 
 /// Words, and how many workers they name.
-const WORKERS: [(&str, Option<usize>); 8] = [
+const WORKERS: &[(&str, Option<usize>)] = &[
     ("0", None),
     ("1", Some(1)),
     ("16", Some(16)),
@@ -15,7 +15,7 @@ const WORKERS: [(&str, Option<usize>); 8] = [
 ];
 
 /// Words, and the numbers that they name.
-const NUMBERS: [(&str, Option<u32>); 7] = [
+const NUMBERS: &[(&str, Option<u32>)] = &[
     ("0", Some(0)),
     ("4294967295", Some(4_294_967_295)),
     ("4294967296", None),
@@ -26,7 +26,7 @@ const NUMBERS: [(&str, Option<u32>); 7] = [
 ];
 
 /// Words, and how many versions they list.
-const VERSIONS: [(&str, Option<usize>); 8] = [
+const VERSIONS: &[(&str, Option<usize>)] = &[
     ("15", Some(1)),
     ("15,15,19,19", Some(4)),
     ("4294967295,0", Some(2)),
@@ -38,7 +38,7 @@ const VERSIONS: [(&str, Option<usize>); 8] = [
 ];
 
 /// Words, and the DOIs that they name.
-const DOIS: [(&str, Option<u32>); 5] = [
+const DOIS: &[(&str, Option<u32>)] = &[
     ("0", None),
     ("1", Some(1)),
     ("4294967295", Some(4_294_967_295)),
@@ -47,7 +47,7 @@ const DOIS: [(&str, Option<u32>); 5] = [
 ];
 
 /// Words, and whether they are names of files.
-const FILES: [(&str, bool); 7] = [
+const FILES: &[(&str, bool)] = &[
     ("s", true),
     ("./-s", true),
     ("a-#", true),
@@ -63,26 +63,40 @@ fn length(alloc: Global, word: &str) -> Option<usize> {
 }
 
 #[test]
+fn names_workers(rt: HostRuntime) {
+    for &(word, workers) in WORKERS {
+        let found = Workers::named(word).map(|named| named.number());
+        same(&rt, word, found, workers);
+    }
+}
+
+#[test]
 fn names_numbers(rt: HostRuntime) {
-    for (word, workers) in WORKERS {
-        assert_eq!(rt; Workers::named(word).map(|named| named.number()), workers);
+    for &(word, number) in NUMBERS {
+        same(&rt, word, read_number(word), number);
     }
-    for (word, number) in NUMBERS {
-        assert_eq!(rt; read_number(word), number);
+}
+
+#[test]
+fn names_versions(rt: HostRuntime) {
+    for &(word, count) in VERSIONS {
+        same(&rt, word, length(rt.alloc(), word), count);
     }
-    for (word, count) in VERSIONS {
-        assert_eq!(rt; length(rt.alloc(), word), count);
-    }
-    for (word, doi) in DOIS {
-        assert_eq!(rt; NamedDoi::named(word).map(|named| named.doi().get()), doi);
+}
+
+#[test]
+fn names_dois(rt: HostRuntime) {
+    for &(word, doi) in DOIS {
+        let found = NamedDoi::named(word).map(|named| named.doi().get());
+        same(&rt, word, found, doi);
     }
 }
 
 #[test]
 fn names_files(rt: HostRuntime) {
-    for (word, is_name) in FILES {
-        assert_eq!(rt; NamedFile::named(word).is_some(), is_name);
+    for &(word, is_name) in FILES {
+        same(&rt, word, NamedFile::named(word).is_some(), is_name);
     }
     let name = NamedFile::named("site").expect(&rt, "it is a name");
-    assert_eq!(rt; name.as_str(), "site");
+    same(&rt, "site", name.as_str(), "site");
 }

@@ -1,13 +1,14 @@
+use crate::checks::same;
 use label_commands::ScriptKind::{HopOrder, Missing, NameTwice, UnknownNode, Value};
 use label_commands::*;
 use std::alloc::Global;
-use std::test::Fail;
+use std::process::Abort;
 
 /// The flow above each line, behind two commands.
 const ABOVE: &str = "flow x y receive:a,e";
 
 /// Lines, and where and why they are refused, in the script `s` under the nodes `a` and `b`.
-const REFUSED: [(&str, usize, ScriptKind); 24] = [
+const REFUSED: &[(&str, usize, ScriptKind)] = &[
     ("flow", 4, Missing),
     ("flow z", 6, Missing),
     ("flow z -  # x", 13, Missing),
@@ -35,7 +36,7 @@ const REFUSED: [(&str, usize, ScriptKind); 24] = [
 ];
 
 /// Lines that are read, each with how many hops it has.
-const READ: [(&str, usize); 4] = [
+const READ: &[(&str, usize)] = &[
     ("flow x z receive:b,e", 1),
     ("flow s z receive:b,e", 1),
     ("flow z\t- send:a,d,e,s0:c1,c2 # x", 1),
@@ -76,12 +77,18 @@ fn read_under(
     read_flow("s", nodes, flows, before, line.len(), behind_first(&words))
 }
 
-/// What a flow line says under `ABOVE`.
-fn read(alloc: Global, line: &str) -> Result<FlowLine, LineStop> {
-    let nodes = two_nodes(alloc)?;
+/// The flows with `ABOVE`.
+fn flows_above(rt: &impl Abort, alloc: Global, nodes: &NodeNames) -> Flows {
     let mut flows = Flows::empty(alloc);
-    let above = read_under(alloc, &nodes, &flows, 2, ABOVE)?;
-    flows.push(above)?;
+    let above = read_under(alloc, nodes, &flows, 2, ABOVE).expect(rt, "a flow");
+    flows.push(above).expect(rt, "memory");
+    flows
+}
+
+/// What a flow line says under `ABOVE`.
+fn read(rt: &impl Abort, alloc: Global, line: &str) -> Result<FlowLine, LineStop> {
+    let nodes = two_nodes(alloc).expect(rt, "nodes");
+    let flows = flows_above(rt, alloc, &nodes);
     read_under(alloc, &nodes, &flows, 4, line)
 }
 
@@ -92,48 +99,84 @@ fn behind_first<'a, 'b>(words: &'b [Word<'a>]) -> &'b [Word<'a>] {
     }
 }
 
+fn stops(rt: &impl Abort, alloc: Global, line: &str, wanted: LineStop) {
+    let found = read(rt, alloc, line).err();
+    same(rt, line, found, Some(wanted));
+}
+
 #[test]
 fn names_the_first_fault(rt: HostRuntime) {
-    for (line, octet, kind) in REFUSED {
-        let stop = read(rt.alloc(), line).err();
-        assert_eq!(rt; stop, Some(LineStop::at(octet, kind)), "of {line:?}");
+    for &(line, octet, kind) in REFUSED {
+        stops(&rt, rt.alloc(), line, LineStop::at(octet, kind));
     }
+}
+
+fn reads(rt: &impl Abort, alloc: Global, line: &str, hops: usize) {
+    let flow = read(rt, alloc, line).expect(rt, line);
+    same(rt, line, flow.hops.hops().len(), hops);
+    same(rt, line, flow.before, 4);
 }
 
 #[test]
 fn reads_flows(rt: HostRuntime) {
-    for (line, hops) in READ {
-        let flow = read(rt.alloc(), line).expect(&rt, "a flow");
-        assert_eq!(rt; flow.hops.hops().len(), hops, "of {line:?}");
-        assert_eq!(rt; flow.before, 4, "of {line:?}");
+    for &(line, hops) in READ {
+        reads(&rt, rt.alloc(), line, hops);
     }
 }
 
-#[test]
-fn takes_sixteen_hops(rt: HostRuntime) -> Result<(), Fail> {
-    let last = format!(in rt.alloc(); "{FIFTEEN} receive:b,e")?;
-    let flow = read(rt.alloc(), last.as_str()).expect(&rt, "a flow");
-    assert_eq!(rt; flow.hops.hops().len(), 16);
-    let behind = format!(in rt.alloc(); "{FIFTEEN} receive:b,e !")?;
-    let stop = read(rt.alloc(), behind.as_str()).err();
-    assert_eq!(rt; stop, Some(LineStop::at(249, HopOrder)));
-    let more = format!(in rt.alloc(); "{FIFTEEN} forward:a,e,f,d !")?;
-    let stop = read(rt.alloc(), more.as_str()).err();
-    assert_eq!(rt; stop, Some(LineStop::Limit(LimitName::Hops)));
-    Ok(())
+/// A flow of fifteen hops, and what comes behind them.
+fn fifteen(rt: &impl Abort, alloc: Global, behind: &str) -> String {
+    format!(in alloc; "{FIFTEEN} {behind}").expect(rt, "memory")
 }
 
 #[test]
-fn knows_names_of_files(rt: HostRuntime) -> Result<(), Fail> {
-    for text in ["a", "~-#", "in/one.pcap", LONGEST] {
-        let name = read_file_name(rt.alloc(), text.as_bytes())?;
-        let name = name.expect(&rt, "a file name");
-        assert_eq!(rt; name.text(), text);
+fn takes_sixteen_hops(rt: HostRuntime) {
+    let last = fifteen(&rt, rt.alloc(), "receive:b,e");
+    reads(&rt, rt.alloc(), last.as_str(), 16);
+}
+
+#[test]
+fn takes_no_more_hops(rt: HostRuntime) {
+    let behind = fifteen(&rt, rt.alloc(), "receive:b,e !");
+    stops(
+        &rt,
+        rt.alloc(),
+        behind.as_str(),
+        LineStop::at(249, HopOrder),
+    );
+    let more = fifteen(&rt, rt.alloc(), "forward:a,e,f,d !");
+    stops(
+        &rt,
+        rt.alloc(),
+        more.as_str(),
+        LineStop::Limit(LimitName::Hops),
+    );
+}
+
+/// Texts that are names of files.
+const FILES: &[&str] = &["a", "~-#", "in/one.pcap", LONGEST];
+
+/// Texts that aren't.
+const NO_FILES: &[&str] = &["", "-", "-a", "#a", "a b", "a\t", "\u{e9}"];
+
+fn names_file(rt: &impl Abort, alloc: Global, text: &str) {
+    let read = read_file_name(alloc, text.as_bytes()).expect(rt, "memory");
+    same(rt, text, read.expect(rt, text).text(), text);
+}
+
+fn names_no_file(rt: &impl Abort, alloc: Global, text: &str) {
+    let read = read_file_name(alloc, text.as_bytes()).expect(rt, "memory");
+    assert!(rt; read.is_none(), "at {text:?}");
+}
+
+#[test]
+fn knows_names_of_files(rt: HostRuntime) {
+    for &text in FILES {
+        names_file(&rt, rt.alloc(), text);
     }
-    let longer = format!(in rt.alloc(); "{LONGEST}8")?;
-    for text in ["", "-", "-a", "#a", "a b", "a\t", "\u{e9}", longer.as_str()] {
-        let name = read_file_name(rt.alloc(), text.as_bytes())?;
-        assert!(rt; name.is_none(), "at {text:?}");
+    for &text in NO_FILES {
+        names_no_file(&rt, rt.alloc(), text);
     }
-    Ok(())
+    let longer = format!(in rt.alloc(); "{LONGEST}8").expect(&rt, "memory");
+    names_no_file(&rt, rt.alloc(), longer.as_str());
 }

@@ -1,3 +1,4 @@
+use crate::checks::same;
 use label_commands::*;
 use script_lines::ScriptKind as Kind;
 use std::alloc::Global;
@@ -5,7 +6,7 @@ use std::process::Abort;
 use worked_values::scripts::CROSSING;
 
 /// A script that is refused, and the line, the octet and the kind of its first fault: each kind at an early place and at a late one.
-const FAULTS: [(&str, u32, usize, Kind); 44] = [
+const FAULTS: &[(&str, u32, usize, Kind)] = &[
     ("\u{1}", 1, 0, Kind::Octet),
     ("node a\u{1}", 1, 6, Kind::Octet),
     ("frob x\u{7f}", 1, 6, Kind::Octet),
@@ -114,15 +115,15 @@ const FAULTS: [(&str, u32, usize, Kind); 44] = [
 
 #[test]
 fn tells_the_first_fault(rt: HostRuntime) {
-    for (text, line, octet, kind) in FAULTS {
+    for &(text, line, octet, kind) in FAULTS {
         let wanted = ScriptFault { line, octet, kind };
         let found = stop(rt.alloc(), text.as_bytes());
-        assert_eq!(rt; found, Some(ScriptStop::Fault(wanted)), "of {text:?}");
+        same(&rt, text, found, Some(ScriptStop::Fault(wanted)));
     }
 }
 
 /// A script, and what it says: its steps in their written forms, its flows with the steps above them and their hops, its nodes.
-const SCRIPTS: [(&str, &str); 6] = [
+const SCRIPTS: &[(&str, &str)] = &[
     ("", ""),
     ("#\n \t\r\n\n", ""),
     (
@@ -218,13 +219,22 @@ fw
     ),
 ];
 
+fn says(rt: &impl Abort, alloc: Global, text: &str, wanted: &str) {
+    let script = read_script(alloc, text.as_bytes(), "s").expect(rt, text);
+    same(
+        rt,
+        text,
+        script.readings.as_slice().len(),
+        script.nodes.len(),
+    );
+    let said = said_by(rt, alloc, &script);
+    same(rt, text, said.as_slice(), wanted.as_bytes());
+}
+
 #[test]
 fn reads_scripts(rt: HostRuntime) {
-    for (text, wanted) in SCRIPTS {
-        let script = read_script(rt.alloc(), text.as_bytes(), "s").expect(&rt, "a script");
-        let said = said_by(&rt, rt.alloc(), &script);
-        assert_eq!(rt; said.as_slice(), wanted.as_bytes());
-        assert_eq!(rt; script.readings.as_slice().len(), script.nodes.len());
+    for &(text, wanted) in SCRIPTS {
+        says(&rt, rt.alloc(), text, wanted);
     }
 }
 
@@ -237,13 +247,17 @@ fn said_by(rt: &impl Abort, alloc: Global, script: &Script) -> Vec<u8> {
     said
 }
 
+fn append(rt: &impl Abort, octets: &[u8], said: &mut Vec<u8>) {
+    said.extend_from_slice(octets).expect(rt, "memory");
+}
+
 fn append_steps(rt: &impl Abort, script: &Script, said: &mut Vec<u8>) {
     for step in script.steps.as_slice() {
         let node = script.nodes.as_slice().get(step.node).expect(rt, "a node");
-        said.extend_from_slice(node.text()).expect(rt, "memory");
-        said.push(b' ').expect(rt, "memory");
+        append(rt, node.text(), said);
+        append(rt, b" ", said);
         write_step(&step.command, said).expect(rt, "memory");
-        said.push(b'\n').expect(rt, "memory");
+        append(rt, b"\n", said);
     }
 }
 
@@ -251,10 +265,9 @@ fn append_flows(rt: &impl Abort, alloc: Global, script: &Script, said: &mut Vec<
     for flow in script.flows.as_slice() {
         let (name, before) = (flow.input.text(), flow.before);
         let line = format!(in alloc; "flow {name} {before} ").expect(rt, "memory");
-        said.extend_from_slice(line.as_bytes()).expect(rt, "memory");
-        said.extend_from_slice(dots(flow.hops.hops().len()))
-            .expect(rt, "memory");
-        said.push(b'\n').expect(rt, "memory");
+        append(rt, line.as_bytes(), said);
+        append(rt, dots(flow.hops.hops().len()), said);
+        append(rt, b"\n", said);
     }
 }
 
@@ -266,8 +279,8 @@ fn dots(hops: usize) -> &'static [u8] {
 
 fn append_nodes(rt: &impl Abort, script: &Script, said: &mut Vec<u8>) {
     for node in script.nodes.as_slice() {
-        said.extend_from_slice(node.text()).expect(rt, "memory");
-        said.push(b'\n').expect(rt, "memory");
+        append(rt, node.text(), said);
+        append(rt, b"\n", said);
     }
 }
 
@@ -277,12 +290,10 @@ fn numbers_mean_what_readings_name(rt: HostRuntime) {
     let readings = script.readings.as_slice();
     let first = readings.first().expect(&rt, "the reading of a");
     let last = readings.last().expect(&rt, "the reading of b");
-    assert_eq!(rt; [first.category(7), first.category(1)], [7, 1]);
-    assert_eq!(rt;
-        [last.category(7), last.category(1), last.category(2)],
-        [1, 7, 2]
-    );
-    assert_eq!(rt; last.level(3), 3);
+    same(&rt, "a", [first.category(7), first.category(1)], [7, 1]);
+    let found = [last.category(7), last.category(1), last.category(2)];
+    same(&rt, "b", found, [1, 7, 2]);
+    same(&rt, "level", last.level(3), 3);
 }
 
 /// Why a text is refused, if it is.
@@ -290,7 +301,8 @@ fn stop(alloc: Global, text: &[u8]) -> Option<ScriptStop> {
     read_script(alloc, text, "s").err()
 }
 
-fn limit(what: LimitName, number: u32) -> Option<ScriptStop> {
+fn limit(passed: Option<(LimitName, u32)>) -> Option<ScriptStop> {
+    let (what, number) = passed?;
     Some(ScriptStop::Limit { what, number })
 }
 
@@ -298,7 +310,7 @@ fn limit(what: LimitName, number: u32) -> Option<ScriptStop> {
 fn repeated(rt: &impl Abort, alloc: Global, head: &str, part: &str, count: usize) -> Vec<u8> {
     let mut text = Vec::from_slice(alloc, head.as_bytes()).expect(rt, "memory");
     for _ in 0..count {
-        text.extend_from_slice(part.as_bytes()).expect(rt, "memory");
+        append(rt, part.as_bytes(), &mut text);
     }
     text
 }
@@ -307,41 +319,60 @@ fn repeated(rt: &impl Abort, alloc: Global, head: &str, part: &str, count: usize
 fn nodes(rt: &impl Abort, alloc: Global, count: u8) -> Vec<u8> {
     let mut text = Vec::new(alloc);
     for number in 0..count {
-        text.extend_from_slice(b"node ").expect(rt, "memory");
-        text.push(b'a' + number % 26).expect(rt, "memory");
-        text.push(b'a' + number / 26).expect(rt, "memory");
-        text.push(b'\n').expect(rt, "memory");
+        let name = [b'a' + number % 26, b'a' + number / 26];
+        append(rt, b"node ", &mut text);
+        append(rt, &name, &mut text);
+        append(rt, b"\n", &mut text);
     }
     text
 }
 
+fn takes_nodes(rt: &impl Abort, alloc: Global, count: u8, passed: Option<(LimitName, u32)>) {
+    same(
+        rt,
+        count,
+        stop(alloc, &nodes(rt, alloc, count)),
+        limit(passed),
+    );
+}
+
+#[test]
+fn keeps_limits_of_nodes(rt: HostRuntime) {
+    takes_nodes(&rt, rt.alloc(), 32, None);
+    takes_nodes(&rt, rt.alloc(), 33, Some((LimitName::Nodes, 32)));
+}
+
+/// A head, a part and how many of it a script has, and the limit that it passes, if it does.
+type Repeated = (&'static str, &'static str, usize, Option<(LimitName, u32)>);
+
+const FORWARD: &str = " forward:a,e,f,d";
+
+const FLOW: &str = "flow x - receive:a,e\n";
+
+const LIMITS: &[Repeated] = &[
+    ("node a\nflow x -", FORWARD, 16, None),
+    ("node a\nflow x -", FORWARD, 17, Some((LimitName::Hops, 16))),
+    ("node a\n", FLOW, 256, None),
+    ("node a\n", FLOW, 257, Some((LimitName::Flows, 256))),
+    ("", "\n", 16384, None),
+    ("", "\n", 16385, Some((LimitName::Lines, 16384))),
+    ("", "#", 1_048_576, None),
+    (
+        "\u{1}",
+        "#",
+        1_048_576,
+        Some((LimitName::Octets, 1_048_576)),
+    ),
+];
+
+fn keeps_limit(rt: &impl Abort, alloc: Global, (head, part, count, wanted): Repeated) {
+    let text = repeated(rt, alloc, head, part, count);
+    same(rt, (head, part, count), stop(alloc, &text), limit(wanted));
+}
+
 #[test]
 fn keeps_limits(rt: HostRuntime) {
-    let alloc = rt.alloc();
-    let forward = " forward:a,e,f,d";
-    let flow = "flow x - receive:a,e\n";
-    assert_eq!(rt; stop(alloc, &nodes(&rt, alloc, 32)), None);
-    assert_eq!(rt;
-        stop(alloc, &nodes(&rt, alloc, 33)),
-        limit(LimitName::Nodes, 32)
-    );
-    let sixteen = repeated(&rt, alloc, "node a\nflow x -", forward, 16);
-    assert_eq!(rt; stop(alloc, &sixteen), None);
-    let seventeen = repeated(&rt, alloc, "node a\nflow x -", forward, 17);
-    assert_eq!(rt; stop(alloc, &seventeen), limit(LimitName::Hops, 16));
-    assert_eq!(rt;
-        stop(alloc, &repeated(&rt, alloc, "node a\n", flow, 256)),
-        None
-    );
-    let flows = repeated(&rt, alloc, "node a\n", flow, 257);
-    assert_eq!(rt; stop(alloc, &flows), limit(LimitName::Flows, 256));
-    assert_eq!(rt; stop(alloc, &repeated(&rt, alloc, "", "\n", 16384)), None);
-    let lines = repeated(&rt, alloc, "", "\n", 16385);
-    assert_eq!(rt; stop(alloc, &lines), limit(LimitName::Lines, 16384));
-    assert_eq!(rt;
-        stop(alloc, &repeated(&rt, alloc, "", "#", 1_048_576)),
-        None
-    );
-    let octets = repeated(&rt, alloc, "\u{1}", "#", 1_048_576);
-    assert_eq!(rt; stop(alloc, &octets), limit(LimitName::Octets, 1_048_576));
+    for limit in LIMITS {
+        keeps_limit(&rt, rt.alloc(), *limit);
+    }
 }

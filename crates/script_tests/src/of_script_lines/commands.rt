@@ -1,12 +1,13 @@
 //! Commands of each form, copied and written.
 
 use super::said_by;
+use crate::checks::same;
 use script_lines::{Command, Row, command_of, write_step};
 use std::alloc::Global;
 use std::process::Abort;
 
 /// Lines, and what their commands are written as.
-const FORMS: [(&str, &str); 33] = [
+const FORMS: &[(&str, &str)] = &[
     (
         "cipsov4 add pass tags:1 doi:16",
         "cipsov4 add pass doi:16 tags:1",
@@ -93,19 +94,24 @@ fn command(rt: &impl Abort, alloc: Global, line: &str) -> Command {
     command_of(said.row, said.fields).expect(rt, "command")
 }
 
-/// The written form of a copy.
-fn copied(rt: &impl Abort, alloc: Global, command: &Command) -> Vec<u8> {
-    let copy = command.copy(alloc).expect(rt, "memory");
+/// The written form.
+fn written(rt: &impl Abort, alloc: Global, command: &Command) -> Vec<u8> {
     let mut out = Vec::new(alloc);
-    write_step(&copy, &mut out).expect(rt, "memory");
+    write_step(command, &mut out).expect(rt, "memory");
     out
+}
+
+/// The written form of a copy.
+fn writes(rt: &impl Abort, alloc: Global, line: &str, form: &str) {
+    let copy = command(rt, alloc, line).copy(alloc).expect(rt, "memory");
+    let out = written(rt, alloc, &copy);
+    same(rt, line, out.as_slice(), form.as_bytes());
 }
 
 #[test]
 fn reads_copies_and_writes_each_form(rt: HostRuntime) {
-    for (line, form) in FORMS {
-        let out = copied(&rt, rt.alloc(), &command(&rt, rt.alloc(), line));
-        assert_eq!(rt; out.as_slice(), form.as_bytes(), "of {line}");
+    for &(line, form) in FORMS {
+        writes(&rt, rt.alloc(), line, form);
     }
 }
 

@@ -1,12 +1,13 @@
 //! Faults of lines of each form, and readings.
 
 use super::said_by;
+use crate::checks::same;
 use script_lines::{LineStop, Row, ScriptKind, begins_line};
 use std::alloc::Global;
 use std::process::Abort;
 
 /// Lines in which something is missing at their end.
-const MISSING: [&str; 33] = [
+const MISSING: &[&str] = &[
     "cipsov4 add pass doi:1",
     "cipsov4 add pass tags:1",
     "cipsov4 add trans doi:1 tags:1",
@@ -43,7 +44,7 @@ const MISSING: [&str; 33] = [
 ];
 
 /// Lines with a parameter that came already, and its place.
-const TWICE: [(&str, usize); 25] = [
+const TWICE: &[(&str, usize)] = &[
     ("cipsov4 add pass doi:1 doi:0 tags:1", 23),
     ("cipsov4 add pass doi:1 tags:1 tags:9", 30),
     ("cipsov4 add trans levels:0=0 levels:1=1", 29),
@@ -72,7 +73,7 @@ const TWICE: [(&str, usize); 25] = [
 ];
 
 /// Lines with a word that doesn't stand there, and its place.
-const UNKNOWN: [(&str, usize); 19] = [
+const UNKNOWN: &[(&str, usize)] = &[
     ("frob x", 0),
     ("netlabelctl map list", 0),
     ("cipsov4 pass", 8),
@@ -95,7 +96,7 @@ const UNKNOWN: [(&str, usize); 19] = [
 ];
 
 /// Lines with a value that isn't in its form, and its place.
-const WRONG: [(&str, usize); 33] = [
+const WRONG: &[(&str, usize)] = &[
     ("cipsov4 del doi:", 12),
     ("cipsov4 del doi:0", 12),
     ("cipsov4 del doi:01", 12),
@@ -132,7 +133,7 @@ const WRONG: [(&str, usize); 33] = [
 ];
 
 /// Lines with a word behind a whole command without parameters, and its place.
-const EXTRA: [(&str, usize); 6] = [
+const EXTRA: &[(&str, usize)] = &[
     ("map list default", 9),
     ("unlbl accept on on", 16),
     ("unlbl accept off x y", 17),
@@ -142,35 +143,33 @@ const EXTRA: [(&str, usize); 6] = [
 ];
 
 fn stops(rt: &impl Abort, alloc: Global, line: &str, octet: usize, kind: ScriptKind) {
-    match said_by(rt, alloc, line) {
-        Err(stop) => assert_eq!(rt; stop, LineStop::at(octet, kind), "of {line}"),
-        Ok(_said) => assert!(rt; false, "{line} is read"),
-    }
+    let found = said_by(rt, alloc, line).err();
+    same(rt, line, found, Some(LineStop::at(octet, kind)));
 }
 
 #[test]
 fn tells_what_is_missing(rt: HostRuntime) {
-    for line in MISSING {
+    for &line in MISSING {
         stops(&rt, rt.alloc(), line, line.len(), ScriptKind::Missing);
     }
 }
 
 #[test]
 fn tells_words_that_do_not_stand_there(rt: HostRuntime) {
-    for (line, octet) in TWICE {
+    for &(line, octet) in TWICE {
         stops(&rt, rt.alloc(), line, octet, ScriptKind::Word);
     }
-    for (line, octet) in UNKNOWN {
+    for &(line, octet) in UNKNOWN {
         stops(&rt, rt.alloc(), line, octet, ScriptKind::Word);
     }
-    for (line, octet) in EXTRA {
+    for &(line, octet) in EXTRA {
         stops(&rt, rt.alloc(), line, octet, ScriptKind::Extra);
     }
 }
 
 #[test]
 fn tells_wrong_values(rt: HostRuntime) {
-    for (line, octet) in WRONG {
+    for &(line, octet) in WRONG {
         stops(&rt, rt.alloc(), line, octet, ScriptKind::Value);
     }
 }
@@ -183,6 +182,10 @@ fn reads_readings(rt: HostRuntime) {
     assert_eq!(rt; said.row, Row::Reading);
     let levels = said.fields.reading_levels.as_ref().expect(&rt, "levels");
     assert_eq!(rt; levels.as_slice(), [(0, 0)].as_slice());
+}
+
+#[test]
+fn knows_how_lines_begin(rt: HostRuntime) {
     assert!(rt; begins_line(b"reading") && begins_line(b"cipso") && begins_line(b"mgmt"));
     assert!(rt; !begins_line(b"node") && !begins_line(b"netlabelctl"));
 }

@@ -1,5 +1,5 @@
 use Rattle.std.proofs.Common.{length}
-use Rattle.script_tests.proofs.of_script_lines.lines.cuts_texts_into_lines.Given as goal
+use Rattle.script_tests.proofs.of_script_lines.lines.lines_of.Given as goal
 
 abbrev pub decreases-loop-line : goal.decreases-loop-line
 decreases-loop-line g l = length l.rest
