@@ -304,6 +304,11 @@ fn said_of(rt: &impl Abort, alloc: Global, reply: &Reply) -> Vec<u8> {
     said
 }
 
+fn apply(rt: &impl Abort, network: &mut Network, step: &Step) -> Reply {
+    assert!(rt; step.node < network.nodes());
+    network.apply(step).expect(rt, "memory")
+}
+
 /// Carries out a command, and says the reply.
 fn reply(
     rt: &impl Abort,
@@ -313,8 +318,7 @@ fn reply(
     line: &[u8],
 ) -> Vec<u8> {
     let step = step(rt, alloc, node, line);
-    assert!(rt; step.node < network.nodes());
-    said_of(rt, alloc, &network.apply(&step).expect(rt, "memory"))
+    said_of(rt, alloc, &apply(rt, network, &step))
 }
 
 /// Carries out a command, which is answered so.
@@ -371,6 +375,11 @@ fn of_both(rt: &impl Abort, alloc: Global, network: &mut Network) -> Vec<u8> {
     all
 }
 
+fn advance(rt: &impl Abort, network: &mut Network, step: &Step) {
+    assert!(rt; step.node < network.nodes());
+    network.advance(step).expect(rt, "memory");
+}
+
 fn goes_on_by(
     rt: &impl Abort,
     alloc: Global,
@@ -379,9 +388,18 @@ fn goes_on_by(
     (node, line, _): Row,
 ) {
     let step = step(rt, alloc, node, line.as_bytes());
-    assert!(rt; step.node < replied.nodes() && step.node < silent.nodes());
-    let _reply = replied.apply(&step).expect(rt, "memory");
-    silent.advance(&step).expect(rt, "memory");
+    let _reply = apply(rt, replied, &step);
+    advance(rt, silent, &step);
+    lists_same(rt, alloc, replied, silent, line);
+}
+
+fn lists_same(
+    rt: &impl Abort,
+    alloc: Global,
+    replied: &mut Network,
+    silent: &mut Network,
+    line: &str,
+) {
     let unchanged = of_both(rt, alloc, replied) == of_both(rt, alloc, silent);
     assert!(rt; unchanged, "{line} without its reply");
 }
@@ -656,13 +674,10 @@ fn keeps_limits(rt: HostRuntime) {
 }
 
 fn pair(rt: &impl Abort, network: &mut Network, high: u8, low: u8) -> Reply {
-    assert!(rt; 0 < network.nodes());
     let four = [10, 0, high, low];
     let six = [0xfd, 0, 0, 0, 0, 0, 0, 0, 0, 0, 0, 0, 0, 0, high, low];
     let command = Command::PairAdd { four, six };
-    network
-        .apply(&Step { node: 0, command })
-        .expect(rt, "memory")
+    apply(rt, network, &Step { node: 0, command })
 }
 
 fn answers_pair(
