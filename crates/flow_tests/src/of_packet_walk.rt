@@ -477,7 +477,7 @@ struct Lent {
     out: Vec<u8>,
 }
 
-fn lent(rt: &impl Abort, alloc: Global) -> Lent {
+fn lend(rt: &impl Abort, alloc: Global) -> Lent {
     Lent {
         room: WalkRoom::new(alloc).expect(rt, "memory"),
         place: Place {
@@ -537,7 +537,7 @@ fn named_walks(rt: &impl Abort, alloc: Global, commands: &[(usize, &str)], cases
     let names = names_of(rt, alloc);
     let nodes = names.len();
     let steps = steps_of(alloc, nodes, commands).expect(rt, "commands");
-    let mut lent = lent(rt, alloc);
+    let mut lent = lend(rt, alloc);
     for case in cases {
         let flow = flow_of(rt, alloc, &names, case.0);
         walks_named(rt, alloc, &steps, nodes, &flow, &mut lent, *case);

@@ -611,7 +611,7 @@ fn sends(rt: &impl Abort, alloc: Global, lent: &mut Lent, case: LongCase) {
     answers(rt, alloc, (found, out.as_slice()), case);
 }
 
-fn lent(rt: &impl Abort, alloc: Global) -> Lent {
+fn lend(rt: &impl Abort, alloc: Global) -> Lent {
     Lent {
         domain: read_name(b"web_t").expect(rt, "a name"),
         interface: read_name(b"eth0").expect(rt, "a name"),
@@ -629,7 +629,7 @@ fn sends_each(rt: &impl Abort, alloc: Global, lent: &mut Lent, cases: &[Case]) {
 
 #[test]
 fn packets_of_a_node(rt: HostRuntime) {
-    let mut lent = lent(&rt, rt.alloc());
+    let mut lent = lend(&rt, rt.alloc());
     for cases in [BEFORE, FOUND, UNLABELLED, CIPSO, CALIPSO] {
         sends_each(&rt, rt.alloc(), &mut lent, cases);
     }

@@ -219,8 +219,12 @@ fw
     ),
 ];
 
+fn read(rt: &impl Abort, alloc: Global, text: &str) -> Script {
+    read_script(alloc, text.as_bytes(), "s").expect(rt, text)
+}
+
 fn says(rt: &impl Abort, alloc: Global, text: &str, wanted: &str) {
-    let script = read_script(alloc, text.as_bytes(), "s").expect(rt, text);
+    let script = read(rt, alloc, text);
     same(
         rt,
         text,
@@ -284,16 +288,20 @@ fn append_nodes(rt: &impl Abort, script: &Script, said: &mut Vec<u8>) {
     }
 }
 
+fn mean(rt: &impl Abort, first: &Reading, last: &Reading) {
+    same(rt, "a", [first.category(7), first.category(1)], [7, 1]);
+    let found = [last.category(7), last.category(1), last.category(2)];
+    same(rt, "b", found, [1, 7, 2]);
+    same(rt, "level", last.level(3), 3);
+}
+
 #[test]
 fn numbers_mean_what_readings_name(rt: HostRuntime) {
-    let script = read_script(rt.alloc(), CROSSING.as_bytes(), "s").expect(&rt, "a script");
+    let script = read(&rt, rt.alloc(), CROSSING);
     let readings = script.readings.as_slice();
     let first = readings.first().expect(&rt, "the reading of a");
     let last = readings.last().expect(&rt, "the reading of b");
-    same(&rt, "a", [first.category(7), first.category(1)], [7, 1]);
-    let found = [last.category(7), last.category(1), last.category(2)];
-    same(&rt, "b", found, [1, 7, 2]);
-    same(&rt, "level", last.level(3), 3);
+    mean(&rt, first, last);
 }
 
 /// Why a text is refused, if it is.

@@ -101,10 +101,14 @@ fn written(rt: &impl Abort, alloc: Global, command: &Command) -> Vec<u8> {
     out
 }
 
+fn copied(rt: &impl Abort, alloc: Global, line: &str) -> Command {
+    let command = command(rt, alloc, line);
+    command.copy(alloc).expect(rt, "memory")
+}
+
 /// The written form of a copy.
 fn writes(rt: &impl Abort, alloc: Global, line: &str, form: &str) {
-    let copy = command(rt, alloc, line).copy(alloc).expect(rt, "memory");
-    let out = written(rt, alloc, &copy);
+    let out = written(rt, alloc, &copied(rt, alloc, line));
     same(rt, line, out.as_slice(), form.as_bytes());
 }
 

@@ -2,7 +2,7 @@
 
 use super::said_by;
 use crate::checks::same;
-use script_lines::{LineStop, Row, ScriptKind, begins_line};
+use script_lines::{LineStop, Row, Said, ScriptKind, begins_line};
 use std::alloc::Global;
 use std::process::Abort;
 
@@ -174,14 +174,18 @@ fn tells_wrong_values(rt: HostRuntime) {
     }
 }
 
+fn names_level(rt: &impl Abort, said: &Said) {
+    let levels = said.fields.reading_levels.as_ref().expect(rt, "levels");
+    same(rt, "levels", levels.as_slice(), [(0, 0)].as_slice());
+}
+
 #[test]
 fn reads_readings(rt: HostRuntime) {
     let said = said_by(&rt, rt.alloc(), "reading categories:1=2,2=1 levels:0=0").expect(
         &rt, "said",
     );
-    assert_eq!(rt; said.row, Row::Reading);
-    let levels = said.fields.reading_levels.as_ref().expect(&rt, "levels");
-    assert_eq!(rt; levels.as_slice(), [(0, 0)].as_slice());
+    same(&rt, "row", said.row, Row::Reading);
+    names_level(&rt, &said);
 }
 
 #[test]
