@@ -194,10 +194,26 @@ fn crosses(
     out: &mut Vec<u8>,
     (text, answer, written): Case,
 ) {
+    assert!(rt; 0 < border.doi);
     let octets = octets_of(alloc, text).expect(rt, "digits");
     same(rt, text, cross(border, Some(&octets), room, out), answer);
     let wanted = octets_of(alloc, written).expect(rt, "digits");
     same(rt, text, out.as_slice(), wanted.as_slice());
+}
+
+fn denies_no_ip(rt: &impl Abort, border: &Border, room: &mut Room, out: &mut Vec<u8>) {
+    assert!(rt; 0 < border.doi);
+    let not_ip = Err(Stop::Denied(Denial::NotIp));
+    same(rt, "not IP", cross(border, None, room, out), not_ip);
+}
+
+fn cross_each(rt: &impl Abort, alloc: Global, border: &Border, cases: &[Case]) {
+    let mut room = Room::lowest();
+    let mut out = Vec::new(alloc);
+    for case in cases {
+        crosses(rt, alloc, border, &mut room, &mut out, *case);
+    }
+    denies_no_ip(rt, border, &mut room, &mut out);
 }
 
 /// Whether each packet becomes what is wanted.
@@ -214,18 +230,7 @@ fn cross_as(rt: &impl Abort, alloc: Global, way: Way, cases: &[Case]) {
         doi: 16,
         definition,
     };
-    let mut room = Room::lowest();
-    let mut out = Vec::new(alloc);
-    for case in cases {
-        crosses(rt, alloc, &border, &mut room, &mut out, *case);
-    }
-    let not_ip = Err(Stop::Denied(Denial::NotIp));
-    same(
-        rt,
-        "not IP",
-        cross(&border, None, &mut room, &mut out),
-        not_ip,
-    );
+    cross_each(rt, alloc, &border, cases);
 }
 
 #[test]
