@@ -3,7 +3,7 @@ use mls_label::Label;
 use std::process::Abort;
 
 /// Lines, and their forms or the octets at fault.
-const LINES: [(&str, Result<Form, usize>); 47] = [
+const LINES: [(&str, Result<Form, usize>); 54] = [
     (
         "packet 1.1 delivered s0 to 10.9.0.2 versions 7,7",
         Ok(Form::Delivered),
@@ -51,6 +51,11 @@ const LINES: [(&str, Result<Form, usize>); 47] = [
     ("limit packets 1048576", Ok(Form::Limit)),
     ("script line 2 octet 12 NameTwice", Ok(Form::Script)),
     ("done", Ok(Form::Finished)),
+    ("ok 2 nodes 7 commands 1 flows", Ok(Form::Ok)),
+    (
+        "ok 0 nodes 0 commands 18446744073709551615 flows",
+        Ok(Form::Ok),
+    ),
     ("", Err(0)),
     ("done ", Err(5)),
     ("packet", Err(6)),
@@ -120,6 +125,11 @@ const LINES: [(&str, Result<Form, usize>); 47] = [
     ("end 01 packets", Err(4)),
     ("command 1 gate Done", Err(15)),
     ("command 1 gate done 2", Err(20)),
+    ("ok 02 nodes 7 commands 1 flows", Err(3)),
+    ("ok 2 nodes 7 commands 1 flow", Err(24)),
+    ("ok 2 nodes 7 commands", Err(21)),
+    ("ok 2 nodes 7 commands 1 flows 1", Err(30)),
+    ("ok 2 nodes 18446744073709551616 commands 1 flows", Err(11)),
 ];
 
 #[test]

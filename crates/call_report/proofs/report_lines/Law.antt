@@ -65,6 +65,7 @@ all_there form.Capture = inr (inr (inr (inr (inr (inr (inr (inr (inr (inr (inr (
 all_there form.Limit = inr (inr (inr (inr (inr (inr (inr (inr (inr (inr (inr (inr (inr (inl refl)))))))))))))
 all_there form.Script = inr (inr (inr (inr (inr (inr (inr (inr (inr (inr (inr (inr (inr (inr (inl refl))))))))))))))
 all_there form.Finished = inr (inr (inr (inr (inr (inr (inr (inr (inr (inr (inr (inr (inr (inr (inr (inl refl)))))))))))))))
+all_there form.Ok = inr (inr (inr (inr (inr (inr (inr (inr (inr (inr (inr (inr (inr (inr (inr (inr (inl refl))))))))))))))))
 
 pub a_line_that_fits_is_read : (line : List ℕ) (form : Form) → misfit_of 0 [] (slots_of form) (line_words line) ≡ None → line_form line ≡ Ok form
 unfolding line_form

@@ -58,10 +58,11 @@ told_form n first fourth sixth eleventh =
     else (if n == 4 then (if bytes_eq fourth (codes "done") then form.Done else form.Refused)
     else (if n == 5 then (if bytes_eq first (codes "capture") then form.Capture else form.Listed)
     else (if n == 6 then (if bytes_eq first (codes "script") then form.Script else form.Sent)
+    else (if n == 7 then form.Ok
     else (if n == 8 then (if bytes_eq first (codes "end") then form.End else form.Delivered)
     else (if n == 11 then (if bytes_eq eleventh (codes "-") then form.DeniedFrame else form.DeniedPlain)
     else (if n == 12 then form.DeniedCause
-    else (if bytes_eq sixth (codes "octet") then form.DeniedOctet else form.DeniedCategory))))))))
+    else (if bytes_eq sixth (codes "octet") then form.DeniedOctet else form.DeniedCategory)))))))))
 
 abbrev form_told : List (List ℕ) → Form
 form_told words = told_form (length words) (word_at 0 words) (word_at 3 words) (word_at 5 words) (word_at 10 words)
@@ -99,6 +100,7 @@ by_count form words all = ap (λ n. told_form n (word_at 0 words) (word_at 3 wor
 told : (f : Form) (words : List (List ℕ)) → Stand [] (slots_of f) words → form_told words ≡ f
 unfolding may_stand refusals
 told form.Finished words all = by_count form.Finished words all
+told form.Ok words all = by_count form.Ok words all
 told form.DeniedPlain words all = by_count form.DeniedPlain words all ∙ cond-false _ _ _ (no_dash (word_at 10 words) (there 10 slot.Place [] (slots_of form.DeniedPlain) words all (omega arith)).1)
 told form.DeniedFrame words all = by_count form.DeniedFrame words all ∙ cond-true _ _ _ (there 10 slot.Place [] (slots_of form.DeniedFrame) words all (omega arith)).1
 told form.DeniedCause words all = by_count form.DeniedCause words all

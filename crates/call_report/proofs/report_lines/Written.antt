@@ -7,6 +7,7 @@ use Rattle.domain_map.specs.address_text.Name.{is_name}
 use Rattle.label_commands.specs.flow_lines.FileName.{is_file_name}
 use Rattle.call_report.specs.Lines.Flow.{flow_line, flow_end_line}
 use Rattle.call_report.specs.Lines.Fixed.{done_line}
+use Rattle.call_report.specs.Lines.Script.{ok_line}
 use Rattle.call_report.specs.Lines.Reply.{reply_text, listed_lines}
 use Rattle.node_tables.specs.declared.reply.Reply.TheVariants.{Done, Listed, Refused}
 use Rattle.node_tables.specs.declared.reply.Refusal.{Refusal}
@@ -102,6 +103,18 @@ done_fits = refl
 pub done_written : IsToldAs form.Finished [] done_line
 unfolding done_line
 done_written = by_words form.Finished (codes "done" ∷ []) (codes "done") (10 ∷ []) [] (omega arith) (fixed (codes "done") refl, tt) refl done_fits tt
+
+ok_fits : (n c f : ℕ) → n < 2 ^ 64 → c < 2 ^ 64 → f < 2 ^ 64
+    → misfit_of 0 [] (slots_of form.Ok) (codes "ok" ∷ decimal n ∷ codes "nodes" ∷ decimal c ∷ codes "commands" ∷ decimal f ∷ codes "flows" ∷ []) ≡ None
+unfolding may_stand
+ok_fits n c f hn hc hf = rw (a_number n (decimal n) hn refl, a_number c (decimal c) hc refl, a_number f (decimal f) hf refl) refl
+
+pub ok_written : (n c f : ℕ) → n < 2 ^ 64 → c < 2 ^ 64 → f < 2 ^ 64
+    → IsToldAs form.Ok ((name.Nodes, decimal n) ∷ (name.Commands, decimal c) ∷ (name.Flows, decimal f) ∷ []) (ok_line n c f)
+unfolding ok_line
+ok_written n c f hn hc hf =
+    by_words form.Ok (codes "ok" ∷ decimal n ∷ codes "nodes" ∷ decimal c ∷ codes "commands" ∷ decimal f ∷ codes "flows" ∷ []) (codes "ok ") (decimal n) (codes " nodes " ∷ decimal c ∷ codes " commands " ∷ decimal f ∷ codes " flows" ∷ (10 ∷ []) ∷ []) (omega arith)
+    (fixed (codes "ok") refl, (number_word n hn, (fixed (codes "nodes") refl, (number_word c hc, (fixed (codes "commands") refl, (number_word f hf, (fixed (codes "flows") refl, tt))))))) refl (ok_fits n c f hn hc hf) (refl, (refl, (refl, tt)))
 
 -- ---- replies
 

@@ -11,7 +11,7 @@ use Rattle.call_report.specs.declared.report_lines.slot.Slot.TheVariants.{Fixed,
 -- the forms, in the order in which they are tried
 abbrev pub forms : List Form
 forms = form.Delivered ∷ form.Sent ∷ form.DeniedPlain ∷ form.DeniedOctet ∷ form.DeniedCategory ∷ form.DeniedCause ∷ form.DeniedFrame ∷ form.Done ∷ form.Refused ∷ form.Listed ∷ form.Flow ∷ form.End
-    ∷ form.Capture ∷ form.Limit ∷ form.Script ∷ form.Finished ∷ []
+    ∷ form.Capture ∷ form.Limit ∷ form.Script ∷ form.Finished ∷ form.Ok ∷ []
 
 -- a denial by its kind, what is told of it, and where it was judged
 abbrev pub denied_slots : List Slot → List Slot
@@ -44,6 +44,7 @@ slots_of form.Capture = Fixed word.Capture ∷ Number name.Capture ∷ Fixed wor
 slots_of form.Limit = Fixed word.Limit ∷ Text name.Limit of.Limit ∷ Number name.Most ∷ []
 slots_of form.Script = Fixed word.Script ∷ Fixed word.Line ∷ Number name.Line ∷ Fixed word.Octet ∷ Number name.Octet ∷ Text name.Kind of.ScriptFault ∷ []
 slots_of form.Finished = Fixed word.Done ∷ []
+slots_of form.Ok = Fixed word.Ok ∷ Number name.Nodes ∷ Fixed word.Nodes ∷ Number name.Commands ∷ Fixed word.Commands ∷ Number name.Flows ∷ Fixed word.Flows ∷ []
 
 -- the name of what a line of the form tells of
 abbrev pub form_name : Form → List ℕ
@@ -63,3 +64,4 @@ form_name form.Capture = codes "capture"
 form_name form.Limit = codes "limit"
 form_name form.Script = codes "script"
 form_name form.Finished = codes "done"
+form_name form.Ok = codes "ok"

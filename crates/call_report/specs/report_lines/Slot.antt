@@ -47,6 +47,9 @@ field_name name.Kind = codes "kind"
 field_name name.Line = codes "at"
 field_name name.Limit = codes "limit"
 field_name name.Most = codes "most"
+field_name name.Nodes = codes "nodes"
+field_name name.Commands = codes "commands"
+field_name name.Flows = codes "flows"
 
 -- fields are told apart by numbers
 abbrev pub field_number : Field → ℕ
@@ -76,6 +79,9 @@ field_number name.Kind = 22
 field_number name.Line = 23
 field_number name.Limit = 24
 field_number name.Most = 25
+field_number name.Nodes = 26
+field_number name.Commands = 27
+field_number name.Flows = 28
 
 -- the words that stand as they are
 abbrev pub fixed_text : Fixed → List ℕ
@@ -101,6 +107,10 @@ fixed_text word.Script = codes "script"
 fixed_text word.Line = codes "line"
 fixed_text word.Limit = codes "limit"
 fixed_text word.Nobody = codes "-"
+fixed_text word.Ok = codes "ok"
+fixed_text word.Nodes = codes "nodes"
+fixed_text word.Commands = codes "commands"
+fixed_text word.Flows = codes "flows"
 
 -- the number below 2^64 of a decimal text, without a leading zero
 unfoldable pub whole_number : List ℕ → Option ℕ

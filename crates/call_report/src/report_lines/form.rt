@@ -30,10 +30,12 @@ pub enum Form {
     Script,
     /// All flows were carried out.
     Finished,
+    /// A script was checked: how much it has.
+    Ok,
 }
 
 /// The forms, in the order in which they are tried.
-const FORMS: [Form; 16] = [
+const FORMS: [Form; 17] = [
     Form::Delivered,
     Form::Sent,
     Form::DeniedPlain,
@@ -50,6 +52,7 @@ const FORMS: [Form; 16] = [
     Form::Limit,
     Form::Script,
     Form::Finished,
+    Form::Ok,
 ];
 
 pub(crate) fn forms() -> &'static [Form]
@@ -267,6 +270,28 @@ const TEXT_KIND_SCRIPT_FAULT: Slot = Slot::Text {
 
 const WORD_DONE: Slot = Slot::Fixed { text: Fixed::Done };
 
+const WORD_OK: Slot = Slot::Fixed { text: Fixed::Ok };
+
+const NUMBER_NODES: Slot = Slot::Number {
+    field: Field::Nodes,
+};
+
+const WORD_NODES: Slot = Slot::Fixed { text: Fixed::Nodes };
+
+const NUMBER_COMMANDS: Slot = Slot::Number {
+    field: Field::Commands,
+};
+
+const WORD_COMMANDS: Slot = Slot::Fixed {
+    text: Fixed::Commands,
+};
+
+const NUMBER_FLOWS: Slot = Slot::Number {
+    field: Field::Flows,
+};
+
+const WORD_FLOWS: Slot = Slot::Fixed { text: Fixed::Flows };
+
 /// A packet that was delivered.
 const DELIVERED: [Slot; 8] = [
     WORD_PACKET,
@@ -424,6 +449,17 @@ const SCRIPT: [Slot; 6] = [
 /// The end of a report.
 const FINISHED: [Slot; 1] = [WORD_DONE];
 
+/// How much a script has that was checked.
+const OK: [Slot; 7] = [
+    WORD_OK,
+    NUMBER_NODES,
+    WORD_NODES,
+    NUMBER_COMMANDS,
+    WORD_COMMANDS,
+    NUMBER_FLOWS,
+    WORD_FLOWS,
+];
+
 impl Form {
     /// The words of the form.
     pub fn slots(self) -> &'static [Slot]
@@ -446,6 +482,7 @@ impl Form {
             Form::Limit => &LIMIT,
             Form::Script => &SCRIPT,
             Form::Finished => &FINISHED,
+            Form::Ok => &OK,
         }
     }
 
@@ -468,6 +505,7 @@ impl Form {
             Form::Limit => b"limit",
             Form::Script => b"script",
             Form::Finished => b"done",
+            Form::Ok => b"ok",
         }
     }
 }

@@ -18,8 +18,9 @@ ghost use Rattle.call_report.specs.Lines.Flow.{flow_line, flow_end_line, version
 ghost use Rattle.call_report.specs.Lines.Fixed.{done_line, packets_limit_line};
 ghost use Rattle.call_report.specs.Lines.Reply.{reply_text, listed_lines};
 ghost use Rattle.call_report.specs.Lines.Capture.{kind_name, ng_kind_name, capture_line};
-ghost use Rattle.call_report.specs.Lines.Script.{script_kind_name, script_line, limit_name, limit_line};
+ghost use Rattle.call_report.specs.Lines.Script.{script_kind_name, script_line, limit_name, limit_line, ok_line};
 ghost use Rattle.call_report.specs.declared.report_lines.form.Form.{Form};
+ghost use Rattle.call_report.specs.declared.report_lines.form.Form.TheVariants as form;
 ghost use Rattle.call_report.specs.declared.report_lines.form.Form.TheVariants.{Flow, End, Finished, Done, Refused, Listed, Capture, Limit, Script};
 ghost use Rattle.call_report.specs.declared.report_lines.slot.Field.TheVariants as name;
 ghost use Rattle.call_report.specs.report_lines.Form.{slots_of};
@@ -50,8 +51,8 @@ pub fn a_line_that_fits_is_read()
         → misfit_of 0 [] (slots_of form) (line_words line) ≡ None → line_form line ≡ Ok form }
 {}
 
-/// What is written of a flow, its end, a command that was carried out or refused, and the end of a run is a line, is read as of its form, and tells
-/// under each field what was written. Of a command that lists lines it is the line in front of these.
+/// What is written of a flow, its end, a command that was carried out or refused, the end of a run, and of how much a script has that was checked is a
+/// line, is read as of its form, and tells under each field what was written. Of a command that lists lines it is the line in front of these.
 pub fn written_lines_are_told_back()
     ensures flow { (flow : ℕ) (input : List ℕ) → flow < 2 ^ 64 → is_file_name input ≡ true
         → IsToldAs Flow ((name.Flow, decimal flow) ∷ (name.Input, input) ∷ [])
@@ -62,6 +63,9 @@ pub fn written_lines_are_told_back()
         ∷ (name.Passed, decimal passed) ∷ (name.Denied, decimal denied) ∷ [])
         (flow_end_line flow packets passed denied) }
     ensures finished { IsToldAs Finished [] done_line }
+    ensures ok { (nodes commands flows : ℕ) → nodes < 2 ^ 64 → commands < 2 ^ 64 → flows < 2 ^ 64
+        → IsToldAs form.Ok ((name.Nodes, decimal nodes) ∷ (name.Commands, decimal commands)
+        ∷ (name.Flows, decimal flows) ∷ []) (ok_line nodes commands flows) }
     ensures done { (step : ℕ) (node : List ℕ) → step < 2 ^ 64 → is_name node ≡ true
         → IsToldAs Done
         ((name.Step, decimal step) ∷ (name.Node, node) ∷ (name.Answer, codes "done") ∷ [])

@@ -32,6 +32,9 @@ pub enum Field {
     Line,
     Limit,
     Most,
+    Nodes,
+    Commands,
+    Flows,
 }
 
 impl Field {
@@ -66,6 +69,9 @@ impl Field {
             Field::Line => b"at",
             Field::Limit => b"limit",
             Field::Most => b"most",
+            Field::Nodes => b"nodes",
+            Field::Commands => b"commands",
+            Field::Flows => b"flows",
         }
     }
 
@@ -100,6 +106,9 @@ impl Field {
             Field::Line => 23,
             Field::Limit => 24,
             Field::Most => 25,
+            Field::Nodes => 26,
+            Field::Commands => 27,
+            Field::Flows => 28,
         }
     }
 }
@@ -130,6 +139,10 @@ pub enum Fixed {
     Limit,
     /// In place of a node, where none judges.
     Nobody,
+    Ok,
+    Nodes,
+    Commands,
+    Flows,
 }
 
 impl Fixed {
@@ -160,6 +173,10 @@ impl Fixed {
             Fixed::Line => b"line",
             Fixed::Limit => b"limit",
             Fixed::Nobody => b"-",
+            Fixed::Ok => b"ok",
+            Fixed::Nodes => b"nodes",
+            Fixed::Commands => b"commands",
+            Fixed::Flows => b"flows",
         }
     }
 }

@@ -1,4 +1,4 @@
-use Rattle.call_report.proofs.report_lines.Written.{flow_written, end_written, done_written, done_reply_written, refused_reply_written, listed_reply_written}
+use Rattle.call_report.proofs.report_lines.Written.{flow_written, end_written, done_written, ok_written, done_reply_written, refused_reply_written, listed_reply_written}
 use Rattle.call_report.proofs.report_lines.laws.written_lines_are_told_back.Goals as goal
 
 pub returns-clause-flow : goal.returns-clause-flow
@@ -9,6 +9,9 @@ returns-clause-end c = end_written
 
 pub returns-clause-finished : goal.returns-clause-finished
 returns-clause-finished c = done_written
+
+pub returns-clause-ok : goal.returns-clause-ok
+returns-clause-ok c = ok_written
 
 pub returns-clause-done : goal.returns-clause-done
 returns-clause-done c = done_reply_written
