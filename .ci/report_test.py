@@ -1,5 +1,5 @@
-"""`netlabel_report json` and `csv` of every report of `run` among the examples, read by Python's own json and csv, against what the report says, field by
-field; then of each with the script that was run. What report and script say is read here by docs/formats.md and docs/scripts.md alone. Prints
+"""`netlabel_report json` and `csv` of every report of `run` and `check` among the examples, read by Python's own json and csv, against what the report says,
+field by field; then of each with its script, where that is right. What report and script say is read here by docs/formats.md and docs/scripts.md alone. Prints
 `N passed, M failed`.
 
     python3 .ci/report_test.py [--proved]
@@ -19,7 +19,7 @@ TOP = pathlib.Path(__file__).resolve().parent.parent
 import calls
 
 COLUMNS = ("report line step node answer lines flow input number became label receiver carrier denial name octet category cause hop versions packets passed denied "
-           "capture kind at limit most text").split()
+           "capture kind at limit most nodes commands flows text").split()
 WITH_OCTET = {"BadHeader", "BadOption", "UnknownDoi", "TagNotAllowed", "AlreadyLabelled"}
 
 
@@ -60,6 +60,8 @@ def line_of(words):
         return {"line": "limit", "limit": words[1], "most": int(words[2])}
     if words[0] == "script":
         return {"line": "script", "at": int(words[2]), "octet": int(words[4]), "kind": words[5]}
+    if words[0] == "ok":
+        return {"line": "ok", "nodes": int(words[1]), "commands": int(words[3]), "flows": int(words[5])}
     return {"line": words[0]}
 
 
@@ -87,7 +89,7 @@ def records(report, text, commands=None):
         if commands is not None and said["line"] == "command":
             said["at"] = commands[said["step"] - 1]
         told.append({"report": report, **said})
-    if not told or told[-1]["line"] not in ("done", "capture", "limit", "script"):
+    if not told or told[-1]["line"] not in ("done", "ok", "capture", "limit", "script"):
         told.append({"report": report, "line": "unfinished"})
     return told
 
@@ -99,13 +101,13 @@ def cell_of(value):
 
 
 def report_files():
-    """The reports of `run` among the examples, each with its script, which is right in each of them."""
+    """The reports of `run` and `check` among the examples, each with its script."""
     files = []
     for words in calls.some(TOP, "examples/*/words*"):
         end = words.name[len("words"):]
         program = words.parent / f"program{end}"
         said = words.read_text().split("\n")
-        if said[0] == "run" and (not program.exists() or program.read_text().strip() == "netlabel"):
+        if said[0] in ("run", "check") and (not program.exists() or program.read_text().strip() == "netlabel"):
             files.append((words.parent / f"report{end}", words.parent / said[1]))
     return files
 
@@ -130,6 +132,8 @@ def questions():
     wanted = [record for number, text in enumerate(texts, 1) for record in records(number, text)]
     asked = [(["json", *names], read_json, wanted), (["csv", *names], read_csv, cells_of(wanted))]
     for (_, script), text, name in zip(files, texts, names):
+        if text.startswith("script "):
+            continue
         by_script = ["-s", str(script.relative_to(TOP))]
         wanted = records(1, text, commands_of(script.read_text()))
         asked += [([*by_script, "json", name], read_json, wanted), ([*by_script, "csv", name], read_csv, cells_of(wanted))]

@@ -33,7 +33,7 @@ use Rattle.netlabel_report.specs.declared.desk.TellStop.TheVariants as stop
 use Rattle.netlabel_report.specs.declared.question.ReportQuestion.{ReportQuestion}
 use Rattle.netlabel_report.specs.Course.{at_end, at_absent, at_script, at_fault, Course, ended, with_front, followed_by, report_course, reports_course}
 use Rattle.netlabel_report.specs.Places.{commands_read, commands_held, commands_found}
-use Rattle.netlabel_report.specs.Says.{start_standing, opening_text, closing_text, told_course, course_by, question_course, starts_of_pieces, has_refused, course_report, course_status, IsReportStatus, files_of, report_says}
+use Rattle.netlabel_report.specs.Says.{start_standing, opening_text, closing_text, told_course, course_by, question_course, starts_of_pieces, is_amiss, course_report, course_status, IsReportStatus, files_of, report_says}
 use Rattle.netlabel_report.specs.inside.Telling.{handed, Tells, IsRiseIn, AreRead, answer_number, HasCommands, IsAnswerEnd}
 use Rattle.netlabel_report.proofs.Telling.{tells_as}
 
@@ -169,9 +169,9 @@ module _ (asked : ReportQuestion) (before after : Outside) (s : Standing) (waits
 
   -- all reports were told
   ends_whole : (x : Unit {0}) (status : Status) → Told (Ok x) → Read (Ok x) → Printed (waits ++ closing_text asked.way s) [] Done status mid after.stream
-      → Ended (answer_number (asked.tells && has_refused s.progress) status)
+      → Ended (answer_number (asked.tells && is_amiss s.progress) status)
   ends_whole x status told read printed =
-      let flag : Bool = asked.tells && has_refused s.progress in
+      let flag : Bool = asked.tells && is_amiss s.progress in
       let due : ℕ = if flag then 8 else 0 in
       let closing = closing_text asked.way s in
       let whole = concat told.pieces ++ closing in
@@ -182,7 +182,7 @@ module _ (asked : ReportQuestion) (before after : Outside) (s : Standing) (waits
       (record {
         event = (no_number flag 3 (λ e. omega (arith, e)) (λ e. omega (arith, e)), no_number flag 4 (λ e. omega (arith, e)) (λ e. omega (arith, e)), no_number flag 6 (λ e. omega (arith, e)) (λ e. omega (arith, e)));
         has = λ t. ap (course_status asked.tells) (is t);
-        may = inl (may_be asked.tells (has_refused s.progress));
+        may = inl (may_be asked.tells (is_amiss s.progress));
         parts = λ known. record {
           report = course_report asked.way (question_course asked before.folder.held);
           has = refl;

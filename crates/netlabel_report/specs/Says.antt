@@ -56,9 +56,9 @@ question_course asked held = course_by asked held (commands_found asked.script h
 abbrev pub starts_of_pieces : List (List ℕ) → List (List ℕ)
 starts_of_pieces pieces = map (λ n. concat (take n pieces)) (range_with_len 0 (length pieces + 1))
 
--- a command was refused, or a packet denied
-abbrev pub has_refused : Progress → Bool
-has_refused p = not (p.refused == 0 && p.denied == 0)
+-- a command was refused, a packet denied, or a report has no good end: it was stopped, or is unfinished
+abbrev pub is_amiss : Progress → Bool
+is_amiss p = not (p.refused == 0 && (p.denied == 0 && (p.stopped == 0 && p.unfinished == 0)))
 
 -- What is printed: the pieces of the course, and behind them what was added up, or the line that tells why a text is no script, or where one is no report.
 abbrev pub course_report : Way → Course → Report
@@ -69,10 +69,10 @@ course_report way course = elim course.end [
   | at_fault octet ↦ record { body = concat course.pieces; last = no_report_text course.standing.progress octet; pauses = starts_of_pieces course.pieces }
 ]
 
--- the status that is due, none where a file is absent; 8 where it is to be told that something was refused, and something was
+-- the status that is due, none where a file is absent; 8 where it is to be told that something is amiss, and something is
 abbrev pub course_status : Bool → Course → Option ℕ
 course_status tells course = elim course.end [
-  | at_end ↦ Some (if tells && has_refused course.standing.progress then 8 else 0)
+  | at_end ↦ Some (if tells && is_amiss course.standing.progress then 8 else 0)
   | at_absent ↦ None
   | at_script stop ↦ Some (script_stop_status stop)
   | at_fault octet ↦ Some 2

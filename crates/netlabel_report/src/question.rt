@@ -10,7 +10,7 @@ use crate::names::ReportNames;
 use crate::report_telling::Way;
 use label_commands::{NamedFile, is_file_name};
 
-/// Reports that are to be told, the script whose commands they answer, and whether the status is to tell that something was refused in them.
+/// Reports that are to be told, the script whose commands they answer, and whether the status is to tell that something is amiss in them.
 #[derive(Debug, Drop)]
 pub(crate) struct ReportQuestion<'a> {
     pub(crate) tells: bool,

@@ -6,7 +6,7 @@ use std::alloc::Global;
 use std::process::Abort;
 
 /// The files of the folder.
-const FILES: [(&str, &str); 11] = [
+const FILES: [(&str, &str); 14] = [
     (
         "whole",
         "command 1 gate done\ncommand 2 gate DoiExists\ncommand 3 gate listed 1\n  unlbl \"x\"\nflow 1 a\npacket 1.1 delivered s0 to 10.9.0.2 versions 3\npacket 1.2 denied 3 Unlabelled hop 1 node gate versions 3\nend 1 packets 2 passed 1 denied 1\ndone\n",
@@ -27,10 +27,19 @@ const FILES: [(&str, &str); 11] = [
     ("few", "command 2 gate DoiExists\n"),
     ("fifth", "command 5 gate done\n"),
     ("stranger", "command 4 press done\ncommand 4 gate done\n"),
+    (
+        "checked",
+        "command 1 gate done\ncommand 2 gate DoiExists\ncommand 3 gate listed 1\n  unlbl\ncommand 4 press listed 0\nok 2 nodes 4 commands 0 flows\n",
+    ),
+    (
+        "passed",
+        "command 1 gate done\nflow 1 a\nlimit packets 1048576\n",
+    ),
+    ("after", "ok 1 nodes 0 commands 0 flows\ndone\n"),
 ];
 
 /// Words, the status, and what is printed.
-const CALLS: [(&str, u8, &str); 29] = [
+const CALLS: [(&str, u8, &str); 34] = [
     (
         "",
         1,
@@ -64,7 +73,7 @@ const CALLS: [(&str, u8, &str); 29] = [
     (
         "-e summary quiet whole whole early",
         8,
-        "refused 2.2 gate DoiExists\nrefused 3.2 gate DoiExists\nreports 4 unfinished 1\ncommands 8 refused 2\npackets 5 delivered 2 sent 1 denied 2\ndenied 3 Unlabelled hop 1 node gate packets 2\n",
+        "refused 2.2 gate DoiExists\nrefused 3.2 gate DoiExists\nended 4 unfinished\nreports 4 unfinished 1\ncommands 8 refused 2\npackets 5 delivered 2 sent 1 denied 2\ndenied 3 Unlabelled hop 1 node gate packets 2\n",
     ),
     ("-e denied quiet", 0, ""),
     (
@@ -85,12 +94,12 @@ const CALLS: [(&str, u8, &str); 29] = [
     (
         "csv more",
         2,
-        "report,line,step,node,answer,lines,flow,input,number,became,label,receiver,carrier,denial,name,octet,category,cause,hop,versions,packets,passed,denied,capture,kind,at,limit,most,text\n1,done,,,,,,,,,,,,,,,,,,,,,,,,,,,\nreport 1 line 2 octet 0\n",
+        "report,line,step,node,answer,lines,flow,input,number,became,label,receiver,carrier,denial,name,octet,category,cause,hop,versions,packets,passed,denied,capture,kind,at,limit,most,nodes,commands,flows,text\n1,done,,,,,,,,,,,,,,,,,,,,,,,,,,,,,,\nreport 1 line 2 octet 0\n",
     ),
     (
         "summary empty",
         0,
-        "reports 1 unfinished 1\ncommands 0 refused 0\npackets 0 delivered 0 sent 0 denied 0\n",
+        "ended 1 unfinished\nreports 1 unfinished 1\ncommands 0 refused 0\npackets 0 delivered 0 sent 0 denied 0\n",
     ),
     ("summary other", 2, "report 1 line 2 octet 15\n"),
     (
@@ -114,7 +123,7 @@ const CALLS: [(&str, u8, &str); 29] = [
     (
         "-e -s site summary whole few",
         8,
-        "refused 1.2 line 6 gate DoiExists\nrefused 2.2 line 6 gate DoiExists\nreports 2 unfinished 1\ncommands 4 refused 2\npackets 2 delivered 1 sent 0 denied 1\ndenied 3 Unlabelled hop 1 node gate packets 1\n",
+        "refused 1.2 line 6 gate DoiExists\nrefused 2.2 line 6 gate DoiExists\nended 2 unfinished\nreports 2 unfinished 1\ncommands 4 refused 2\npackets 2 delivered 1 sent 0 denied 1\ndenied 3 Unlabelled hop 1 node gate packets 1\n",
     ),
     (
         "-s site json early",
@@ -124,7 +133,28 @@ const CALLS: [(&str, u8, &str); 29] = [
     (
         "-s site csv few",
         0,
-        "report,line,step,node,answer,lines,flow,input,number,became,label,receiver,carrier,denial,name,octet,category,cause,hop,versions,packets,passed,denied,capture,kind,at,limit,most,text\n1,command,2,\"gate\",\"DoiExists\",,,,,,,,,,,,,,,,,,,,,6,,,\n1,unfinished,,,,,,,,,,,,,,,,,,,,,,,,,,,\n",
+        "report,line,step,node,answer,lines,flow,input,number,became,label,receiver,carrier,denial,name,octet,category,cause,hop,versions,packets,passed,denied,capture,kind,at,limit,most,nodes,commands,flows,text\n1,command,2,\"gate\",\"DoiExists\",,,,,,,,,,,,,,,,,,,,,6,,,,,,\n1,unfinished,,,,,,,,,,,,,,,,,,,,,,,,,,,,,,\n",
+    ),
+    (
+        "-e -s site summary checked",
+        8,
+        "refused 1.2 line 6 gate DoiExists\nreports 1 unfinished 0\ncommands 4 refused 1\npackets 0 delivered 0 sent 0 denied 0\n",
+    ),
+    (
+        "-s site json checked",
+        0,
+        "{\"report\":1,\"line\":\"command\",\"step\":1,\"node\":\"gate\",\"answer\":\"done\",\"at\":3}\n{\"report\":1,\"line\":\"command\",\"step\":2,\"node\":\"gate\",\"answer\":\"DoiExists\",\"at\":6}\n{\"report\":1,\"line\":\"command\",\"step\":3,\"node\":\"gate\",\"answer\":\"listed\",\"lines\":1,\"at\":7}\n{\"report\":1,\"line\":\"listed\",\"text\":\"unlbl\"}\n{\"report\":1,\"line\":\"command\",\"step\":4,\"node\":\"press\",\"answer\":\"listed\",\"lines\":0,\"at\":9}\n{\"report\":1,\"line\":\"ok\",\"nodes\":2,\"commands\":4,\"flows\":0}\n",
+    ),
+    (
+        "-e summary checked passed early",
+        8,
+        "refused 1.2 gate DoiExists\nended 2 limit packets 1048576\nended 3 unfinished\nreports 3 unfinished 1\ncommands 6 refused 1\npackets 0 delivered 0 sent 0 denied 0\n",
+    ),
+    ("denied after", 2, "report 1 line 2 octet 0\n"),
+    (
+        "-e summary passed absent",
+        3,
+        "ended 1 limit packets 1048576\n",
     ),
     ("-s site denied fifth", 2, "report 1 line 1 octet 8\n"),
     ("-s site denied stranger", 2, "report 1 line 2 octet 10\n"),
@@ -134,7 +164,7 @@ const CALLS: [(&str, u8, &str); 29] = [
     (
         "-s site csv absent",
         3,
-        "report,line,step,node,answer,lines,flow,input,number,became,label,receiver,carrier,denial,name,octet,category,cause,hop,versions,packets,passed,denied,capture,kind,at,limit,most,text\n",
+        "report,line,step,node,answer,lines,flow,input,number,became,label,receiver,carrier,denial,name,octet,category,cause,hop,versions,packets,passed,denied,capture,kind,at,limit,most,nodes,commands,flows,text\n",
     ),
 ];
 
@@ -172,8 +202,142 @@ fn tells_reports(rt: HostRuntime) {
     }
 }
 
+/// How a report may end.
+struct ReportEnd {
+    text: &'static str,
+    /// The status with `-e`, and what stands in the table above its sums.
+    status: u8,
+    ended: &'static str,
+    sums: &'static str,
+    denied: &'static str,
+    json: &'static str,
+    csv: &'static str,
+}
+
+const FINISHED: &str =
+    "reports 2 unfinished 0\ncommands 0 refused 0\npackets 0 delivered 0 sent 0 denied 0\n";
+
+const UNFINISHED: &str =
+    "reports 2 unfinished 1\ncommands 0 refused 0\npackets 0 delivered 0 sent 0 denied 0\n";
+
+/// What CSV has of a report that ends well.
+const GOOD_ROWS: &str =
+    "report,line,step,node,answer,lines,flow,input,number,became,label,receiver,carrier,denial,name,octet,category,cause,hop,versions,packets,passed,denied,capture,kind,at,limit,most,nodes,commands,flows,text\n1,done,,,,,,,,,,,,,,,,,,,,,,,,,,,,,,\n";
+
+/// Reports behind one that ends with `done`, and what is told of them.
+const ENDS: [ReportEnd; 7] = [
+    ReportEnd {
+        text: "done\n",
+        status: 0,
+        ended: "",
+        sums: FINISHED,
+        denied: "",
+        json: "{\"report\":2,\"line\":\"done\"}\n",
+        csv: "2,done,,,,,,,,,,,,,,,,,,,,,,,,,,,,,,\n",
+    },
+    ReportEnd {
+        text: "ok 2 nodes 7 commands 1 flows\n",
+        status: 0,
+        ended: "",
+        sums: FINISHED,
+        denied: "",
+        json: "{\"report\":2,\"line\":\"ok\",\"nodes\":2,\"commands\":7,\"flows\":1}\n",
+        csv: "2,ok,,,,,,,,,,,,,,,,,,,,,,,,,,,2,7,1,\n",
+    },
+    ReportEnd {
+        text: "capture 1 octet 24 Short\n",
+        status: 8,
+        ended: "ended 2 capture 1 octet 24 Short\n",
+        sums: FINISHED,
+        denied: "",
+        json: "{\"report\":2,\"line\":\"capture\",\"capture\":1,\"octet\":24,\"kind\":\"Short\"}\n",
+        csv: "2,capture,,,,,,,,,,,,,,24,,,,,,,,1,\"Short\",,,,,,,\n",
+    },
+    ReportEnd {
+        text: "limit packets 1048576\n",
+        status: 8,
+        ended: "ended 2 limit packets 1048576\n",
+        sums: FINISHED,
+        denied: "",
+        json: "{\"report\":2,\"line\":\"limit\",\"limit\":\"packets\",\"most\":1048576}\n",
+        csv: "2,limit,,,,,,,,,,,,,,,,,,,,,,,,,\"packets\",1048576,,,,\n",
+    },
+    ReportEnd {
+        text: "script line 2 octet 12 NameTwice\n",
+        status: 8,
+        ended: "ended 2 script line 2 octet 12 NameTwice\n",
+        sums: FINISHED,
+        denied: "",
+        json: "{\"report\":2,\"line\":\"script\",\"at\":2,\"octet\":12,\"kind\":\"NameTwice\"}\n",
+        csv: "2,script,,,,,,,,,,,,,,12,,,,,,,,,\"NameTwice\",2,,,,,,\n",
+    },
+    ReportEnd {
+        text: "flow 1 a\n",
+        status: 8,
+        ended: "ended 2 unfinished\n",
+        sums: UNFINISHED,
+        denied: "unfinished 2\n",
+        json: "{\"report\":2,\"line\":\"flow\",\"flow\":1,\"input\":\"a\"}\n{\"report\":2,\"line\":\"unfinished\"}\n",
+        csv: "2,flow,,,,,1,\"a\",,,,,,,,,,,,,,,,,,,,,,,,\n2,unfinished,,,,,,,,,,,,,,,,,,,,,,,,,,,,,,\n",
+    },
+    ReportEnd {
+        text: "",
+        status: 8,
+        ended: "ended 2 unfinished\n",
+        sums: UNFINISHED,
+        denied: "unfinished 2\n",
+        json: "{\"report\":2,\"line\":\"unfinished\"}\n",
+        csv: "2,unfinished,,,,,,,,,,,,,,,,,,,,,,,,,,,,,,\n",
+    },
+];
+
+/// The texts one behind the other.
+fn joined(rt: &impl Abort, alloc: Global, first: &str, second: &str) -> Vec<u8> {
+    let mut text = Vec::new(alloc);
+    text.extend_from_slice(first.as_bytes())
+        .expect(rt, "memory");
+    text.extend_from_slice(second.as_bytes())
+        .expect(rt, "memory");
+    text
+}
+
+/// Asks for the report by these words, the first of which is `-e`, and by the others alone.
+fn tells_end(rt: &impl Abort, alloc: Global, line: &str, end: &ReportEnd, printed: &[u8]) {
+    let words = words_in(rt, alloc, line);
+    for (front, status) in [(0, end.status), (1, 0)] {
+        let mut depot = MemoryDepot::new(alloc, &[], 1_000_000).expect(rt, "memory");
+        depot.put("good", b"done\n").expect(rt, "memory");
+        depot.put("last", end.text.as_bytes()).expect(rt, "memory");
+        let mut sink = MemorySink::new(alloc, &[], 1_000_000).expect(rt, "memory");
+        let ended = report(alloc, &words[front..], &mut depot, &mut sink);
+        let text = end.text;
+        assert_eq!(rt; ended, status, "of {line} and {text}");
+        assert_eq!(rt; sink.bytes(), printed, "of {line} and {text}");
+    }
+}
+
+#[test]
+fn tells_ends(rt: HostRuntime) {
+    let alloc = rt.alloc();
+    for end in &ENDS {
+        let sums = joined(&rt, alloc, end.ended, end.sums);
+        tells_end(&rt, alloc, "-e summary good last", end, &sums);
+        tells_end(
+            &rt,
+            alloc,
+            "-e denied good last",
+            end,
+            end.denied.as_bytes(),
+        );
+        let json = joined(&rt, alloc, "{\"report\":1,\"line\":\"done\"}\n", end.json);
+        tells_end(&rt, alloc, "-e json good last", end, &json);
+        let csv = joined(&rt, alloc, GOOD_ROWS, end.csv);
+        tells_end(&rt, alloc, "-e csv good last", end, &csv);
+    }
+}
+
 /// Words, the reads and the writes that fail, by their numbers, the status, and what is printed.
-const FAILING: [(&str, u32, u32, u8, &str); 10] = [
+const FAILING: [(&str, u32, u32, u8, &str); 11] = [
     ("denied whole", 1, 0, 3, ""),
     ("denied whole", 2, 0, 3, ""),
     (
@@ -184,6 +348,7 @@ const FAILING: [(&str, u32, u32, u8, &str); 10] = [
         "packet 1.2 denied 3 Unlabelled hop 1 node gate versions 3\n",
     ),
     ("-e denied whole", 0, 1, 4, ""),
+    ("-e summary passed", 0, 1, 4, ""),
     ("denied other", 0, 1, 2, ""),
     (
         "summary whole quiet",

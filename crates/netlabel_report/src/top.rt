@@ -9,7 +9,7 @@ ghost use Rattle.call_report.specs.Status.{status_number};
 ghost use Rattle.netlabel_report.specs.report_telling.Taking.{no_report_text};
 ghost use Rattle.netlabel_report.specs.Names.{reports_named};
 ghost use Rattle.netlabel_report.specs.Asked.{question_asked, report_usage_line};
-ghost use Rattle.netlabel_report.specs.Says.{opening_text, closing_text, told_course, start_standing, has_refused, report_says};
+ghost use Rattle.netlabel_report.specs.Says.{opening_text, closing_text, told_course, start_standing, is_amiss, report_says};
 ghost use Rattle.netlabel_report.specs.inside.Telling.{HasCommands, Tells, AreRead, IsAnswerEnd, answer_number};
 
 use crate::desk::{Desk, TellStop};
@@ -27,16 +27,16 @@ use std::alloc::Global;
 /// The status where memory ran out before anything was read.
 const OUT_OF_MEMORY: u8 = 6;
 
-/// The status where it is to be told that something was refused, and something was.
-const REFUSED: u8 = 8;
+/// The status where it is to be told that something is amiss, and something is.
+const AMISS: u8 = 8;
 
 /// Reads the reports that the words name, each line by line, and tells them: added up, the denied packets alone, or as records of JSON or CSV. Where the
 /// words name a script it is read first, and each command is told with its line there.
 ///
 /// The words are those of the command line without the program's name. The status is 0 where all reports were read to their ends, 1 where the
 /// words are no form, 2 where the script is wrong or a text is no report, 3 where a read failed, 4 where a write failed, 6 where memory ran out, 7 where the
-/// script passes a limit, and 8, with the word `-e`, where a command was refused or a packet denied. The clause says what each of them means, what is
-/// printed and what is left as it was.
+/// script passes a limit, and 8, with the word `-e`, where a command was refused, a packet denied, or a report has no good end. The clause says what
+/// each of them means, what is printed and what is left as it was.
 pub fn report<D: Depot, S: Sink>(alloc: Global, words: &[String], depot: &mut D, out: &mut S) -> u8
     ensures { CallEnds report_says (question_asked (texts_of words.now))
         (record { folder = D.state depot.old; stream = S.state out.old })
@@ -176,7 +176,7 @@ fn end_answer<S: Sink>(
     match told {
         Ok(()) => {
             let status = end_whole(asked.way, &desk.progress, &desk.tallies, report, out);
-            answer_number(asked.tells && has_refused(&desk.progress), status)
+            answer_number(asked.tells && is_amiss(&desk.progress), status)
         }
         Err(TellStop::NoReport { octet }) => {
             end_refused(alloc, &desk.progress, octet, report, out).number()
@@ -222,19 +222,22 @@ fn write_closing(
     }
 }
 
-/// Whether a command was refused or a packet denied.
-fn has_refused(progress: &Progress) -> bool
-    ensures { result ≡ has_refused progress.now }
+/// Whether a command was refused, a packet denied, or a report has no good end.
+fn is_amiss(progress: &Progress) -> bool
+    ensures { result ≡ is_amiss progress.now }
 {
-    !(progress.refused == 0 && progress.denied == 0)
+    !(progress.refused == 0
+        && progress.denied == 0
+        && progress.stopped == 0
+        && progress.unfinished == 0)
 }
 
-/// The number of a status, but another where something was refused and is to be told.
+/// The number of a status, but another where something is amiss and that is to be told.
 fn answer_number(tells: bool, status: Status) -> u8
     ensures { result ≡ answer_number tells status }
 {
     match status {
-        Status::Done => { if tells { REFUSED } else { status.number() } }
+        Status::Done => { if tells { AMISS } else { status.number() } }
         _ => status.number(),
     }
 }

@@ -22,7 +22,7 @@ use Rattle.netlabel_report.specs.declared.lines.NextLine.TheVariants.{Line, End,
 use Rattle.netlabel_report.specs.declared.desk.TellStop.{TellStop}
 use Rattle.netlabel_report.specs.declared.desk.TellStop.TheVariants.{NoReport, ReadFault, Unwritten, OutOfMemory}
 use Rattle.netlabel_report.specs.declared.question.ReportQuestion.{ReportQuestion}
-use Rattle.netlabel_report.specs.Says.{closing_text, has_refused}
+use Rattle.netlabel_report.specs.Says.{closing_text, is_amiss}
 use Rattle.netlabel_report.specs.Places.{found, commands_found}
 use Rattle.netlabel_report.specs.Course.{Course, at_end, at_fault, most_line, parts_of, ended, with_front, kind_course, lines_course, closed}
 
@@ -139,7 +139,7 @@ pub record HasCommands (script : Option (List ℕ)) (before after : Outside) (co
 
 -- How an answer ends whose reports were told so.
 abbrev pub IsAnswerEnd : {T : Type 0} → ReportQuestion → Result T TellStop → Standing → List ℕ → ℕ → SinkState → SinkState → Type 0
-IsAnswerEnd asked (Ok x) s waits number old new = (status : Status) × (number ≡ answer_number (asked.tells && has_refused s.progress) status) × Printed (waits ++ closing_text asked.way s) [] Done status old new
+IsAnswerEnd asked (Ok x) s waits number old new = (status : Status) × (number ≡ answer_number (asked.tells && is_amiss s.progress) status) × Printed (waits ++ closing_text asked.way s) [] Done status old new
 IsAnswerEnd asked (Err (NoReport octet)) s waits number old new = (status : Status) × (number ≡ status_number status) × Printed waits (no_report_text s.progress octet) WrongScript status old new
 IsAnswerEnd asked (Err ReadFault) s waits number old new = (status : Status) × (number ≡ status_number status) × Printed waits [] ReadFaultStatus status old new
 IsAnswerEnd asked (Err (Unwritten fault)) s waits number old new = (number ≡ status_number (write_status fault)) × (new ≡ old)

@@ -11,7 +11,7 @@ risen n = if nat_lt n 18446744073709551615 then n + 1 else n
 
 -- nothing was read yet
 abbrev pub start_progress : Progress
-start_progress = record { reports = 0; unfinished = 0; commands = 0; refused = 0; delivered = 0; sent = 0; denied = 0; elsewhere = 0; line = 0; due = 0; finished = false }
+start_progress = record { reports = 0; unfinished = 0; stopped = 0; commands = 0; refused = 0; delivered = 0; sent = 0; denied = 0; elsewhere = 0; line = 0; due = 0; finished = false }
 
 -- denials for a reason, at a hop of a node
 abbrev pub is_tally : ℕ → ℕ → List ℕ → Tally → Bool

@@ -13,11 +13,12 @@ use Rattle.netlabel_report.specs.report_telling.Quoted.{quoted}
 -- the columns between the name of the line and the text of a listed one
 unfoldable pub columns : List Field
 columns = name.Step ∷ name.Node ∷ name.Answer ∷ name.Lines ∷ name.Flow ∷ name.Input ∷ name.Number ∷ name.Became ∷ name.Label ∷ name.Receiver ∷ name.Carrier ∷ name.Denial ∷ name.Name
-    ∷ name.Octet ∷ name.Category ∷ name.Cause ∷ name.Hop ∷ name.Versions ∷ name.Packets ∷ name.Passed ∷ name.Denied ∷ name.Capture ∷ name.Kind ∷ name.Line ∷ name.Limit ∷ name.Most ∷ []
+    ∷ name.Octet ∷ name.Category ∷ name.Cause ∷ name.Hop ∷ name.Versions ∷ name.Packets ∷ name.Passed ∷ name.Denied ∷ name.Capture ∷ name.Kind ∷ name.Line ∷ name.Limit ∷ name.Most
+    ∷ name.Nodes ∷ name.Commands ∷ name.Flows ∷ []
 
 -- the names of all columns
 unfoldable pub heading : List ℕ
-heading = codes "report,line,step,node,answer,lines,flow,input,number,became,label,receiver,carrier,denial,name,octet,category,cause,hop,versions,packets,passed,denied,capture,kind,at,limit,most,text\n"
+heading = codes "report,line,step,node,answer,lines,flow,input,number,became,label,receiver,carrier,denial,name,octet,category,cause,hop,versions,packets,passed,denied,capture,kind,at,limit,most,nodes,commands,flows,text\n"
 
 -- nothing for nothing, a number as it stands, another text in quotes
 abbrev pub cell_text : List ℕ → List ℕ
@@ -40,7 +41,7 @@ row_begin report name = decimal report ++ 44 ∷ name
 
 -- so many cells are empty
 abbrev pub no_cells : List ℕ
-no_cells = codes ",,,,,,,,,,,,,,,,,,,,,,,,,,,"
+no_cells = codes ",,,,,,,,,,,,,,,,,,,,,,,,,,,,,,"
 
 -- a line of the report of this number, and the line in the script at which its command stands
 unfoldable pub csv_text : Option ℕ → ℕ → Form → List ℕ → List ℕ

@@ -18,6 +18,10 @@ placed_reply (Some at) reply = before_first (λ c. c == 32) reply ++ count_text 
 unfoldable pub refused_text : Option ℕ → ℕ → List ℕ → List ℕ
 refused_text at report reply = count_text (codes "refused ") report ++ codes "." ++ placed_reply at reply ++ codes "\n"
 
+-- that a report has no good end: how it ends instead
+unfoldable pub ended_text : ℕ → List ℕ → List ℕ
+ended_text report how = count_text (codes "ended ") report ++ codes " " ++ how ++ codes "\n"
+
 -- a sum, at most the greatest number
 abbrev pub sum_of : ℕ → ℕ → ℕ
 sum_of a b = if nat_le a (18446744073709551615 - b) then a + b else 18446744073709551615

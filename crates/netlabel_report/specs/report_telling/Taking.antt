@@ -19,7 +19,7 @@ use Rattle.netlabel_report.specs.report_telling.Counts.{risen, tallied, is_count
 use Rattle.netlabel_report.specs.report_telling.Fields.{told_in, number_told}
 use Rattle.netlabel_report.specs.report_telling.Json.{json_text, listed_json, unfinished_json}
 use Rattle.netlabel_report.specs.report_telling.Csv.{csv_text, listed_csv, unfinished_csv}
-use Rattle.netlabel_report.specs.report_telling.Summary.{refused_text}
+use Rattle.netlabel_report.specs.report_telling.Summary.{refused_text, ended_text}
 
 -- printable ASCII, from the space to `~`
 abbrev pub is_printable : ℕ → Bool
@@ -60,10 +60,17 @@ is_denial_form form.DeniedCause = true
 is_denial_form form.DeniedFrame = true
 is_denial_form form = false
 
+-- a report's last line that tells what stopped the run: a broken capture, a passed limit, or a fault of the script
+abbrev pub is_stop_form : Form → Bool
+is_stop_form form.Capture = true
+is_stop_form form.Limit = true
+is_stop_form form.Script = true
+is_stop_form form = false
+
 -- how a line of a form is told, with the line in the script at which its command stands
 abbrev pub form_text : Way → Option ℕ → ℕ → Form → List ℕ → List ℕ
 form_text Summary at report form.Refused line = refused_text at report (drop 8 line)
-form_text Summary at report form line = []
+form_text Summary at report form line = if is_stop_form form then ended_text report line else []
 form_text Denied at report form line = if is_denial_form form then line ++ 10 ∷ [] else []
 form_text Json at report form line = json_text at report form line
 form_text Csv at report form line = csv_text at report form line
@@ -82,7 +89,7 @@ line_text manner report (Of form) line = form_text manner.way (answered_at manne
 -- how it is told that a report isn't finished, where it isn't
 abbrev pub unfinished_text : Way → ℕ → Bool → List ℕ
 unfinished_text way report true = []
-unfinished_text Summary report false = []
+unfinished_text Summary report false = ended_text report (codes "unfinished")
 unfinished_text Denied report false = codes "unfinished " ++ decimal report ++ codes "\n"
 unfinished_text Json report false = unfinished_json report
 unfinished_text Csv report false = unfinished_csv report
@@ -101,7 +108,7 @@ counted form.Refused line p = record p { commands = risen p.commands; refused = 
 counted form.Listed line p = record p { commands = risen p.commands; due = number_told name.Lines form.Listed line }
 counted form.Flow line p = p
 counted form.End line p = p
-counted form line p = record p { finished = true }
+counted form line p = record p { stopped = if is_stop_form form then risen p.stopped else p.stopped; finished = true }
 
 -- where a reading stands
 pub record Standing : Type 0 where

@@ -13,9 +13,10 @@ const MOST_TALLIES: usize = 4096;
 /// How many there were of each, and where a reading stands; a number stands still at its type's end.
 #[derive(Clone, Copy)]
 pub struct Progress {
-    /// Reports that were read to their end, and those of them that end too early.
+    /// Reports that were read to their end, those of them that end too early, and those whose last line tells what stopped the run.
     pub reports: u64,
     pub unfinished: u64,
+    pub stopped: u64,
     pub commands: u64,
     pub refused: u64,
     pub delivered: u64,
@@ -36,6 +37,7 @@ pub fn start() -> Progress
     Progress {
         reports: 0,
         unfinished: 0,
+        stopped: 0,
         commands: 0,
         refused: 0,
         delivered: 0,

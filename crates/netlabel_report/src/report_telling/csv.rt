@@ -12,7 +12,7 @@ use mls_label::{OutOfMemory, write_decimal};
 const MARK: u8 = b'"';
 
 /// The columns between the name of the line and the text of a listed one.
-const COLUMNS: [Field; 26] = [
+const COLUMNS: [Field; 29] = [
     Field::Step,
     Field::Node,
     Field::Answer,
@@ -39,6 +39,9 @@ const COLUMNS: [Field; 26] = [
     Field::Line,
     Field::Limit,
     Field::Most,
+    Field::Nodes,
+    Field::Commands,
+    Field::Flows,
 ];
 
 #[tactic(auto, unfolding(crate::specs::report_telling::Csv::columns))]
@@ -53,7 +56,7 @@ fn columns() -> &'static [Field]
 pub fn heading() -> &'static [u8]
     ensures { result.now ≡ heading }
 {
-    b"report,line,step,node,answer,lines,flow,input,number,became,label,receiver,carrier,denial,name,octet,category,cause,hop,versions,packets,passed,denied,capture,kind,at,limit,most,text\n"
+    b"report,line,step,node,answer,lines,flow,input,number,became,label,receiver,carrier,denial,name,octet,category,cause,hop,versions,packets,passed,denied,capture,kind,at,limit,most,nodes,commands,flows,text\n"
 }
 
 /// Appends a line of this form, of the report of this number, as a record, with the line in the script at which its command stands.
@@ -79,7 +82,7 @@ pub fn write_listed_csv(report: u64, line: &[u8], out: &mut Vec<u8>) -> Result<(
     ensures { OnOk result (out.new.items ≡ out.old.items ++ listed_csv report line.now) }
 {
     begin_record(report, b"listed", out)?;
-    out.extend_from_slice(b",,,,,,,,,,,,,,,,,,,,,,,,,,,")?;
+    out.extend_from_slice(b",,,,,,,,,,,,,,,,,,,,,,,,,,,,,,")?;
     append_quoted(MARK, line, out)?;
     out.push(b'\n')?;
     Ok(())
@@ -91,7 +94,7 @@ pub fn write_unfinished_csv(report: u64, out: &mut Vec<u8>) -> Result<(), OutOfM
     ensures { OnOk result (out.new.items ≡ out.old.items ++ unfinished_csv report) }
 {
     begin_record(report, b"unfinished", out)?;
-    out.extend_from_slice(b",,,,,,,,,,,,,,,,,,,,,,,,,,,")?;
+    out.extend_from_slice(b",,,,,,,,,,,,,,,,,,,,,,,,,,,,,,")?;
     out.push(b'\n')?;
     Ok(())
 }

@@ -2,7 +2,7 @@
 
 ghost use Rattle.std.specs.Prelude.{◌≡◌, ◌++◌, codes, Some, OnOk};
 ghost use Rattle.std.specs.List.{flat_map};
-ghost use Rattle.netlabel_report.specs.report_telling.Summary.{count_text, placed_reply, refused_text, reports_text, early_text, commands_text, packets_text, others_text, sum_of, tally_text, elsewhere_text, summary_text};
+ghost use Rattle.netlabel_report.specs.report_telling.Summary.{count_text, placed_reply, refused_text, ended_text, reports_text, early_text, commands_text, packets_text, others_text, sum_of, tally_text, elsewhere_text, summary_text};
 
 use crate::report_telling::counts::{Progress, Tally};
 use call_report::parts_at;
@@ -46,6 +46,18 @@ fn append_placed(line: u64, reply: &[u8], out: &mut Vec<u8>) -> Result<(), OutOf
     append_count(b" line ", line, out)?;
     out.push(b' ')?;
     out.extend_from_slice(answer)?;
+    Ok(())
+}
+
+/// Appends that a report has no good end: how it ends instead.
+#[tactic(auto, unfolding(crate::specs::report_telling::Summary::ended_text))]
+pub fn write_ended(report: u64, how: &[u8], out: &mut Vec<u8>) -> Result<(), OutOfMemory>
+    ensures { OnOk result (out.new.items ≡ out.old.items ++ ended_text report how.now) }
+{
+    append_count(b"ended ", report, out)?;
+    out.push(b' ')?;
+    out.extend_from_slice(how)?;
+    out.push(b'\n')?;
     Ok(())
 }
 

@@ -10,7 +10,7 @@ use crate::report_telling::commands::{Commands, number_told};
 use crate::report_telling::counts::{Progress, Tally, count_at, risen};
 use crate::report_telling::csv::{write_csv, write_listed_csv, write_unfinished_csv};
 use crate::report_telling::json::{write_json, write_listed_json, write_unfinished_json};
-use crate::report_telling::summary::write_refused;
+use crate::report_telling::summary::{write_ended, write_refused};
 use crate::report_telling::way::{Manner, Way};
 use call_report::{Field, Form, read_line, told_word};
 use domain_map::read_name;
@@ -142,13 +142,28 @@ fn tell_form(
         ≡ out.old.items ++ form_text way at report form line.now) }
 {
     match way {
-        Way::Summary => match form {
-            Form::Refused => write_refused(at, report, behind(line, 8), out),
-            _ => Ok(()),
-        },
+        Way::Summary => add_up(at, report, form, line, out),
         Way::Denied => tell_denied(form, line, out),
         Way::Json => write_json(at, report, form, line, out),
         Way::Csv => write_csv(at, report, form, line, out),
+    }
+}
+
+/// Appends what the table tells of a line where it stands: a command that was refused, or what stopped a run.
+fn add_up(
+    at: Option<u64>,
+    report: u64,
+    form: Form,
+    line: &[u8],
+    out: &mut Vec<u8>,
+) -> Result<(), OutOfMemory>
+    ensures { OnOk result (out.new.items
+        ≡ out.old.items ++ form_text Way.Summary at report form line.now) }
+{
+    match form {
+        Form::Refused => write_refused(at, report, behind(line, 8), out),
+        Form::Capture | Form::Limit | Form::Script => write_ended(report, line, out),
+        _ => Ok(()),
     }
 }
 
@@ -224,7 +239,11 @@ fn count_form(form: Form, line: &[u8], progress: &mut Progress)
             progress.due = number_told(Field::Lines, form, line);
         }
         Form::Flow | Form::End => {}
-        Form::Capture | Form::Limit | Form::Script | Form::Finished => progress.finished = true,
+        Form::Capture | Form::Limit | Form::Script => {
+            progress.stopped = risen(progress.stopped);
+            progress.finished = true;
+        }
+        Form::Finished | Form::Ok => progress.finished = true,
     }
 }
 
@@ -269,7 +288,7 @@ pub fn tell_end(way: Way, report: u64, finished: bool, out: &mut Vec<u8>) -> Res
         return Ok(());
     }
     match way {
-        Way::Summary => Ok(()),
+        Way::Summary => write_ended(report, b"unfinished", out),
         Way::Denied => {
             out.extend_from_slice(b"unfinished ")?;
             write_decimal(report, out)?;
