@@ -58,7 +58,7 @@ starts_of_pieces pieces = map (λ n. concat (take n pieces)) (range_with_len 0 (
 
 -- a command was refused, a packet denied, or a report has no good end: it was stopped, or is unfinished
 abbrev pub is_amiss : Progress → Bool
-is_amiss p = not (p.refused == 0 && (p.denied == 0 && (p.stopped == 0 && p.unfinished == 0)))
+is_amiss p = not (p.refused == 0 && p.denied == 0 && p.stopped == 0 && p.unfinished == 0)
 
 -- What is printed: the pieces of the course, and behind them what was added up, or the line that tells why a text is no script, or where one is no report.
 abbrev pub course_report : Way → Course → Report
