@@ -301,18 +301,30 @@ fn joined(rt: &impl Abort, alloc: Global, first: &str, second: &str) -> Vec<u8> 
     text
 }
 
-/// Asks for the report by these words, the first of which is `-e`, and by the others alone.
+/// Asks for this report, behind one that ends well.
+fn asks_for(
+    rt: &impl Abort,
+    alloc: Global,
+    words: &[String],
+    text: &str,
+    status: u8,
+    printed: &[u8],
+) {
+    let mut depot = MemoryDepot::new(alloc, &[], 1_000_000).expect(rt, "memory");
+    depot.put("good", b"done\n").expect(rt, "memory");
+    depot.put("last", text.as_bytes()).expect(rt, "memory");
+    let mut sink = MemorySink::new(alloc, &[], 1_000_000).expect(rt, "memory");
+    let ended = report(alloc, words, &mut depot, &mut sink);
+    assert_eq!(rt; ended, status, "of {text}");
+    assert_eq!(rt; sink.bytes(), printed, "of {text}");
+}
+
+/// Asks for it by these words, the first of which is `-e`, and by the others alone.
 fn tells_end(rt: &impl Abort, alloc: Global, line: &str, end: &ReportEnd, printed: &[u8]) {
     let words = words_in(rt, alloc, line);
-    for (front, status) in [(0, end.status), (1, 0)] {
-        let mut depot = MemoryDepot::new(alloc, &[], 1_000_000).expect(rt, "memory");
-        depot.put("good", b"done\n").expect(rt, "memory");
-        depot.put("last", end.text.as_bytes()).expect(rt, "memory");
-        let mut sink = MemorySink::new(alloc, &[], 1_000_000).expect(rt, "memory");
-        let ended = report(alloc, &words[front..], &mut depot, &mut sink);
-        let text = end.text;
-        assert_eq!(rt; ended, status, "of {line} and {text}");
-        assert_eq!(rt; sink.bytes(), printed, "of {line} and {text}");
+    asks_for(rt, alloc, &words, end.text, end.status, printed);
+    if let [_, others @ ..] = words.as_slice() {
+        asks_for(rt, alloc, others, end.text, 0, printed);
     }
 }
 
