@@ -224,7 +224,7 @@ const UNFINISHED: &str =
 const GOOD_ROWS: &str =
     "report,line,step,node,answer,lines,flow,input,number,became,label,receiver,carrier,denial,name,octet,category,cause,hop,versions,packets,passed,denied,capture,kind,at,limit,most,nodes,commands,flows,text\n1,done,,,,,,,,,,,,,,,,,,,,,,,,,,,,,,\n";
 
-/// Reports behind one that ends with `done`, and what is told of them.
+/// Reports that follow one that ends with `done`, and what is printed of them.
 const ENDS: [ReportEnd; 7] = [
     ReportEnd {
         text: "done\n",
@@ -301,7 +301,7 @@ fn joined(rt: &impl Abort, alloc: Global, first: &str, second: &str) -> Vec<u8> 
     text
 }
 
-/// Asks for this report, behind one that ends well.
+/// Asks for this report, which follows one that ends well.
 fn asks_for(
     rt: &impl Abort,
     alloc: Global,

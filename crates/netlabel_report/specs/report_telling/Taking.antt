@@ -60,7 +60,7 @@ is_denial_form form.DeniedCause = true
 is_denial_form form.DeniedFrame = true
 is_denial_form form = false
 
--- a report's last line that tells what stopped the run: a broken capture, a passed limit, or a fault of the script
+-- a report's last line that says what stopped the run: a broken capture, a passed limit, or a fault of the script
 abbrev pub is_stop_form : Form → Bool
 is_stop_form form.Capture = true
 is_stop_form form.Limit = true

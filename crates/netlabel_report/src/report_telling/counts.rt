@@ -13,7 +13,7 @@ const MOST_TALLIES: usize = 4096;
 /// How many there were of each, and where a reading stands; a number stands still at its type's end.
 #[derive(Clone, Copy)]
 pub struct Progress {
-    /// Reports that were read to their end, those of them that end too early, and those whose last line tells what stopped the run.
+    /// Reports that were read to their end, those of them that end too early, and those whose last line says what stopped the run.
     pub reports: u64,
     pub unfinished: u64,
     pub stopped: u64,

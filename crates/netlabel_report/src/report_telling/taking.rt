@@ -149,7 +149,7 @@ fn tell_form(
     }
 }
 
-/// Appends what the table tells of a line where it stands: a command that was refused, or what stopped a run.
+/// Appends what the table has of a line where it stands: a command that was refused, or what stopped a run.
 fn add_up(
     at: Option<u64>,
     report: u64,
