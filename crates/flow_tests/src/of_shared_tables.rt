@@ -116,7 +116,7 @@ fn replies<R: Wait + Abort>(rt: &R, publisher: &mut Publisher, wanted: &str)
 // The next look finds this.
 fn finds(rt: &impl Abort, viewer: &mut Viewer, wanted: (u32, bool, bool))
     requires { viewer.old.plan.nodes ≡ 1 }
-    ensures { viewer.new.plan ≡ viewer.old.plan }
+    ensures { (viewer.new.board ≡ viewer.old.board) × (viewer.new.plan ≡ viewer.old.plan) }
 {
     same(rt, wanted, looked(rt, viewer), wanted);
 }
