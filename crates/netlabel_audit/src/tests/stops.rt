@@ -143,8 +143,8 @@ fn tells_failed_writes(rt: HostRuntime) {
     assert!(rt; status == 1 && printed.is_empty());
 }
 
-/// With pieces of this length the call reads 16 times: the script, the report and the capture, and the two again.
-const READS: u32 = 16;
+/// With pieces of this length the call reads 12 times: the script, the report and the capture, and the two again.
+const READS: u32 = 12;
 
 /// Whichever read fails, nothing is printed.
 #[test]

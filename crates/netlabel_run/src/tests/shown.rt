@@ -295,16 +295,32 @@ fn tells_writes_that_fail(rt: HostRuntime) {
     }
 }
 
-/// How many reads of that capture there are, each of which is told where it fails: in front of the first line, or behind the last one.
+/// Whether the lines of no packet, of one, two or three are printed where the read of this number fails.
+fn shows_some_lines<R: Abort + Threads + Wait + Sync>(
+    rt: &R,
+    alloc: Global,
+    three: &Three,
+    read: u32,
+    length: usize,
+) -> bool {
+    let none = shows_up_to(rt, alloc, three, read, &(length, 0, 3, 0));
+    let one = shows_up_to(rt, alloc, three, read, &(length, 0, 3, 15));
+    let two = shows_up_to(rt, alloc, three, read, &(length, 0, 3, 30));
+    let three = shows_up_to(rt, alloc, three, read, &(length, 0, 3, 45));
+    none || one || two || three
+}
+
+/// How many reads of that capture there are. Where one fails, the lines of the packets before it are printed.
 fn reads_that_fail<R: Abort + Threads + Wait + Sync>(rt: &R, alloc: Global, three: &Three) -> u32 {
     let length = three.length_of(3);
     for read in 1..100u32 {
         if shows_up_to(rt, alloc, three, read, &(length, 0, 0, 59)) {
             return read - 1;
         }
-        let first = shows_up_to(rt, alloc, three, read, &(length, 0, 3, 0));
-        let last = shows_up_to(rt, alloc, three, read, &(length, 0, 3, 45));
-        assert!(rt; first || last, "at read {read}");
+        assert!(rt;
+            shows_some_lines(rt, alloc, three, read, length),
+            "at read {read}"
+        );
     }
     0
 }
