@@ -57,7 +57,7 @@ def built(program):
 
 def is_current():
     """As `./netlabel` asks, before it runs the proved program."""
-    asks = 'here=$1 && . "$here/lib/program.sh" && is_current'
+    asks = 'here=$1 && . "$here/lib/program.sh" && use_program netlabel && is_current'
     return subprocess.run(["sh", "-c", asks, "sh", TOP]).returncode == 0
 
 
