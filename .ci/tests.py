@@ -8,6 +8,7 @@ import contextlib
 import os
 import pathlib
 import re
+import shutil
 import subprocess
 import sys
 import tempfile
@@ -126,7 +127,7 @@ def without_what_it_needs():
             ran = called(["/bin/sh", folder / "netlabel", "show", "x"], env={"PATH": made})
             is_told = ran.returncode == NO_PROGRAM and not ran.stdout and missing in ran.stderr.decode()
             found.append([] if is_told else [f"netlabel doesn't say what is missing ({missing}): {ran}"])
-            (folder / "lib").symlink_to(TOP / "lib") if not (folder / "lib").exists() else None
+            shutil.copytree(TOP / "lib", folder / "lib", dirs_exist_ok=True)
     return of_calls(found)
 
 
