@@ -117,15 +117,24 @@ def test_disk(house):
         house.fails("a full disk: a capture that is made", "netlabel", ["make", "7", "3000", "disk/o.pcap"], 4, why)
 
 
+def heed_signals():
+    """Takes signals as they come: whoever runs these tests may ignore some, as a shell does for what it runs in the background."""
+    for number in (signal.SIGINT, signal.SIGTERM, signal.SIGHUP):
+        signal.signal(number, signal.SIG_DFL)
+
+
 @contextlib.contextmanager
 def waiting(house, **how):
     """A call that waits for a pipe, once the program has begun."""
     os.mkfifo(house.folder / "pipe")
     quiet = {"stdin": subprocess.DEVNULL, "stdout": subprocess.DEVNULL, "stderr": subprocess.DEVNULL}
-    with subprocess.Popen([house.scripts / "netlabel", "show", "pipe"], cwd=house.folder, **quiet, **how) as begun:
-        while not running(house):
-            time.sleep(0.1)
-        yield begun
+    with subprocess.Popen([house.scripts / "netlabel", "show", "pipe"], cwd=house.folder, preexec_fn=heed_signals, **quiet, **how) as begun:
+        try:
+            while not running(house):
+                time.sleep(0.1)
+            yield begun
+        finally:
+            begun.kill()
     (house.folder / "pipe").unlink()
 
 
