@@ -19,6 +19,6 @@ mod reader;
 
 pub use fault::{FileFault, ReadStop};
 pub use format::CaptureFormat;
-pub use output::{add_frame, append_rest, create_capture};
+pub use output::{add_frame, append_rest, create_capture, finish_capture};
 pub use packet_in::{Octets, PacketIn};
 pub use reader::CaptureReader;

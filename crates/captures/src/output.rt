@@ -78,3 +78,20 @@ pub fn append_rest<D: Depot>(depot: &mut D, name: &str, waits: &mut Vec<u8>) -> 
         Err(fault) => Err(fault),
     }
 }
+
+/// Appends all that waits, and ends the file. An Err may be an error that comes late, after all of it was appended.
+pub fn finish_capture<D: Depot>(
+    depot: &mut D,
+    name: &str,
+    waits: &mut Vec<u8>,
+) -> Result<(), IoFault>
+    requires { IsTrue (D.state depot.old).tells → IsSome ((D.state depot.old).held name.now) }
+    ensures appended { HasAppended result name.now [] waits.old.items waits.new.items
+        (D.state depot.old) (D.state depot.new) }
+    ensures empty { OnOk result (waits.new.items ≡ []) }
+{
+    match append_rest(depot, name, waits) {
+        Ok(()) => depot.finish(name),
+        Err(fault) => Err(fault),
+    }
+}

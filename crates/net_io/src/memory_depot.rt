@@ -129,4 +129,19 @@ impl Depot for MemoryDepot {
         let n = bytes.len().min(self.plan.piece);
         self.kept.append(name, &bytes[..n])
     }
+
+    fn finish(&mut self, name: &str) -> Result<(), IoFault>
+        requires { IsTrue (memory_state self.old).tells
+            → IsSome ((memory_state self.old).held name.now) }
+        ensures kept { IsTrue (memory_state self.old).tells
+            → SameHeld (memory_state self.old).held (memory_state self.new).held }
+        ensures frame { OnlyAppends IoFault.Failed result name.now (memory_state self.old)
+            (memory_state self.new) }
+        ensures plan { FollowsPlan ⊥ result (memory_plan self.old) (memory_plan self.new) }
+    {
+        if self.plan.fails_next() {
+            return Err(fault_of(&mut self.kept.failed, DepotCall::Append, name));
+        }
+        self.kept.finish(name)
+    }
 }

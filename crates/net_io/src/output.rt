@@ -1,4 +1,4 @@
-//! The file that was made last, which stays open.
+//! The file that was made last, which stays open until it is finished.
 ghost use Rattle.std.specs.Prelude.{◌≡◌, OnOk, OnErr, IfOk};
 ghost use Rattle.net_io.specs.Depot.{IsPart};
 
@@ -62,4 +62,20 @@ pub fn append_to<R: Files>(
     }
     let mut file = OpenOptions::new().append(true).open(files, name)?;
     append_piece(&mut file, bytes)
+}
+
+/// Ends the file that was made last, where it had this name: its octets are passed on to the disk, which answers errors that come late, and it is closed.
+pub fn finish_output<F: OpenFile + Drop>(
+    output: &mut Option<Output<F>>,
+    name: &str,
+) -> io::Result<()> {
+    let Some(made) = output else {
+        return Ok(());
+    };
+    if made.name.as_str() != name {
+        return Ok(());
+    }
+    let passed_on = made.file.sync_data();
+    *output = None;
+    passed_on
 }

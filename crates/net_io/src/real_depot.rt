@@ -9,7 +9,7 @@ ghost use Rattle.net_io.specs.declared.fault.IoFault.TheVariants.{Failed, OutOfM
 use crate::guard::Guard;
 use crate::input::Input;
 use crate::making::guard_name;
-use crate::output::{Output, append_to, make_output};
+use crate::output::{Output, append_to, finish_output, make_output};
 use crate::piece::new_piece;
 use crate::{Depot, IoFault, OutOfMemory};
 use std::alloc::Global;
@@ -144,6 +144,13 @@ impl<R: Files + Drop> Depot for RealDepot<R> {
     fn append(&mut self, name: &str, bytes: &[u8]) -> Result<usize, IoFault> {
         match append_to(&self.files, &mut self.output, name, bytes) {
             Ok(n) => Ok(n),
+            Err(fault) => Err(counted(fault, &mut self.append_faults)),
+        }
+    }
+
+    fn finish(&mut self, name: &str) -> Result<(), IoFault> {
+        match finish_output(&mut self.output, name) {
+            Ok(()) => Ok(()),
             Err(fault) => Err(counted(fault, &mut self.append_faults)),
         }
     }

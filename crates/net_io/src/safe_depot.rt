@@ -145,4 +145,16 @@ impl Depot for SafeDepot {
         extend_file(&mut self.files, name, bytes)?;
         Ok(bytes.len())
     }
+
+    fn finish(&mut self, _name: &str) -> Result<(), IoFault>
+        requires { IsTrue (safe_state self.old).tells
+            → IsSome ((safe_state self.old).held _name.now) }
+        ensures kept { IsTrue (safe_state self.old).tells
+            → SameHeld (safe_state self.old).held (safe_state self.new).held }
+        ensures frame { OnlyAppends IoFault.Failed result _name.now (safe_state self.old)
+            (safe_state self.new) }
+        ensures safe { IsOk result }
+    {
+        Ok(())
+    }
 }
