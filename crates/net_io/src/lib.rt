@@ -21,6 +21,7 @@ mod plan;
 mod reading;
 mod real_depot;
 mod real_sink;
+mod retry;
 mod safe_depot;
 mod safe_sink;
 mod sink;

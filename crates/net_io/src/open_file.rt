@@ -1,6 +1,7 @@
 //! A file that stays open for further reads.
 ghost use Rattle.std.specs.Prelude.{◌≡◌, ◌<◌, ◌≤◌, ◌+◌, ◌-◌, ◌^◌, min, length, IfOk};
 
+use crate::retry::read_once;
 use std::alloc::{AllocError, Global};
 use std::io;
 use std::io::{Read, Seek, SeekFrom};
@@ -76,7 +77,7 @@ impl<F: Read + Seek + Drop> OpenFile<F> {
     {
         let from = self.place;
         self.place = NOWHERE;
-        let n = self.file.read(piece)?;
+        let n = read_once(&mut self.file, piece)?;
         if let Some(kept) = &mut self.kept {
             keep(kept, &piece[..n])?;
         }

@@ -4,6 +4,7 @@ ghost use Rattle.net_io.specs.Depot.{IsPart};
 
 use crate::guard::Guard;
 use crate::making::make_file;
+use crate::retry::write_once;
 use std::alloc::Global;
 use std::fs::{OpenFile, OpenOptions};
 use std::io;
@@ -39,7 +40,7 @@ pub fn make_output<R: Files>(
 fn append_piece<F: Write>(file: &mut F, bytes: &[u8]) -> io::Result<usize>
     ensures { IfOk result (λ n. IsPart n bytes.now) }
 {
-    let n = file.write(bytes)?;
+    let n = write_once(file, bytes)?;
     if n == 0 && !bytes.is_empty() {
         return Err(io::Error::from(io::ErrorKind::WriteZero));
     }

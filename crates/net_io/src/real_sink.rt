@@ -1,6 +1,7 @@
 //! Standard output. No clause tells what reaches it: this is the trusted edge.
 ghost use Rattle.std.specs.Prelude.{◌≡◌};
 
+use crate::retry::{Printer, write_once};
 use crate::{IoFault, Sink};
 use std::io::Print;
 
@@ -30,7 +31,7 @@ impl<R: Print> Sink for RealSink<R> {
 
     // A stream that takes nothing of some octets has failed.
     fn write(&mut self, bytes: &[u8]) -> Result<usize, IoFault> {
-        match self.out.write_some(bytes) {
+        match write_once(&mut Printer(&self.out), bytes) {
             Ok(n) if n > 0 || bytes.is_empty() => Ok(n),
             _ => {
                 self.faults = self.faults.saturating_add(1);
