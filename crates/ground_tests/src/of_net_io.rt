@@ -1,10 +1,13 @@
 //! What no clause says: that calls succeed with ample memory, and the real edge once each way.
 use crate::checks::same;
+use crate::of_net_io::worn::Worn;
 use net_io::*;
 use std::alloc::{Alloc, Global};
 use std::fs;
 use std::os::unix;
 use std::process::Abort;
+
+mod worn;
 
 // From an octet on, how many of four are read, and the buffer then.
 const READS: &[(u64, usize, [u8; 4])] = &[
@@ -79,6 +82,20 @@ fn calls_fail_by_plan(rt: HostRuntime) {
     same(&rt, "read", depot.read_at("c", 3, &mut [0]), Ok(1));
 }
 
+// The third call ends the file, which holds what was appended.
+#[test]
+fn ends_fail_by_plan(rt: HostRuntime) {
+    let mut depot = MemoryDepot::new(rt.alloc(), &[3], 9).expect(&rt, "memory");
+    depot.create("c").expect(&rt, "made");
+    append_all(&mut depot, "c", b"123").expect(&rt, "appended");
+    let ended = depot.finish("c");
+    same(&rt, "an end that fails", ended, Err(IoFault::Failed));
+    let found = depot.failed();
+    same(&rt, "failed call", found, Some(DepotCall::Append));
+    same(&rt, "held", depot.get("c"), Some(b"123".as_slice()));
+    same(&rt, "an end", depot.finish("c"), Ok(()));
+}
+
 #[test]
 fn writes_fail_by_plan(rt: HostRuntime) {
     let mut sink = MemorySink::new(rt.alloc(), &[2], 3).expect(&rt, "memory");
@@ -94,6 +111,7 @@ fn a_safe_depot_succeeds(rt: HostRuntime) {
     depot.put("a", b"x").expect(&rt, "memory");
     depot.create("c").expect(&rt, "made");
     append_all(&mut depot, "c", b"123").expect(&rt, "appended");
+    same(&rt, "an end", depot.finish("c"), Ok(()));
     let whole = read_whole(rt.alloc(), &mut depot, "c", 9).expect(&rt, "3 octets");
     same(&rt, "whole", whole.as_slice(), b"123".as_slice());
     same(&rt, "no failed call", depot.failed(), None);
@@ -152,6 +170,43 @@ fn real_files(rt: HostRuntime) {
     makes_and_reads(&rt, &rt, &name, &other);
     fs::remove_file(&rt, &name).expect(&rt, "removed");
     fs::remove_file(&rt, &other).expect(&rt, "removed");
+}
+
+fn is_held(files: &HostRuntime, rt: &impl Abort, name: &str, want: &str) {
+    let held = fs::read_to_string(files, name).ok();
+    same(rt, want, held.as_deref(), Some(want));
+}
+
+// What one folder makes, another one can't make before it is ended. It stays as it is.
+fn make_in_turn(files: &HostRuntime, rt: &impl Abort, name: &str) {
+    let mut first = RealDepot::new(files, files.alloc()).expect(rt, "memory");
+    let mut second = RealDepot::new(files, files.alloc()).expect(rt, "memory");
+    make_with(rt, &mut first, name, b"012");
+    let refused = second.create(name);
+    same(rt, "a file that is held", refused, Err(IoFault::Failed));
+    is_held(files, rt, name, "012");
+    same(rt, "an end", first.finish(name), Ok(()));
+    same(rt, "made anew", second.create(name), Ok(()));
+    is_held(files, rt, name, "");
+}
+
+// Calls that were interrupted are made again, a file is made where none can be held, and an error that comes late is told.
+fn makes_worn_files(files: &HostRuntime, rt: &impl Abort, name: &str) {
+    let mut depot = RealDepot::new(Worn(files), files.alloc()).expect(rt, "memory");
+    make_with(rt, &mut depot, name, b"012");
+    let read = (Ok(3), *b"012.");
+    same(rt, "read", fours(&mut depot, name, 0), (read, read));
+    same(rt, "an end", depot.finish(name), Err(IoFault::Failed));
+    is_held(files, rt, name, "012");
+}
+
+#[test]
+fn files_are_held_and_ended(rt: HostRuntime) {
+    let id = std::process::id(rt.process());
+    let name = format!(in rt.alloc(); "/tmp/net_io-{id}-held").expect(&rt, "memory");
+    make_in_turn(&rt, &rt, &name);
+    makes_worn_files(&rt, &rt, &name);
+    fs::remove_file(&rt, &name).expect(&rt, "removed");
 }
 
 // Names, in a folder of their own, of files that are protected or made, and of what is no regular file. The protected `to_later` leads to

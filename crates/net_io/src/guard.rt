@@ -1,5 +1,5 @@
 //! The files that no making may touch.
-ghost use Rattle.std.specs.Prelude.{◌≡◌, ◌<◌, ◌↔◌, ◌++◌, ◌∷◌, [], IsTrue, Contains, vec_len, vec_capacity, OnOk, OnErr};
+ghost use Rattle.std.specs.Prelude.{◌≡◌, ◌<◌, ◌↔◌, ◌++◌, ◌∷◌, [], true, false, IsTrue, Contains, vec_len, vec_capacity, OnOk, OnErr};
 ghost use Rattle.net_io.specs.Guarded.{Awaits};
 
 use std::alloc::{AllocError, Global};
@@ -23,11 +23,12 @@ impl Identity {
     }
 }
 
-/// The files that were protected or made, and the protected names that weren't there.
+/// The files that were protected or made, and the protected names that weren't there. A guard that is shut guards every file.
 #[derive(Debug, Drop)]
 pub struct Guard {
     kept: Vec<Identity>,
     awaited: Vec<String>,
+    shut: bool,
 }
 
 impl Guard {
@@ -35,11 +36,29 @@ impl Guard {
     pub fn new(alloc: Global) -> Guard
         ensures kept { result.kept.items ≡ [] }
         ensures awaited { result.awaited.items ≡ [] }
+        ensures shut { result.shut ≡ false }
     {
         Guard {
             kept: Vec::new(alloc),
             awaited: Vec::new(alloc),
+            shut: false,
         }
+    }
+
+    /// Guards every file from now on.
+    pub fn shut(&mut self)
+        ensures shut { self.new.shut ≡ true }
+        ensures kept { self.new.kept ≡ self.old.kept }
+        ensures awaited { self.new.awaited ≡ self.old.awaited }
+    {
+        self.shut = true;
+    }
+
+    /// Whether every file is guarded.
+    pub fn is_shut(&self) -> bool
+        ensures { result ≡ self.now.shut }
+    {
+        self.shut
     }
 
     /// Whether a file is kept.
@@ -61,6 +80,7 @@ impl Guard {
         ensures room { OnOk result (vec_len self.new.kept < vec_capacity self.new.kept) }
         ensures kept { self.new.kept.items ≡ self.old.kept.items }
         ensures awaited { self.new.awaited ≡ self.old.awaited }
+        ensures shut { self.new.shut ≡ self.old.shut }
     {
         self.kept.reserve(1)
     }
@@ -70,6 +90,7 @@ impl Guard {
         requires { vec_len self.old.kept < vec_capacity self.old.kept }
         ensures kept { self.new.kept.items ≡ self.old.kept.items ++ identity ∷ [] }
         ensures awaited { self.new.awaited ≡ self.old.awaited }
+        ensures shut { self.new.shut ≡ self.old.shut }
     {
         self.kept.push_reserved(identity);
     }
@@ -79,6 +100,7 @@ impl Guard {
         ensures ok { OnOk result (self.new.kept.items ≡ self.old.kept.items ++ identity ∷ []) }
         ensures err { OnErr result (self.new.kept.items ≡ self.old.kept.items) }
         ensures awaited { self.new.awaited ≡ self.old.awaited }
+        ensures shut { self.new.shut ≡ self.old.shut }
     {
         self.make_room()?;
         self.keep(identity);
@@ -90,6 +112,7 @@ impl Guard {
         ensures ok { OnOk result (Awaits name.now self.old.awaited.items self.new.awaited.items) }
         ensures err { OnErr result (self.new.awaited.items ≡ self.old.awaited.items) }
         ensures kept { self.new.kept ≡ self.old.kept }
+        ensures shut { self.new.shut ≡ self.old.shut }
     {
         let name = String::from_str(*self.awaited.allocator(), name)?;
         self.awaited.push(name)?;

@@ -1,11 +1,12 @@
 //! Files of a real folder that are guarded: those that a call reads, and those that it makes.
-ghost use Rattle.std.specs.Prelude.{◌≡◌, Contains, OnOk, OnErr, IfOk};
+ghost use Rattle.std.specs.Prelude.{◌≡◌, IsTrue, Contains, OnOk, OnErr, IfOk, IsErr};
 ghost use Rattle.std.specs.Fs.{file_type, IsFile};
 ghost use Rattle.net_io.specs.Guarded.{Guards};
 ghost use Rattle.net_io.specs.inside.Kept.{KeepsAnother};
 
 use crate::OutOfMemory;
 use crate::guard::{Guard, Identity};
+use crate::lock::{Lock, hold};
 use std::fs::{Metadata, OpenFile, OpenOptions};
 use std::io;
 use std::rt::Files;
@@ -60,24 +61,31 @@ fn open_identity<R: Files>(files: &R, guard: &Guard, file: &R::File) -> io::Resu
     free_identity(files, guard, &file.metadata()?)
 }
 
-/// Cuts a file that is there to no octets. It is asked for anew once it is open: the name may be another file's by then.
+/// Cuts a file that is there to no octets. It is asked for anew once it is open: the name may be another file's by then. One that another
+/// call holds stays as it is.
 fn empty_file<R: Files>(files: &R, guard: &Guard, name: &str) -> io::Result<Made<R::File>>
+where
+    R::File: Lock,
     ensures { IfOk result (λ made. Contains guard.now.kept.items made.identity → ⊥) }
 {
     let file = OpenOptions::new().append(true).open(files, name)?;
     let identity = open_identity(files, guard, &file)?;
+    hold(&file)?;
     file.set_len(0)?;
     Ok(Made { identity, file })
 }
 
-/// Makes a file of a name that isn't there. Where it turns out to be a protected one, it is removed again.
+/// Makes a file of a name that isn't there. Where it turns out to be a protected one, it is removed again, unless another call holds it by then.
 fn new_file<R: Files>(files: &R, guard: &Guard, name: &str) -> io::Result<Made<R::File>>
+where
+    R::File: Lock,
     ensures { IfOk result (λ made. Contains guard.now.kept.items made.identity → ⊥) }
 {
     let file = OpenOptions::new()
         .append(true)
         .create_new(true)
         .open(files, name)?;
+    hold(&file)?;
     match open_identity(files, guard, &file) {
         Ok(identity) => Ok(Made { identity, file }),
         Err(fault) => {
@@ -87,13 +95,19 @@ fn new_file<R: Files>(files: &R, guard: &Guard, name: &str) -> io::Result<Made<R
     }
 }
 
-/// Makes the name hold no octets, whether or not it was there, unless it is a name of a guarded file or of something that is no
-/// regular file. What was made is guarded, and open for appending. After an Err each file that was there holds what it held.
+/// Makes the name hold no octets, whether or not it was there, unless it is a name of a guarded file, of one that another call holds, or of
+/// something that is no regular file. What was made is guarded, held, and open for appending. After an Err each file that was there holds what it held.
 pub fn make_file<R: Files>(files: &R, guard: &mut Guard, name: &str) -> io::Result<R::File>
+where
+    R::File: Lock,
     ensures ok { OnOk result (KeepsAnother guard.old.kept.items guard.new.kept.items) }
     ensures err { OnErr result (guard.new.kept.items ≡ guard.old.kept.items) }
     ensures awaited { guard.new.awaited ≡ guard.old.awaited }
+    ensures shut { IsTrue guard.old.shut → IsErr result }
 {
+    if guard.is_shut() {
+        return Err(io::Error::from(io::ErrorKind::PermissionDenied));
+    }
     guard.make_room()?;
     let made = match files.metadata(name) {
         Ok(found) => {

@@ -1,8 +1,10 @@
 //! The file that was made last, which stays open until it is finished.
-ghost use Rattle.std.specs.Prelude.{◌≡◌, OnOk, OnErr, IfOk};
+ghost use Rattle.std.specs.Prelude.{◌≡◌, IsTrue, OnOk, OnErr, IfOk, IsErr};
 ghost use Rattle.net_io.specs.Depot.{IsPart};
+ghost use Rattle.net_io.specs.inside.Kept.{KeepsAnother};
 
 use crate::guard::Guard;
+use crate::lock::Lock;
 use crate::making::make_file;
 use crate::retry::write_once;
 use std::alloc::Global;
@@ -18,14 +20,20 @@ pub struct Output<F> {
     file: F,
 }
 
-/// Makes a file, which stays open in place of the one that was.
+/// Makes a file, which stays open and held in place of the one that was.
 pub fn make_output<R: Files>(
     alloc: Global,
     files: &R,
     guard: &mut Guard,
     output: &mut Option<Output<R::File>>,
     name: &str,
-) -> io::Result<()> {
+) -> io::Result<()>
+where
+    R::File: Lock,
+    ensures ok { OnOk result (KeepsAnother guard.old.kept.items guard.new.kept.items) }
+    ensures err { OnErr result (guard.new.kept.items ≡ guard.old.kept.items) }
+    ensures shut { IsTrue guard.old.shut → IsErr result }
+{
     let own_name = String::from_str(alloc, name)?;
     *output = None;
     let file = make_file(files, guard, name)?;

@@ -1,13 +1,15 @@
 //! The files of the folder that the program runs in. No clause tells what a disk holds: this is the trusted edge.
-ghost use Rattle.std.specs.Prelude.{◌≡◌, ◌≤◌, codes, IfOk, OnOk};
+ghost use Rattle.std.specs.Prelude.{◌≡◌, ◌≤◌, [], IsTrue, IfOk, OnOk, OnErr, IsErr};
 ghost use Rattle.net_io.specs.Faults.{Rose};
+ghost use Rattle.net_io.specs.Depot.{NowHolds, SameHeld, OnlyCreates};
 ghost use Rattle.net_io.specs.Memory.{IsFresh};
 ghost use Rattle.net_io.specs.Guarded.{Guards};
-ghost use Rattle.net_io.specs.inside.Kept.{GuardsAlone};
+ghost use Rattle.net_io.specs.inside.Kept.{GuardsOneOrAll};
 ghost use Rattle.net_io.specs.declared.fault.IoFault.TheVariants.{Failed, OutOfMemory as IoOutOfMemory};
 
-use crate::guard::Guard;
+use crate::guard::{Guard, Identity};
 use crate::input::Input;
+use crate::lock::Lock;
 use crate::making::guard_name;
 use crate::output::{Output, append_to, finish_output, make_output};
 use crate::piece::new_piece;
@@ -24,13 +26,14 @@ const STANDARD_OUTPUT: &str = "/dev/stdout";
 
 /// The files of the program's folder. Their content isn't told. Each kind of call has one number of faults,
 /// which is that number for every name; it stays at its type's end. The file that was read last stays open, and so does the one that was made
-/// last: what is appended goes there, whatever has its name meanwhile.
+/// last, until it is finished: what is appended goes there, whatever has its name meanwhile. It is held as long (`Lock`).
 ///
-/// What is no regular file, as a pipe, is read once, from its beginning to its end: a read that goes back fails, but for one of its first four
-/// octets before any other, and so does one after another file was read.
+/// A FIFO or a socket is read once, from its beginning to its end. A read may go back over the last 524,288 octets that were read, and to the
+/// first one only while nothing that follows the first four was; another one that goes back fails, and so does one after another file was read.
 ///
-/// `create` is refused for each name of a file that was protected, that a `create` has made, or that is standard output; for what
-/// is no regular file, as a folder, a device, a terminal or a pipe, which isn't opened; and for a symlink that leads nowhere. Files
+/// `create` is refused for each name of a file that was protected, that a `create` has made, or that is standard output, and for every
+/// name where it can't be told which file that is; for a file that another process holds; for what is no
+/// regular file, as a folder, a device, a terminal or a pipe, which isn't opened; and for a symlink that leads nowhere. Files
 /// are told apart by their device and their number there, so another spelling, a symlink and a hard link are seen. What another
 /// process exchanges between two calls isn't, nor is a file in a file system whose numbers of files don't last.
 #[derive(Drop)]
@@ -48,7 +51,8 @@ pub struct RealDepot<R: Files> {
 impl<R: Files + Drop> RealDepot<R> {
     ghost use Rattle.net_io.specs.Real.{real_state};
 
-    /// The files that this runtime reaches, with no faults so far. The file that standard output is, is protected.
+    /// The files that this runtime reaches, with no faults so far. The file that standard output is, is protected; where `/dev/stdout` doesn't
+    /// lead to it, as where standard output is closed, every `create` is refused.
     pub fn new(files: R, alloc: Global) -> Result<RealDepot<R>, OutOfMemory>
         ensures { IfOk result (λ depot. IsFresh (real_state depot)) }
     {
@@ -66,12 +70,16 @@ impl<R: Files + Drop> RealDepot<R> {
     }
 }
 
-/// A guard of the file that standard output is, where that can be told.
+/// A guard of the file that standard output is. Where that can't be told, each file may be that one, and all are guarded.
 fn first_guard<R: Files>(alloc: Global, files: &R) -> Result<Guard, OutOfMemory>
-    ensures { IfOk result (λ guard. GuardsAlone (codes "/dev/stdout") guard) }
+    ensures { IfOk result (λ guard. GuardsOneOrAll guard) }
 {
     let mut guard = Guard::new(alloc);
-    guard_name(files, &mut guard, STANDARD_OUTPUT)?;
+    match files.metadata(STANDARD_OUTPUT) {
+        Ok(found) => guard.protect(Identity::of(&found))?,
+        Err(fault) if fault.kind() == io::ErrorKind::OutOfMemory => return Err(OutOfMemory),
+        Err(_) => guard.shut(),
+    }
     Ok(guard)
 }
 
@@ -88,7 +96,10 @@ fn counted(fault: io::Error, faults: &mut u64) -> IoFault
     IoFault::Failed
 }
 
-impl<R: Files + Drop> Depot for RealDepot<R> {
+impl<R: Files + Drop> Depot for RealDepot<R>
+where
+    R::File: Lock,
+{
     ghost use Rattle.net_io.specs.Real.{real_state, real_guard};
 
     ghost state = { real_state };
@@ -133,7 +144,15 @@ impl<R: Files + Drop> Depot for RealDepot<R> {
         self.input.may_wait(name)
     }
 
-    fn create(&mut self, name: &str) -> Result<(), IoFault> {
+    fn create(&mut self, name: &str) -> Result<(), IoFault>
+        ensures ok { OnOk result (IsTrue (real_state self.old).tells
+            → NowHolds name.now [] (real_state self.old).held (real_state self.new).held) }
+        ensures err { OnErr result (IsTrue (real_state self.old).tells
+            → SameHeld (real_state self.old).held (real_state self.new).held) }
+        ensures frame { OnlyCreates IoFault.Failed result name.now (real_state self.old)
+            (real_state self.new) }
+        ensures shut { IsTrue (real_guard self.old).shut → IsErr result }
+    {
         let alloc = *self.piece.allocator();
         match make_output(alloc, &self.files, &mut self.guard, &mut self.output, name) {
             Ok(()) => Ok(()),

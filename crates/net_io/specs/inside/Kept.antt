@@ -1,5 +1,5 @@
 -- What the making of a file keeps, and what a new guard has.
-use Rattle.std.specs.Prelude.{◌≡◌, ◌⊎◌, ℕ, List, [], ◌∷◌, ◌++◌, Contains, map, string_bytes}
+use Rattle.std.specs.Prelude.{◌≡◌, ◌⊎◌, IsTrue, List, [], ◌∷◌, ◌++◌, Contains}
 use Rattle.net_io.specs.declared.guard.Identity.{Identity}
 use Rattle.net_io.specs.declared.guard.Guard.{Guard}
 
@@ -9,6 +9,6 @@ pub record KeepsAnother (old new : List Identity) : Type 0 where
   pub free : Contains old made → ⊥
   pub kept : new ≡ old ++ made ∷ []
 
--- nothing else is guarded than a file, or this name, which is awaited
-abbrev pub GuardsAlone : List ℕ → Guard → Type 0
-GuardsAlone name guard = ((identity : Identity) × (guard.kept.items ≡ identity ∷ [])) ⊎ (map string_bytes guard.awaited.items ≡ name ∷ [])
+-- one file is guarded, or every one
+abbrev pub GuardsOneOrAll : Guard → Type 0
+GuardsOneOrAll guard = ((identity : Identity) × (guard.kept.items ≡ identity ∷ [])) ⊎ IsTrue guard.shut
