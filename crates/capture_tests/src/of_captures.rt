@@ -6,7 +6,7 @@ ghost use Rattle.captures.specs.Written.{IsTime};
 
 use crate::checks::{holds, same};
 use captures::*;
-use net_io::MemoryDepot;
+use net_io::{IoFault, MemoryDepot};
 use pcap_frames::{CaptureFault, CaptureKind, FrameHead};
 use pcapng_frames::{NgFault, NgKind};
 use std::alloc::{AllocError, Global};
@@ -398,6 +398,34 @@ fn a_capture_is_made_in_pieces(rt: HostRuntime) {
     add_frame(&mut depot, "c", RAW, HEAD, b"123", &mut waits).expect(&rt, "waits");
     append_rest(&mut depot, "c", &mut waits).expect(&rt, "appended");
     is_made(&rt, depot.get("c").expect(&rt, "there"));
+}
+
+/// The head of a capture is finished where the call of this number fails: the file is made, appended to and ended.
+fn is_finished(
+    rt: &impl Abort,
+    alloc: Global,
+    fails: u32,
+    finished: Result<(), IoFault>,
+    octets: usize,
+) {
+    let mut depot = MemoryDepot::new(alloc, &[fails], 9).expect(rt, "memory");
+    let mut waits = create_capture(alloc, &mut depot, "c", RAW).expect(rt, "made");
+    let found = finish_capture(&mut depot, "c", &mut waits);
+    same(rt, fails, found, finished);
+    same(
+        rt,
+        fails,
+        depot.get("c").map(|file| file.len()),
+        Some(octets),
+    );
+}
+
+#[test]
+fn a_capture_is_finished(rt: HostRuntime) {
+    let alloc = rt.alloc();
+    is_finished(&rt, alloc, 3, Err(IoFault::Failed), 9);
+    is_finished(&rt, alloc, 5, Err(IoFault::Failed), 24);
+    is_finished(&rt, alloc, 6, Ok(()), 24);
 }
 
 fn is_made(rt: &impl Abort, made: &[u8]) {

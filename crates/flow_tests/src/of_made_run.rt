@@ -23,7 +23,7 @@ const CAPTURES: &[(u64, u32, u32, u32, u64)] = &[
 ];
 
 /// Appends that fail, by their numbers among all calls, and how many octets of the capture of 600 packets the file holds then. An append
-/// takes at most 4,096 octets; the first piece has 16,432, the second 16,408, and 784 are left.
+/// takes at most 4,096 octets; the first piece has 16,432, the second 16,408, and 784 are left. The last call ends the file, which is whole.
 const FAILS: &[(u32, usize)] = &[
     (2, 0),
     (3, 4096),
@@ -32,6 +32,7 @@ const FAILS: &[(u32, usize)] = &[
     (8, 20528),
     (11, 32816),
     (12, 32840),
+    (13, 33624),
 ];
 
 // FNV-1a of 64 bits.
@@ -99,7 +100,7 @@ fn stops_at_append(
 
 #[test]
 fn appends_that_fail_stop_a_making(rt: HostRuntime) {
-    let mut depot = folder(&rt, rt.alloc(), 13);
+    let mut depot = folder(&rt, rt.alloc(), 14);
     let made = made(&rt, rt.alloc(), 1, 600, &mut depot);
     assert!(rt; made.is_ok() && depot.failed().is_none());
     let whole = depot.get("made.pcap").expect(&rt, "a file");

@@ -6,7 +6,7 @@ ghost use Rattle.made_run.specs.Ends.{stop_of};
 ghost use Rattle.made_run.specs.inside.File.{HasBegun, HasSent};
 
 use crate::stop::MadeStop;
-use captures::{CaptureFormat, append_rest, create_capture};
+use captures::{CaptureFormat, append_rest, create_capture, finish_capture};
 use net_io::{Depot, IoFault};
 use std::alloc::Global;
 
@@ -37,6 +37,23 @@ pub(crate) fn append_waiting<D: Depot>(
         (D.state depot.old) (D.state depot.new) }
 {
     match append_rest(depot, name, waiting) {
+        Ok(()) => Ok(()),
+        Err(IoFault::Failed) => Err(MadeStop::Append),
+        Err(IoFault::OutOfMemory) => Err(MadeStop::OutOfMemory),
+    }
+}
+
+/// Appends all that waits for the file, and ends it: an error that comes late stops the making as a failed append does.
+pub(crate) fn finish_file<D: Depot>(
+    depot: &mut D,
+    name: &str,
+    waiting: &mut Vec<u8>,
+) -> Result<(), MadeStop>
+    requires { IsTrue (D.state depot.old).tells → IsSome ((D.state depot.old).held name.now) }
+    ensures { HasSent name.now (stop_of result) waiting.old.items waiting.new.items
+        (D.state depot.old) (D.state depot.new) }
+{
+    match finish_capture(depot, name, waiting) {
         Ok(()) => Ok(()),
         Err(IoFault::Failed) => Err(MadeStop::Append),
         Err(IoFault::OutOfMemory) => Err(MadeStop::OutOfMemory),

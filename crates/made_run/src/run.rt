@@ -7,7 +7,7 @@ ghost use Rattle.made_run.specs.inside.Node.{made_hops, IsOpen};
 ghost use Rattle.made_run.specs.inside.Feed.{IsReadyFeed, IsNewFeed, HasRound, HasMade};
 
 use crate::feed::MakeFeed;
-use crate::file::{append_waiting, begin_file};
+use crate::file::{begin_file, finish_file};
 use crate::made_capture::Maker;
 use crate::node::{STEPS, made_flow, open_board};
 use crate::source::Source;
@@ -52,7 +52,7 @@ fn judge<D: Depot + Send, G: Gate + Sync, R: Threads + Wait + Sync>(
     }
 }
 
-// What waits for the file is appended where nothing stopped the feed.
+// What waits for the file is appended, and the file ended, where nothing stopped the feed.
 fn finish<D: Depot>(
     feed: &mut MakeFeed<'_, '_, D>,
     judged: Result<(), MadeStop>,
@@ -63,7 +63,7 @@ fn finish<D: Depot>(
         → HasMade D.state (stop_of result) was feed.new }
 {
     match judged {
-        Ok(()) => append_waiting(feed.depot, feed.name, &mut feed.waiting),
+        Ok(()) => finish_file(feed.depot, feed.name, &mut feed.waiting),
         Err(stop) => Err(stop),
     }
 }

@@ -15,7 +15,7 @@ use crate::course::{add_kept, add_line, counted, verdict_of};
 use crate::lines::{Counts, write_end};
 use crate::task::Task;
 use call_report::{PACKETS_LIMIT, Report, Status, packets_limit, write_capture};
-use captures::{FileFault, append_rest};
+use captures::{FileFault, finish_capture};
 use label_receive::Room;
 use mls_label::OutOfMemory;
 use net_io::{Depot, IoFault, Sink};
@@ -231,7 +231,7 @@ impl Crossing {
     }
 }
 
-/// Appends what waits for the output, and then ends the report.
+/// Appends what waits for the output and ends it, and then ends the report.
 fn end_crossed<D: Depot, S: Sink>(
     depot: &mut D,
     output: &str,
@@ -247,7 +247,7 @@ fn end_crossed<D: Depot, S: Sink>(
         (record { folder = D.state depot.old; stream = S.state out.old })
         (record { folder = D.state depot.new; stream = S.state out.new }) result }
 {
-    match append_rest(depot, output, waits) {
+    match finish_capture(depot, output, waits) {
         Ok(()) => report.end(out, last, due),
         Err(fault) => Status::after_write(fault),
     }

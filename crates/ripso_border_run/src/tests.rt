@@ -247,17 +247,18 @@ const ONE_MADE: &str =
 const ONE_PRINTED: &str = "packet 1 written\nend packets 1 passed 1 denied 0\n";
 
 /// The call of the folder that fails, the status, what is printed, and what the output holds.
-const CALLS: [(u32, u8, &str, &str); 7] = [
+const CALLS: [(u32, u8, &str, &str); 8] = [
     // The script is read, and its end.
     (1, 3, "", HELD),
     (2, 3, "", HELD),
     // The input's beginning is read, and then the output made.
     (3, 3, "", HELD),
     (4, 3, "", HELD),
-    // The next read, after a packet's line, and the append.
+    // The next read, after a packet's line, the append, and the end of the output.
     (5, 3, "packet 1 written\n", ""),
     (6, 4, "", ""),
-    (7, 0, ONE_PRINTED, ONE_MADE),
+    (7, 4, "", ONE_MADE),
+    (8, 0, ONE_PRINTED, ONE_MADE),
 ];
 
 /// A script and a capture, the write that fails, of which each takes 7 octets, the status, what is printed, and what the output holds.
@@ -278,13 +279,15 @@ const CUT: &str =
     "d4c3b2a10200040000000000000000000000040065000000010000000000000020000000200000004600002000000000401189460a0000010a00000282045a8003e8003500080000010000000000000020000000200000004600002000000000401189460a0000010a00000282045a8003e80035000800";
 
 /// Of 1000 packets: the call of the folder that fails, how many lines are printed, and how many octets the output holds.
-const APPENDS: [(u32, u64, usize); 4] = [
+const APPENDS: [(u32, u64, usize); 5] = [
     (5, 0, 0),
     (6, 0, 16432),
     // A piece of the report was printed.
     (7, 868, 32840),
     // The rest of the output: neither the rest of the lines nor the report's end is printed.
     (9, 868, 49248),
+    // The end of the output, which is whole.
+    (10, 868, 56024),
 ];
 
 /// A packet that goes in, in a capture.

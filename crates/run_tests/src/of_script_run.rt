@@ -4,7 +4,7 @@ ghost use Rattle.std.specs.Prelude.{ℕ, List};
 ghost use Rattle.label_commands.specs.Sound.{IsSoundScript};
 
 use label_commands::{Script, read_script};
-use net_io::{MemoryDepot, MemorySink};
+use net_io::{DepotCall, MemoryDepot, MemorySink};
 use script_run::*;
 use std::alloc::Global;
 use std::process::Abort;
@@ -226,6 +226,22 @@ fn flows_without_packets(rt: HostRuntime) {
         assert!(rt; status == wanted);
         assert_eq!(rt; printed.as_slice(), lines.as_bytes());
     }
+}
+
+// The eighth call ends the output of the first flow with packets, which is whole then; its `end` line isn't printed.
+#[test]
+fn an_output_whose_end_fails_has_no_end_line(rt: HostRuntime) {
+    let alloc = rt.alloc();
+    let one = capture(&rt, alloc, 1, 68);
+    let mut depot = folder(&rt, alloc, 8, &one);
+    let (status, printed) = ran(&rt, alloc, CROSSING, &mut depot, 0);
+    assert!(rt; status == Status::WriteFault);
+    assert!(rt; depot.failed() == Some(DepotCall::Append));
+    let far = depot.get("far.pcap").expect(&rt, "the output");
+    assert!(rt; far.len() == 84);
+    let rest = CROSSED.as_bytes().strip_prefix(printed.as_slice());
+    let rest = rest.expect(&rt, "the rest of the report");
+    assert!(rt; rest.starts_with(b"end 1 "));
 }
 
 // What is printed where a call fails begins what is printed where none does.

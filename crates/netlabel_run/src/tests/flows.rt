@@ -738,11 +738,27 @@ fn calls_that_fail<R: Threads + Wait + Sync + Abort>(rt: &R, alloc: Global, thre
     0
 }
 
+/// The last call ends the output, which is whole where that fails.
+fn tells_the_last_call<R: Threads + Wait + Sync + Abort>(
+    rt: &R,
+    alloc: Global,
+    three: &Three,
+    last: u32,
+) {
+    let capture = octets_in(rt, alloc, three);
+    let ran = passing(rt, alloc, &capture, last, 0);
+    assert_eq!(rt; ran.status, 4);
+    assert!(rt; has_no_end(rt, &ran) && all_seen_are_printed(rt, &ran));
+    assert!(rt; ran.depot.get("o.pcap") == Some(capture.as_slice()));
+}
+
 #[test]
 fn tells_each_call_that_fails(rt: HostRuntime) {
     for three in BOTH {
         // The script and the capture are read, and the output is written, by sevens.
-        assert!(rt; calls_that_fail(&rt, rt.alloc(), &three) > 60);
+        let calls = calls_that_fail(&rt, rt.alloc(), &three);
+        assert!(rt; calls > 60);
+        tells_the_last_call(&rt, rt.alloc(), &three, calls);
     }
 }
 

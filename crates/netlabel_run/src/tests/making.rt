@@ -174,8 +174,16 @@ fn tells_each_call_that_fails(rt: HostRuntime) {
         assert_eq!(rt; status == 3, number == 1, "at call {number}");
         met = number;
     }
-    // The file is made once, and its 192 octets are written by sevens.
-    assert!(rt; met > 28 && met < 999);
+    // The file is made once, its 192 octets are written by sevens, and it is ended.
+    assert!(rt; met == 30);
+}
+
+#[test]
+fn tells_an_end_of_the_file_that_fails(rt: HostRuntime) {
+    let alloc = rt.alloc();
+    let ran = made(&rt, alloc, "make 7 3 m.pcap", 30, 0);
+    assert!(rt; ran.status == 4 && ran.printed.is_empty());
+    assert!(rt; holds(&rt, alloc, &ran, THREE));
 }
 
 /// Which write fails (0: none), the status, and how many octets of the line are printed, by sevens.

@@ -107,7 +107,7 @@ pub record IsCrossing (task : Task) (plan : DoiPlan) (before now : Outside) (rea
   pub few : counts.packets ≤ packets_limit
   pub amid : IsTrue before.folder.tells → IsAmid task before.folder.held now.folder.held reader hand waits done made
 
--- What waits was appended, and then the report was printed to its end; or not all of it was appended; or memory ran out before.
+-- What waits was appended, and then the report was printed to its end; or an append or the end of the file failed, and some first octets of it were appended; or memory ran out before.
 pub data IsEnded (name waits body last : List ℕ) (due : Status) (old new : Outside) (status : Status) : Type 0 where
   appended : (x : Unit {0}) (left : List ℕ) → HasAppended (Ok x) name [] waits left old.folder new.folder → left ≡ [] → Printed body last due status old.stream new.stream
       → IsEnded name waits body last due old new status

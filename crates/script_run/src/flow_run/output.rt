@@ -16,7 +16,7 @@ use label_flow::{End, Walked};
 use net_io::{Depot, IoFault};
 use std::alloc::Global;
 
-/// Appends all that waits.
+/// Appends all that waits, and ends the file.
 pub(crate) fn append_waiting<D: Depot>(
     depot: &mut D,
     name: &FileName,
@@ -27,7 +27,7 @@ pub(crate) fn append_waiting<D: Depot>(
         octets.old.items octets.new.items (D.state depot.old) (D.state depot.new) }
     ensures empty { OnOk result (octets.new.items ≡ []) }
 {
-    match captures::append_rest(depot, name.text(), octets) {
+    match captures::finish_capture(depot, name.text(), octets) {
         Ok(()) => Ok(()),
         Err(IoFault::Failed) => Err(FlowStop::Append),
         Err(IoFault::OutOfMemory) => Err(FlowStop::OutOfMemory),
@@ -116,7 +116,7 @@ pub(crate) fn create_output<D: Depot>(
     }
 }
 
-/// Appends what waits for the output, if there is one.
+/// Appends what waits for the output, if there is one, and ends it.
 pub(crate) fn append_rest<D: Depot>(
     depot: &mut D,
     output: &Option<FileName>,

@@ -4,8 +4,8 @@ use Rattle.script_run.specs.declared.flow_run.end.FlowStop.TheVariants as the_st
 use Rattle.script_run.proofs.flow_run.Outputs.{there_is, has_appended}
 use Rattle.script_run.proofs.flow_run.output.append_waiting.Goals as goal
 
-pub append_rest-requires : goal.append_rest-requires
-append_rest-requires g c = there_is _ _ (g.D.Depot.state c.args.depot.now) c.text.ensures.text c.requires
+pub finish_capture-requires : goal.finish_capture-requires
+finish_capture-requires g c = there_is _ _ (g.D.Depot.state c.args.depot.now) c.text.ensures.text c.requires
 
 pub returns-in-Ok-clause-appended : goal.returns-in-Ok-clause-appended
 returns-in-Ok-clause-appended g c =
