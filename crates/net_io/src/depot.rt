@@ -65,11 +65,12 @@ pub trait Depot {
         ensures frame { OnlyAppends IoFault.Failed result name.now (state self.old)
             (state self.new) };
 
-    /// Ends a file that was appended to: answers errors that come late, as those of a network's file system, of a quota or of a disk. One that
-    /// fails is a failed append. Nothing held changes.
+    /// Ends a file that was appended to: answers errors that come late, as those of a network's file system, of a quota or of a disk.
+    /// One that fails is a failed append. Nothing held changes.
     fn finish(&mut self, name: &str) -> Result<(), IoFault>
         requires { IsTrue (state self.old).tells → IsSome ((state self.old).held name.now) }
-        ensures kept { IsTrue (state self.old).tells → SameHeld (state self.old).held (state self.new).held }
+        ensures kept { IsTrue (state self.old).tells
+            → SameHeld (state self.old).held (state self.new).held }
         ensures frame { OnlyAppends IoFault.Failed result name.now (state self.old)
             (state self.new) };
 }

@@ -75,7 +75,8 @@ where
     Ok(Made { identity, file })
 }
 
-/// Makes a file of a name that isn't there. Where it turns out to be a protected one, it is removed again, unless another call holds it by then.
+/// Makes a file of a name that isn't there. Where it turns out to be a protected one, it is removed again, unless another call holds
+/// it by then.
 fn new_file<R: Files>(files: &R, guard: &Guard, name: &str) -> io::Result<Made<R::File>>
 where
     R::File: Lock,
@@ -96,7 +97,8 @@ where
 }
 
 /// Makes the name hold no octets, whether or not it was there, unless it is a name of a guarded file, of one that another call holds, or of
-/// something that is no regular file. What was made is guarded, held, and open for appending. After an Err each file that was there holds what it held.
+/// something that is no regular file. What was made is guarded, held, and open for appending. After an Err each file that was there holds
+/// what it held.
 pub fn make_file<R: Files>(files: &R, guard: &mut Guard, name: &str) -> io::Result<R::File>
 where
     R::File: Lock,

@@ -73,7 +73,8 @@ pub fn append_to<R: Files>(
     append_piece(&mut file, bytes)
 }
 
-/// Ends the file that was made last, where it had this name: its octets are passed on to the disk, which answers errors that come late, and it is closed.
+/// Ends the file that was made last, where it had this name: its octets are passed on to the disk, which answers errors that come
+/// late, and it is closed.
 pub fn finish_output<F: OpenFile + Drop>(
     output: &mut Option<Output<F>>,
     name: &str,

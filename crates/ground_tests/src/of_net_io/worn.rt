@@ -1,4 +1,4 @@
-//! The system's files where little goes well: a signal interrupts the first read and the first write of each, none can be held, and each ends with an
+//! The system's files where little goes well: a signal interrupts the first read or write of each, none can be held, and each ends with an
 //! error that comes late.
 use net_io::Lock;
 use std::alloc::Allocator;
