@@ -303,23 +303,18 @@ fn plan_of(rt: &impl Abort, alloc: Global) -> Arc<Plan>
 fn begun<R: Wait + Abort>(
     rt: &R,
     alloc: Global,
-    network: Network,
     plan: Arc<Plan>,
-    version: u32,
     viewers: usize,
 ) -> (Publisher, Vec<Viewer>)
     requires viewers { (0 < viewers) × (viewers ≤ 16) }
-    requires version { version ≤ length (arc_value plan).steps }
-    requires network { network ≡ network_after (arc_value plan) version }
-    ensures publisher { (result.0.plan ≡ arc_value plan) × (result.0.version ≡ version) }
+    requires plan { (arc_value plan).nodes ≡ 1 }
+    ensures publisher { (result.0.plan ≡ arc_value plan) × (result.0.version ≡ 0) }
     ensures viewers { (length result.1.items ≡ viewers)
         × All (λ viewer. viewer
-        ≡ record { board = result.0.board; plan = arc_value plan; seen = version }) result.1.items }
+        ≡ record { board = result.0.board; plan = arc_value plan; seen = 0 }) result.1.items }
 {
-    match Board::begin(rt, alloc, network, plan, version, viewers) {
-        Ok(begun) => begun,
-        Err(_) => panic!(rt; "memory"),
-    }
+    let network = fresh(rt, alloc, &plan);
+    Board::begin(rt, alloc, &network, plan, 0, viewers).expect(rt, "memory")
 }
 
 fn fresh(rt: &impl Abort, alloc: Global, plan: &Arc<Plan>) -> Network
@@ -329,23 +324,13 @@ fn fresh(rt: &impl Abort, alloc: Global, plan: &Arc<Plan>) -> Network
     Network::fresh(alloc, 1).expect(rt, "memory")
 }
 
-// The tables after so many steps.
-fn network_at<R: Wait + Abort>(rt: &R, alloc: Global, plan: &Arc<Plan>, version: u32) -> Network
-    requires plan { (arc_value plan.now).nodes ≡ 1 }
-    requires version { version ≤ length (arc_value plan.now).steps }
-    ensures { result ≡ network_after (arc_value plan.now) version }
-{
-    let network = fresh(rt, alloc, plan);
-    let again = Arc::try_clone(plan).expect(rt, "memory");
-    let (publisher, _viewers) = begun(rt, alloc, network, again, 0, 1);
-    stepped(rt, publisher, version).close(rt)
-}
-
 // A publisher at version 0 behind so many steps.
 fn stepped<R: Wait + Abort>(rt: &R, publisher: Publisher, version: u32) -> Publisher
     requires steps { version ≤ length publisher.plan.steps }
     requires first { publisher.version ≡ 0 }
-    ensures { (result.plan ≡ publisher.plan) × (result.version ≡ version) }
+    ensures { (result.board ≡ publisher.board)
+        × (result.plan ≡ publisher.plan)
+        × (result.version ≡ version) }
 {
     let mut publisher = publisher;
     while publisher.version() < version {
@@ -373,7 +358,7 @@ fn all(packets: u64) -> Supply
     }
 }
 
-// A round up to version 4, over a board that begins at this version.
+// A round up to version 4, over a board that is at this version.
 fn run<G: Gate + Sync, R: Threads + Wait + Sync + Abort>(
     rt: &R,
     alloc: Global,
@@ -388,9 +373,8 @@ fn run<G: Gate + Sync, R: Threads + Wait + Sync + Abort>(
     requires packets { supply.packets < 2 ^ 32 }
 {
     let flow = flow_of(rt, alloc, line);
-    let plan = plan_of(rt, alloc);
-    let network = network_at(rt, alloc, &plan, version);
-    let (mut publisher, mut viewers) = begun(rt, alloc, network, plan, version, workers);
+    let (publisher, mut viewers) = begun(rt, alloc, plan_of(rt, alloc), workers);
+    let mut publisher = stepped(rt, publisher, version);
     let mut feed = Copies {
         alloc,
         made: 0,
@@ -405,7 +389,7 @@ fn run<G: Gate + Sync, R: Threads + Wait + Sync + Abort>(
         astray: 0,
         versions: Vec::new(alloc),
     };
-    let went = match round(
+    let went = round(
         rt,
         alloc,
         &mut publisher,
@@ -414,12 +398,10 @@ fn run<G: Gate + Sync, R: Threads + Wait + Sync + Abort>(
         &flow,
         &mut feed,
         gate,
-    ) {
-        Ok(replies) => replies.len() as u32 + version == 4,
-        Err(_) => false,
-    };
-    drop(publisher.close(rt));
-    (feed, went)
+    );
+    let is_whole = went.is_ok() && publisher.version() == 4;
+    publisher.close(rt);
+    (feed, is_whole)
 }
 
 #[test]

@@ -270,9 +270,8 @@ fn begun<R: Wait + Abort>(
     let steps = steps_of(alloc, nodes, commands).expect(rt, "commands");
     let plan = Plan::from_steps(alloc, steps, nodes).expect(rt, "memory");
     let network = fresh(rt, alloc, &plan, nodes);
-    let Ok((publisher, mut viewers)) = Board::begin(rt, alloc, network, plan, 0, 1) else {
-        panic!(rt; "memory")
-    };
+    let (publisher, mut viewers) =
+        Board::begin(rt, alloc, &network, plan, 0, 1).expect(rt, "memory");
     let viewer = viewers.pop().expect(rt, "a viewer");
     (stepped(rt, publisher, count), viewer)
 }
@@ -420,7 +419,7 @@ fn walks<R: Wait + Abort>(
         let flow = flow_of(rt, alloc, &names, case.0);
         let (publisher, mut viewer) = begun(rt, alloc, nodes, commands, count);
         room = walks_twice(rt, alloc, &mut viewer, &flow, room, &mut place, *case);
-        drop(publisher.close(rt));
+        publisher.close(rt);
     }
 }
 

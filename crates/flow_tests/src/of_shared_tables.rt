@@ -1,12 +1,15 @@
 //! Boards of small plans, with ample memory.
 
-ghost use Rattle.std.specs.Prelude.{◌≡◌, ◌+◌, ◌<◌, ◌≤◌, ◌^◌, length};
+ghost use Rattle.std.specs.Prelude.{◌≡◌, ◌+◌, ◌<◌, ◌≤◌, ◌^◌, All, length};
 ghost use Rattle.std.specs.Arc.{arc_value};
+ghost use Rattle.node_tables.specs.Steps.{tables_after};
+ghost use Rattle.script_lines.specs.declared.command.Step.{Step as StepValue};
 ghost use Rattle.shared_tables.specs.Plan.{network_after};
 
 use crate::checks::same;
 use mls_label::Proto;
-use node_tables::{Network, Reply};
+use node_tables::Network;
+use script_lines::Step;
 use shared_tables::*;
 use std::alloc::Global;
 use std::process::Abort;
@@ -14,8 +17,8 @@ use std::sync::{Arc, Wait};
 use std::thread::join;
 use worked_networks::steps_of;
 
-/// Commands to one node. The fifth lists lines, and the last is refused.
-static LINES: [(usize, &str); 6] = [
+/// Commands to one node. The fifth lists lines, and the sixth is refused.
+static LINES: [(usize, &str); 7] = [
     (0, "cipsov4 add pass doi:16 tags:1"),
     (0, "map add default protocol:cipsov4,16"),
     (
@@ -25,6 +28,7 @@ static LINES: [(usize, &str); 6] = [
     (0, "unlbl accept on"),
     (0, "unlbl list"),
     (0, "cipsov4 del doi:16"),
+    (0, "unlbl accept off"),
 ];
 
 fn plan_of(rt: &impl Abort, alloc: Global, lines: &[(usize, &str)]) -> Arc<Plan>
@@ -47,12 +51,12 @@ fn fresh(rt: &impl Abort, alloc: Global, plan: &Arc<Plan>) -> Network
 fn begun<R: Wait + Abort>(
     rt: &R,
     alloc: Global,
-    network: Network,
+    network: &Network,
     plan: Arc<Plan>,
     version: u32,
 ) -> (Publisher, Viewer)
     requires version { version ≤ length (arc_value plan).steps }
-    requires network { network ≡ network_after (arc_value plan) version }
+    requires network { network.now ≡ network_after (arc_value plan) version }
     ensures publisher { (result.0.plan ≡ arc_value plan) × (result.0.version ≡ version) }
     ensures viewer { result.1
         ≡ record { board = result.0.board; plan = arc_value plan; seen = version } }
@@ -87,30 +91,12 @@ fn looked(rt: &impl Abort, viewer: &mut Viewer) -> (u32, bool, bool)
         .expect(rt, "a look")
 }
 
-fn name_of(reply: &Reply) -> &'static str {
-    match reply {
-        Reply::Done => "done",
-        Reply::Listed(_) => "listed",
-        Reply::Refused(why) => why.name(),
-    }
-}
-
-// The next step's reply.
-fn stepped<R: Wait + Abort>(rt: &R, publisher: &mut Publisher) -> &'static str
+// The next step is published.
+fn steps<R: Wait + Abort>(rt: &R, publisher: &mut Publisher)
     requires { publisher.old.version < length publisher.old.plan.steps }
     ensures { publisher.new ≡ record publisher.old { version = publisher.old.version + 1 } }
 {
-    let reply = publisher.step(rt).expect(rt, "memory");
-    name_of(&reply)
-}
-
-// The next step has this reply.
-fn replies<R: Wait + Abort>(rt: &R, publisher: &mut Publisher, wanted: &str)
-    requires { publisher.old.version < length publisher.old.plan.steps }
-    ensures { publisher.new ≡ record publisher.old { version = publisher.old.version + 1 } }
-{
-    let version = publisher.version();
-    same(rt, version, stepped(rt, publisher), wanted);
+    publisher.step(rt).expect(rt, "memory");
 }
 
 // The next look finds this.
@@ -126,27 +112,43 @@ fn finds(rt: &impl Abort, viewer: &mut Viewer, wanted: (u32, bool, bool))
 fn a_viewer_learns_of_a_step(rt: HostRuntime) {
     let plan = plan_of(&rt, rt.alloc(), &LINES);
     let network = fresh(&rt, rt.alloc(), &plan);
-    let (mut publisher, mut viewer) = begun(&rt, rt.alloc(), network, plan, 0);
+    let (mut publisher, mut viewer) = begun(&rt, rt.alloc(), &network, plan, 0);
     finds(&rt, &mut viewer, (0, false, false));
-    replies(&rt, &mut publisher, "done");
+    steps(&rt, &mut publisher);
     viewer.learn(publisher.tell());
     same(&rt, "seen", viewer.seen(), 1);
     finds(&rt, &mut viewer, (1, true, false));
-    drop(publisher.close(&rt));
+    publisher.close(&rt);
 }
 
 // The tables after two steps.
-fn after_two<R: Wait + Abort>(rt: &R, alloc: Global, plan: &Arc<Plan>) -> Network
-    requires nodes { (arc_value plan.now).nodes ≡ 1 }
-    requires steps { length (arc_value plan.now).steps ≡ 6 }
-    ensures { result ≡ network_after (arc_value plan.now) 2 }
+fn after_two(rt: &impl Abort, alloc: Global, steps: &[Step]) -> Network
+    requires nodes { All (λ (step : StepValue). step.node < 1) steps.now }
+    requires two { 2 ≤ length steps.now }
+    ensures { result ≡ tables_after 1 steps.now 2 }
 {
-    let again = Arc::try_clone(plan).expect(rt, "memory");
-    let network = fresh(rt, alloc, plan);
-    let (mut publisher, _viewer) = begun(rt, alloc, network, again, 0);
-    replies(rt, &mut publisher, "done");
-    replies(rt, &mut publisher, "done");
-    publisher.close(rt)
+    let mut network = Network::fresh(alloc, 1).expect(rt, "memory");
+    network.advance(&steps[0]).expect(rt, "memory");
+    network.advance(&steps[1]).expect(rt, "memory");
+    network
+}
+
+// A board at version 2 of these steps, of which the first six are planned.
+fn begun_at_two<R: Wait + Abort>(
+    rt: &R,
+    alloc: Global,
+    shared: &SharedSteps,
+) -> (Publisher, Viewer)
+    requires nodes { All (λ (step : StepValue). step.node < 1) shared.now }
+    requires six { 6 ≤ length shared.now }
+    ensures publisher { (result.0.plan.nodes ≡ 1)
+        × (length result.0.plan.steps ≡ 6)
+        × (result.0.version ≡ 2) }
+    ensures viewer { (result.1.board ≡ result.0.board) × (result.1.plan ≡ result.0.plan) }
+{
+    let network = after_two(rt, alloc, shared.as_slice());
+    let plan = Plan::of_first(alloc, shared, 6, 1).expect(rt, "memory");
+    begun(rt, alloc, &network, plan, 2)
 }
 
 // The other four of six steps.
@@ -155,21 +157,22 @@ fn goes_on<R: Wait + Abort>(rt: &R, publisher: &mut Publisher, viewer: &mut View
     requires steps { publisher.old.version + 4 ≤ length publisher.old.plan.steps }
 {
     finds(rt, viewer, (2, true, false));
-    replies(rt, publisher, "done");
-    replies(rt, publisher, "done");
+    steps(rt, publisher);
+    steps(rt, publisher);
     finds(rt, viewer, (4, true, true));
-    replies(rt, publisher, "listed");
+    steps(rt, publisher);
     finds(rt, viewer, (5, true, true));
-    replies(rt, publisher, "DoiInUse");
+    steps(rt, publisher);
     finds(rt, viewer, (6, true, true));
 }
 
-// A listing and a refusal are versions too. A board goes on with the tables of the one before.
+// A listing and a refusal are versions too. A board goes on with the tables of the steps before, and ends in front of a step that its plan leaves out.
 #[test]
 fn each_step_is_a_version(rt: HostRuntime) {
-    let plan = plan_of(&rt, rt.alloc(), &LINES);
-    let network = after_two(&rt, rt.alloc(), &plan);
-    let (mut publisher, mut viewer) = begun(&rt, rt.alloc(), network, plan, 2);
+    let alloc = rt.alloc();
+    let lines = steps_of(alloc, 1, &LINES).expect(&rt, "commands");
+    let shared = SharedSteps::of(alloc, lines).expect(&rt, "memory");
+    let (mut publisher, mut viewer) = begun_at_two(&rt, alloc, &shared);
     same(
         &rt,
         "versions",
@@ -177,14 +180,14 @@ fn each_step_is_a_version(rt: HostRuntime) {
         (2, 2),
     );
     goes_on(&rt, &mut publisher, &mut viewer);
-    let network = publisher.close(&rt);
-    assert!(rt; network.nodes() == 1 && network.node(0).accepts());
+    publisher.close(&rt);
 }
 
-fn steps_twice<R: Wait + Abort>(rt: &R, publisher: &mut Publisher) -> (&'static str, &'static str)
+fn steps_twice<R: Wait + Abort>(rt: &R, publisher: &mut Publisher)
     requires { publisher.old.version + 1 < length publisher.old.plan.steps }
 {
-    (stepped(rt, publisher), stepped(rt, publisher))
+    steps(rt, publisher);
+    steps(rt, publisher);
 }
 
 fn looks_twice(rt: &impl Abort, viewer: &mut Viewer) -> (u32, u32)
@@ -198,13 +201,12 @@ fn looks_twice(rt: &impl Abort, viewer: &mut Viewer) -> (u32, u32)
 fn looks_go_beside_steps(rt: HostRuntime) {
     let plan = plan_of(&rt, rt.alloc(), &LINES);
     let network = fresh(&rt, rt.alloc(), &plan);
-    let (mut publisher, mut viewer) = begun(&rt, rt.alloc(), network, plan, 0);
-    let (replies, versions) = join(
+    let (mut publisher, mut viewer) = begun(&rt, rt.alloc(), &network, plan, 0);
+    let ((), versions) = join(
         &rt,
         || steps_twice(&rt, &mut publisher),
         || looks_twice(&rt, &mut viewer),
     );
-    same(&rt, "replies", replies, ("done", "done"));
     assert!(rt; versions.0 <= versions.1 && versions.1 <= 2);
-    drop(publisher.close(&rt));
+    publisher.close(&rt);
 }

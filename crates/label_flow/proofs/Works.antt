@@ -1,15 +1,14 @@
 -- Works that follow one another, and the packets of a worker.
-use Rattle.std.proofs.Common.{◌≡◌, ◌≢◌, ℕ, ◌+◌, ◌%◌, ◌<◌, ◌≤◌, true, false, List, [], ◌∷◌, ◌++◌, length, take, Some, get_or, nat_eq, cond, sym, ◌∙◌, ap, subst, le_refl, le_trans, arith, add-zero, append-nil}
+use Rattle.std.proofs.Common.{◌≡◌, ◌≢◌, ℕ, ◌+◌, ◌%◌, ◌<◌, ◌≤◌, true, false, List, [], ◌∷◌, ◌++◌, length, take, get_or, nat_eq, cond, sym, ◌∙◌, ap, subst, le_refl, le_trans, arith, add-zero, append-nil}
 use Rattle.std.proofs.lemmas.Bool.Decides.{nat_tests}
 use Rattle.std.proofs.lemmas.List.{take_more, length-take}
-use Rattle.shared_tables.specs.Plan.{PlanState, reply_after}
-use Rattle.node_tables.specs.declared.reply.Reply.{Reply}
+use Rattle.shared_tables.specs.Plan.{PlanState}
 use Rattle.label_commands.specs.declared.flow_lines.hop.Hop.{Hop}
 use Rattle.label_flow.specs.Pair.{PairState}
 use Rattle.captures.specs.declared.packet_in.PacketIn.{PacketIn}
 use Rattle.label_flow.specs.packet_walk.Walk.{IsWalked}
 use Rattle.shared_tables.specs.Board.{ViewerState}
-use Rattle.label_flow.specs.Round.{pick, IsWork, AreLater, AreReplies}
+use Rattle.label_flow.specs.Round.{pick, IsWork, AreLater}
 use Rattle.label_flow.proofs.Rising.{rises_lower}
 
 walked_lower : (p : PlanState) (hops : List Hop) (low seen now : ℕ) (x : PacketIn) (r : PairState) → low ≤ seen → IsWalked p hops seen now x r.walked r.octets → IsWalked p hops low now x r.walked r.octets
@@ -81,7 +80,3 @@ later-append [] [] ws zs h k = k
 later-append [] (u ∷ us) ws zs h k = absurd h
 later-append (v ∷ vs) [] ws zs h k = absurd h
 later-append (v ∷ vs) (u ∷ us) ws zs h k = (h.0, later-append vs us ws zs h.1 k)
-
-pub replies_more : (plan : PlanState) (k : ℕ) (rs : List Reply) (r : Reply) → AreReplies plan k rs → reply_after plan (k + length rs) ≡ Some r → AreReplies plan k (rs ++ r ∷ [])
-replies_more plan k [] r h is = (ap (reply_after plan) (sym (add-zero k)) ∙ is, tt)
-replies_more plan k (q ∷ rs) r h is = (h.0, replies_more plan (k + 1) rs r h.1 (ap (reply_after plan) (omega arith) ∙ is))

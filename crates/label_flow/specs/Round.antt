@@ -1,8 +1,7 @@
 -- The packets of a flow, each judged by the worker of its number, beside the steps of a plan.
-use Rattle.std.specs.Prelude.{◌≡◌, ℕ, ◌+◌, ◌%◌, ◌≤◌, List, [], ◌∷◌, nat_eq, cond, length, Some}
+use Rattle.std.specs.Prelude.{◌≡◌, ℕ, ◌+◌, ◌%◌, ◌≤◌, List, [], ◌∷◌, nat_eq, cond, length}
 use Rattle.label_commands.specs.declared.flow_lines.hop.Hop.{Hop}
-use Rattle.node_tables.specs.declared.reply.Reply.{Reply}
-use Rattle.shared_tables.specs.Plan.{PlanState, reply_after}
+use Rattle.shared_tables.specs.Plan.{PlanState}
 use Rattle.shared_tables.specs.Board.{ViewerState}
 use Rattle.captures.specs.declared.packet_in.PacketIn.{PacketIn}
 use Rattle.label_flow.specs.packet_walk.Walk.{IsWalked}
@@ -45,8 +44,3 @@ AreLater [] [] = Unit {0}
 AreLater [] (u ∷ us) = ⊥
 AreLater (v ∷ vs) [] = ⊥
 AreLater (v ∷ vs) (u ∷ us) = IsLater v u × AreLater vs us
-
--- these are the replies of the steps behind the first k
-abbrev pub AreReplies : PlanState → ℕ → List Reply → Type 0
-AreReplies plan k [] = Unit {0}
-AreReplies plan k (reply ∷ replies) = (reply_after plan k ≡ Some reply) × AreReplies plan (k + 1) replies

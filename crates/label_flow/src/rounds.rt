@@ -6,7 +6,7 @@ ghost use Rattle.label_commands.specs.flow_lines.Hop.{node_of};
 ghost use Rattle.captures.specs.declared.packet_in.PacketIn.{PacketIn};
 ghost use Rattle.label_flow.specs.Pair.{PairState};
 ghost use Rattle.label_flow.specs.Feed.{AreFetched, HasFetched, IsOver, AreBegun, AreWhole};
-ghost use Rattle.label_flow.specs.Round.{AreReplies, IsLater, AreLater, IsRound};
+ghost use Rattle.label_flow.specs.Round.{IsLater, AreLater, IsRound};
 ghost use Rattle.label_flow.specs.Stops.{IsStop};
 ghost use Rattle.label_flow.specs.inside.Work.{AreFirst, HasRoom, AllFit, part_at};
 ghost use Rattle.label_flow.specs.inside.Work.{HasViewers, HasCrew};
@@ -23,7 +23,6 @@ use crate::staff::all_batches;
 use crate::work::{Batch, PART, next_turn};
 use label_commands::FlowLine;
 use mls_label::OutOfMemory;
-use node_tables::Reply;
 use shared_tables::{Publisher, Viewer};
 use std::alloc::Global;
 use std::sync::{Arc, Wait};
@@ -36,36 +35,28 @@ pub enum RoundStop<E> {
     OutOfMemory,
 }
 
-// The steps up to a version, with their replies.
+// The steps up to a version.
 fn step_to<G: Gate, R: Wait>(
     rt: &R,
-    alloc: Global,
     upto: u32,
     gate: &G,
     publisher: &mut Publisher,
-) -> Result<Vec<Reply>, OutOfMemory>
+) -> Result<(), OutOfMemory>
     requires { upto ≡ length publisher.old.plan.steps }
     ensures kept { (publisher.new.board ≡ publisher.old.board)
         × (publisher.new.plan ≡ publisher.old.plan) }
     ensures between { (publisher.old.version ≤ publisher.new.version)
         × (publisher.new.version ≤ upto) }
-    ensures ok { IfOk result (λ rs. (publisher.new.version ≡ upto)
-        × (publisher.old.version + length rs.items ≡ upto)
-        × AreReplies publisher.old.plan publisher.old.version rs.items) }
+    ensures ok { OnOk result (publisher.new.version ≡ upto) }
 {
     let _from = publisher.version();
-    let mut replies = Vec::new(alloc);
     while publisher.version() < upto {
-        if replies.reserve(1).is_err() {
-            return Err(OutOfMemory);
-        }
         let next = publisher.version() + 1;
         gate.before_step(next);
-        let reply = publisher.step(rt)?;
+        publisher.step(rt)?;
         gate.after_step(next);
-        replies.push_reserved(reply);
     }
-    Ok(replies)
+    Ok(())
 }
 
 // Hands what the workers made of these packets to the feed, in their order. The first has the number `base`, counted from 0.
@@ -378,7 +369,7 @@ pub fn round<Q: Feed + Send, G: Gate + Sync, R: Threads + Wait + Sync>(
     flow: &FlowLine,
     feed: &mut Q,
     gate: &G,
-) -> Result<Vec<Reply>, RoundStop<Q::Stop>>
+) -> Result<(), RoundStop<Q::Stop>>
     requires upto { upto ≡ length publisher.old.plan.steps }
     requires viewers { (0 < length viewers.old) × (length viewers.old ≤ 16) }
     requires plan { All
@@ -393,9 +384,7 @@ pub fn round<Q: Feed + Send, G: Gate + Sync, R: Threads + Wait + Sync>(
         × (publisher.old.version ≤ publisher.new.version)
         × (publisher.new.version ≤ upto) }
     ensures viewers { AreLater viewers.old viewers.new }
-    ensures replies { IfOk result (λ rs. (publisher.new.version ≡ upto)
-        × (publisher.old.version + length rs.items ≡ upto)
-        × AreReplies publisher.old.plan publisher.old.version rs.items) }
+    ensures reached { OnOk result (publisher.new.version ≡ upto) }
     ensures ended { OnOk result ((Q.due feed.new ≡ 0)
         × (Q.stop feed.new ≡ None)
         × IsOver (Q.left feed.new)
@@ -409,16 +398,16 @@ pub fn round<Q: Feed + Send, G: Gate + Sync, R: Threads + Wait + Sync>(
         × Q.took was feed.new (h ++ pairs)
         × OnOk result (AreWhole (Q.left feed.old) packets) }
 {
-    let mut steps = || step_to(rt, alloc, upto, gate, publisher);
+    let mut steps = || step_to(rt, upto, gate, publisher);
     let mut packets = ||
         requires { HasViewers flow.now.hops viewers.now
             × AreOfOne viewers.now
             × IsReadyFor flow.now.hops 0 (Q.hops feed.now) (Q.due feed.now) (Q.ready feed.now) }
     { all_batches(rt, alloc, flow, gate, feed, viewers) };
-    let (replies, fed) = join_mut(rt, &mut steps, &mut packets);
+    let (stepped, fed) = join_mut(rt, &mut steps, &mut packets);
     match fed {
-        Ok(()) => match replies {
-            Ok(all) => Ok(all),
+        Ok(()) => match stepped {
+            Ok(()) => Ok(()),
             Err(_) => Err(RoundStop::OutOfMemory),
         },
         Err(stop) => Err(stop),

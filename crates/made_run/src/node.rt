@@ -100,10 +100,7 @@ pub(crate) fn open_board<R: Wait>(
     let steps = made_steps(alloc)?;
     let network = network_after(alloc, &steps)?;
     let plan = Plan::from_steps(alloc, steps, 1)?;
-    match Board::begin(rt, alloc, network, plan, STEPS, WORKERS) {
-        Ok(begun) => Ok(begun),
-        Err(_) => Err(OutOfMemory),
-    }
+    Board::begin(rt, alloc, &network, plan, STEPS, WORKERS)
 }
 
 // A name in place of an input's: nothing is read.

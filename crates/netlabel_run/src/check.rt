@@ -51,7 +51,7 @@ fn print_script<S: Sink>(alloc: Global, script: &Script, out: &mut S) -> Status
     };
     let mut report = Report::new(alloc);
     let steps = script.steps.as_slice();
-    match answer_steps(names, steps, steps.len(), &mut network, &mut report, out) {
+    match answer_steps(names, steps, 0, steps.len(), &mut network, &mut report, out) {
         Ok(()) => end_checked(script, report, out),
         Err(fault) => Status::after_write(fault),
     }

@@ -14,6 +14,7 @@ use node_tables::Network;
 use pcap_frames::{CaptureFault, CaptureKind, FrameHead};
 use script_lines::{Step, words_into};
 use script_run::*;
+use shared_tables::SharedSteps;
 use std::alloc::Global;
 use std::process::Abort;
 use std::str::from_utf8;
@@ -268,6 +269,7 @@ fn called(
     let flow = flow_of(rt, alloc, &nodes);
     let steps = steps_of(alloc, 1, &LINES).expect(rt, "commands");
     let network = fresh(rt, alloc, &steps);
+    let steps = SharedSteps::of(alloc, steps).expect(rt, "memory");
     let place = FlowPlace {
         flow: &flow,
         number: 3,
@@ -287,7 +289,7 @@ fn called(
         alloc,
         gate: &gate,
     };
-    let (seen, end) = run_flow(&runner, &place, network, &mut report, depot, &mut sink);
+    let (seen, end) = run_flow(&runner, &place, &network, &mut report, depot, &mut sink);
     let flushed = report.flush(&mut sink);
     assert!(rt; flushed.is_ok());
     let printed = Vec::from_slice(alloc, sink.bytes()).expect(rt, "memory");
@@ -340,15 +342,12 @@ fn folder(rt: &impl Abort, alloc: Global, input: &[u8], fails: u32) -> MemoryDep
     depot
 }
 
-/// The replies are to the four steps, and a fault is where the file of so many octets ends.
-fn end_of(rt: &impl Abort, end: &FlowEnd, octets: usize) -> Ended {
+/// A fault is where the file of so many octets ends.
+fn end_of(rt: &impl Abort, end: FlowEnd, octets: usize) -> Ended {
     match end {
-        FlowEnd::GoesOn { network, replies } => {
-            assert!(rt; network.nodes() == 1 && replies.len() == 4);
-            Ended::GoesOn
-        }
+        FlowEnd::GoesOn => Ended::GoesOn,
         FlowEnd::Broken(FileFault::Pcap(CaptureFault { octet, kind })) => {
-            assert!(rt; *octet == octets as u64 && *kind == CaptureKind::Short);
+            assert!(rt; octet == octets as u64 && kind == CaptureKind::Short);
             Ended::Broken
         }
         FlowEnd::Broken(FileFault::Pcapng(fault)) => {
@@ -356,7 +355,7 @@ fn end_of(rt: &impl Abort, end: &FlowEnd, octets: usize) -> Ended {
             Ended::Broken
         }
         FlowEnd::TooMany => Ended::TooMany,
-        FlowEnd::Stopped(stop) => Ended::Stopped(*stop),
+        FlowEnd::Stopped(stop) => Ended::Stopped(stop),
     }
 }
 
@@ -377,7 +376,7 @@ fn frames_give_packets(rt: HostRuntime) {
     );
     let mut depot = folder(&rt, alloc, &input, 0);
     let ran = called(&rt, alloc, 4, &mut depot, 0);
-    assert!(rt; end_of(&rt, &ran.end, 0) == Ended::GoesOn);
+    assert!(rt; end_of(&rt, ran.end, 0) == Ended::GoesOn);
     assert_eq!(rt; ran.printed.as_slice(), ETHERNET_LINES.as_bytes());
     assert!(rt; depot.get("out.pcap") == Some(output.as_slice()));
     assert!(rt; ran.seen.len() == 4 && ran.seen.packet(0).is_empty());
@@ -423,7 +422,7 @@ fn interfaces_give_packets(rt: HostRuntime) {
     );
     let mut depot = folder(&rt, alloc, &input, 0);
     let ran = called(&rt, alloc, 4, &mut depot, 0);
-    assert!(rt; end_of(&rt, &ran.end, 0) == Ended::GoesOn);
+    assert!(rt; end_of(&rt, ran.end, 0) == Ended::GoesOn);
     assert_eq!(rt; ran.printed.as_slice(), ETHERNET_LINES.as_bytes());
     assert!(rt; depot.get("out.pcap") == Some(output.as_slice()));
     assert!(rt; ran.seen.len() == 4 && ran.seen.packet(0).is_empty());
@@ -442,7 +441,7 @@ fn written_packets_are_read(rt: HostRuntime) {
     let output = ng_capture(&rt, alloc, 2);
     let mut depot = folder(&rt, alloc, &input, 0);
     let ran = called(&rt, alloc, 3, &mut depot, 0);
-    assert!(rt; end_of(&rt, &ran.end, 0) == Ended::GoesOn);
+    assert!(rt; end_of(&rt, ran.end, 0) == Ended::GoesOn);
     assert_eq!(rt; ran.printed.as_slice(), NG_LINES.as_bytes());
     assert!(rt; depot.get("out.pcap") == Some(output.as_slice()));
 }
@@ -454,7 +453,7 @@ fn batches_follow_each_other(rt: HostRuntime) {
     let input = capture(&rt, alloc, 2049);
     let mut depot = folder(&rt, alloc, &input, 0);
     let ran = called(&rt, alloc, 4096, &mut depot, 0);
-    assert!(rt; end_of(&rt, &ran.end, 0) == Ended::GoesOn);
+    assert!(rt; end_of(&rt, ran.end, 0) == Ended::GoesOn);
     let text = from_utf8(&ran.printed).expect(&rt, "a text");
     assert!(rt; text.lines().count() == 2051 && text.ends_with(LAST_LINES));
     assert!(rt; ran.seen.len() == 2049);
@@ -472,7 +471,7 @@ fn ends_so(
     let input = whole.get(..octets).expect(rt, "a beginning");
     let mut depot = folder(rt, alloc, input, 0);
     let ran = called(rt, alloc, most, &mut depot, 0);
-    assert!(rt; end_of(rt, &ran.end, octets) == wanted);
+    assert!(rt; end_of(rt, ran.end, octets) == wanted);
     let text = from_utf8(&ran.printed).expect(rt, "a text");
     let lines = text.lines().filter(|line| line.starts_with("packet "));
     assert!(rt; lines.count() == packets && ran.seen.len() == packets);
@@ -584,7 +583,7 @@ fn packets_come_in_front_of_a_read_that_fails(rt: HostRuntime) {
         let mut depot = folder(&rt, alloc, &whole, call);
         let ran = called(&rt, alloc, 9999, &mut depot, 0);
         if depot.failed() == Some(DepotCall::Read) {
-            assert!(rt; end_of(&rt, &ran.end, 0) == Ended::Stopped(FlowStop::Read));
+            assert!(rt; end_of(&rt, ran.end, 0) == Ended::Stopped(FlowStop::Read));
             let packets = ran.seen.len();
             assert!(rt; end_in_a_piece(packets));
             let text = from_utf8(&ran.printed).expect(&rt, "a text");
@@ -610,7 +609,7 @@ fn calls_that_fail_stop_a_flow(rt: HostRuntime) {
             Some(DepotCall::Append) => Ended::Stopped(FlowStop::Append),
             None => Ended::GoesOn,
         };
-        assert!(rt; end_of(&rt, &ran.end, 0) == wanted);
+        assert!(rt; end_of(&rt, ran.end, 0) == wanted);
         if wanted == Ended::GoesOn {
             assert!(rt; call > 4);
             break;
@@ -619,5 +618,5 @@ fn calls_that_fail_stop_a_flow(rt: HostRuntime) {
     let many = capture(&rt, alloc, 600);
     let mut depot = folder(&rt, alloc, &many, 0);
     let ran = called(&rt, alloc, 4096, &mut depot, 1);
-    assert!(rt; end_of(&rt, &ran.end, 0) == Ended::Stopped(FlowStop::Print));
+    assert!(rt; end_of(&rt, ran.end, 0) == Ended::Stopped(FlowStop::Print));
 }

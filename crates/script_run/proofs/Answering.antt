@@ -11,8 +11,6 @@ use Rattle.node_tables.specs.Tables.{TableState, fresh}
 use Rattle.node_tables.specs.Effect.{reply_of}
 use Rattle.node_tables.specs.Steps.{step_applied, step_reply, reply_at, tables_after}
 use Rattle.node_tables.proofs.Law.{steps_apply_one_by_one, nodes_keep_their_number}
-use Rattle.shared_tables.specs.Plan.{PlanState, reply_after}
-use Rattle.label_flow.specs.Round.{AreReplies}
 use Rattle.call_report.specs.Lines.Parts.{name_at}
 use Rattle.call_report.specs.Lines.Reply.{reply_text, reply_line_at, replies_text}
 use Rattle.call_report.proofs.Law.{no_steps_have_no_replies, replies_come_one_by_one, a_step_is_answered_at_its_node}
@@ -52,13 +50,6 @@ has_reply nodes step within = let at = slice_get-get_or nodes step.node fresh wi
 pub reply_some : (number : ℕ) (name : List ℕ) (reply : Reply) → 0 < length (reply_text number name reply)
 unfolding reply_text
 reply_some number name reply = omega arith
-
--- replies that were given are those of the plan
-pub given_at : (plan : PlanState) (from : ℕ) (replies : List Reply) (k : ℕ) (reply : Reply) → AreReplies plan from replies → slice_get replies k ≡ Some reply → reply_after plan (from + k) ≡ Some reply
-given_at plan from [] k reply are at = absurd (none-some reply at)
-given_at plan from (first ∷ replies) zero reply are at = let here : from + 0 ≡ from = omega arith in ap (reply_after plan) here ∙ are.0 ∙ at
-given_at plan from (first ∷ replies) (suc k) reply are at =
-    let further : from + suc k ≡ from + 1 + k = omega arith in ap (reply_after plan) further ∙ given_at plan (from + 1) replies k reply are.1 at
 
 -- each step's line has some octets
 pub line_some : (names : List (List ℕ)) (steps : List Step) (k : ℕ) (step : Step) → slice_get steps k ≡ Some step → step.node < length names → 0 < length (reply_line_at names steps k)

@@ -7,11 +7,7 @@ use Rattle.std.proofs.lemmas.List.{append-nil}
 use Rattle.net_io.specs.declared.fault.IoFault.{IoFault}
 use Rattle.net_io.specs.declared.fault.IoFault.TheVariants.{Failed, OutOfMemory as NoMemory}
 use Rattle.net_io.specs.Faults.{Rose, SameCounts}
-use Rattle.std.specs.declared.vec.Vec.{Vec}
-use Rattle.std.specs.declared.alloc.Global.{Global}
 use Rattle.net_io.specs.Sink.{SinkState}
-use Rattle.node_tables.specs.Tables.{TableState}
-use Rattle.node_tables.specs.declared.reply.Reply.{Reply}
 use Rattle.node_tables.specs.Steps.{tables_after}
 use Rattle.call_report.specs.Lines.Reply.{replies_text}
 use Rattle.call_report.specs.Lines.Fixed.{done_line, packets_limit_line}
@@ -34,8 +30,8 @@ use Rattle.script_run.specs.declared.flow_run.end.FlowEnd.TheVariants.{GoesOn, B
 use Rattle.script_run.specs.declared.flow_run.end.FlowStop.{FlowStop}
 use Rattle.script_run.specs.declared.flow_run.end.FlowStop.TheVariants as stop
 use Rattle.script_run.specs.flow_run.Run.{FlowRun, is_judged, goes_on, run_text, run_end}
-use Rattle.script_run.specs.flow_run.Ends.{FlowEnds, HasReadInput, IsRunOf, HasSteps}
-use Rattle.shared_tables.specs.Plan.{PlanState}
+use Rattle.script_run.specs.flow_run.Ends.{FlowEnds, HasReadInput, IsRunOf}
+use Rattle.script_lines.specs.declared.command.Step.{Step}
 use Rattle.script_run.specs.declared.turn.Next.{Next}
 use Rattle.label_flow.specs.flow_access.Valid.{plan_of}
 use Rattle.script_run.specs.Runs.{is_done, last_event}
@@ -74,16 +70,16 @@ module _ (script : Script) (runs : List FlowRun) (run : FlowRun) where
   event_line event judged is = ap (λ e. option_map_or (λ (x : Event). x.line) e []) (sym (event_last event judged is))
 
 -- the next flow begins with the tables of the steps above it
-pub network_next : (plan : PlanState) (names : List (List ℕ)) (number from upto : ℕ) (end : FlowEnd) (waits : List ℕ) (a b : SinkState) (next : Next) → HasSteps plan from upto end
-    → IsTurnEnd names plan.steps number from upto end waits a b (Ok next) → next.network ≡ tables_after plan.nodes plan.steps upto
-network_next plan names number from upto (GoesOn network replies) waits a b next steps ends = ends.0 ∙ steps.0
-network_next plan names number from upto (Broken fault) waits a b next steps ends = absurd ends
-network_next plan names number from upto TooMany waits a b next steps ends = absurd ends
-network_next plan names number from upto (Stopped stop.Read) waits a b next steps ends = absurd ends
-network_next plan names number from upto (Stopped stop.Create) waits a b next steps ends = absurd ends
-network_next plan names number from upto (Stopped stop.Append) waits a b next steps ends = absurd ends
-network_next plan names number from upto (Stopped stop.Print) waits a b next steps ends = absurd ends
-network_next plan names number from upto (Stopped stop.OutOfMemory) waits a b next steps ends = absurd ends
+pub network_next : (names : List (List ℕ)) (steps : List Step) (number from upto : ℕ) (end : FlowEnd) (waits : List ℕ) (a b : SinkState) (next : Next)
+    → IsTurnEnd names steps number from upto end waits a b (Ok next) → next.network ≡ tables_after (length names) steps upto
+network_next names steps number from upto GoesOn waits a b next ends = ends.0
+network_next names steps number from upto (Broken fault) waits a b next ends = absurd ends
+network_next names steps number from upto TooMany waits a b next ends = absurd ends
+network_next names steps number from upto (Stopped stop.Read) waits a b next ends = absurd ends
+network_next names steps number from upto (Stopped stop.Create) waits a b next ends = absurd ends
+network_next names steps number from upto (Stopped stop.Append) waits a b next ends = absurd ends
+network_next names steps number from upto (Stopped stop.Print) waits a b next ends = absurd ends
+network_next names steps number from upto (Stopped stop.OutOfMemory) waits a b next ends = absurd ends
 
 module _
     (own : List ℕ) (script : Script) (sound : IsSoundScript own script) (workers : ℕ) (start now mid : Outside) (waits waits' : List ℕ) (left k : ℕ) (seen : Versions)
@@ -152,33 +148,33 @@ module _
 
   -- ---- the replies behind it
 
-  replies_of : (network : List TableState) (replies : Vec Reply Global) (ir : RunOf (GoesOn network replies)) → replies_text script.nodes script.steps flow.before (before script (k + 1) - flow.before) ≡ replies_behind script ir.run
-  replies_of network replies ir =
+  replies_of : (ir : RunOf GoesOn) → replies_text script.nodes script.steps flow.before (before script (k + 1) - flow.before) ≡ replies_behind script ir.run
+  replies_of ir =
       ap (λ (f : FlowLine). replies_text script.nodes script.steps f.before (before script (k + 1) - f.before)) (sym ir.flow_is)
       ∙ ap (λ n. replies_text script.nodes script.steps ir.run.flow.before (before script n - ir.run.flow.before)) (sym ir.numbered)
 
   -- the text of a turn in its parts, as it was handed on
-  turn_is : (network : List TableState) (replies : Vec Reply Global) (ir : RunOf (GoesOn network replies))
+  turn_is : (ir : RunOf GoesOn)
       → (run_text script.nodes ir.run ++ run_end ir.run) ++ replies_text script.nodes script.steps flow.before (before script (k + 1) - flow.before) ≡ turn_text script ir.run
-  turn_is network replies ir =
+  turn_is ir =
       append_assoc (run_text script.nodes ir.run) (run_end ir.run) (replies_text script.nodes script.steps flow.before (before script (k + 1) - flow.before))
-      ∙ ap (λ t. run_text script.nodes ir.run ++ (run_end ir.run ++ t)) (replies_of network replies ir)
+      ∙ ap (λ t. run_text script.nodes ir.run ++ (run_end ir.run ++ t)) (replies_of ir)
       ∙ sym (turn_on script ir.run ir.ends)
 
-  turn_handed : {T : Type 0} (network : List TableState) (replies : Vec Reply Global) (ir : RunOf (GoesOn network replies)) (result : Result T IoFault) (still : List ℕ) (c : SinkState)
+  turn_handed : {T : Type 0} (ir : RunOf GoesOn) (result : Result T IoFault) (still : List ℕ) (c : SinkState)
       → HandsOn (replies_text script.nodes script.steps flow.before (before script (k + 1) - flow.before)) waits' still result mid.stream c → HandsOn (turn_text script ir.run) waits still result now.stream c
-  turn_handed {T} network replies ir result still c hands =
-      subst (λ (t : List ℕ). HandsOn t waits still result now.stream c) (turn_is network replies ir)
+  turn_handed {T} ir result still c hands =
+      subst (λ (t : List ℕ). HandsOn t waits still result now.stream c) (turn_is ir)
       (texts_join (run_text script.nodes ir.run ++ run_end ir.run) (replies_text script.nodes script.steps flow.before (before script (k + 1) - flow.before)) waits waits' still tt result now.stream mid.stream c ir.printed hands)
 
   -- ---- the next flow
 
   pub next_begins : (end : FlowEnd) (c : SinkState) (next : Next) → Ran end → Ends end c (Ok next)
       → AreUnderWay script workers start (after c) next.report.waiting.items (left - length lists) (seen ++ lists ∷ [])
-  next_begins (GoesOn network replies) c next ran ends =
-      goes_on_so own script sound workers start now mid waits waits' left k seen under count flow at lists (GoesOn network replies) ran c next.report.waiting.items tt
+  next_begins GoesOn c next ran ends =
+      goes_on_so own script sound workers start now mid waits waits' left k seen under count flow at lists GoesOn ran c next.report.waiting.items tt
       (record { reads = ran.cause.reads; creates = ran.cause.creates; appends = ran.cause.appends; writes = ends.1.counts.ok ∙ ran.cause.writes }) ends.1.told
-      (λ have ir. (ir.ends, way_of (turn_text script ir.run) waits next.report.waiting.items tt now.stream c (turn_handed network replies ir (Ok tt) next.report.waiting.items c ends.1)))
+      (λ have ir. (ir.ends, way_of (turn_text script ir.run) waits next.report.waiting.items tt now.stream c (turn_handed ir (Ok tt) next.report.waiting.items c ends.1)))
   next_begins (Broken fault) c next ran ends = absurd ends
   next_begins TooMany c next ran ends = absurd ends
   next_begins (Stopped stop.Read) c next ran ends = absurd ends
@@ -190,11 +186,11 @@ module _
   -- ---- the call ends
 
   -- not all replies were printed
-  replies_fail : (network : List TableState) (replies : Vec Reply Global) (c : SinkState) (still : List ℕ) (fault : IoFault) → Ran (GoesOn network replies)
+  replies_fail : (c : SinkState) (still : List ℕ) (fault : IoFault) → Ran GoesOn
       → HandsOn {T = Unit {0}} (replies_text script.nodes script.steps flow.before (before script (k + 1) - flow.before)) waits' still (Err fault) mid.stream c
       → ScriptEnds script workers start (after c) (seen ++ lists ∷ []) (write_status fault)
-  replies_fail network replies c still fault ran hands =
-      ends_here own script sound workers start now mid waits waits' left k seen under count flow at lists (GoesOn network replies) ran c OutOfMemory (write_status fault) (λ e. absurd e) (λ other. ran.cause.appends) hands.told (cause fault hands)
+  replies_fail c still fault ran hands =
+      ends_here own script sound workers start now mid waits waits' left k seen under count flow at lists GoesOn ran c OutOfMemory (write_status fault) (λ e. absurd e) (λ other. ran.cause.appends) hands.told (cause fault hands)
       (λ have ir. record {
         part = turn_text script ir.run ++ ending script have.runs ir.run;
         printed = printed_cut ir (ending script have.runs ir.run);
@@ -206,10 +202,10 @@ module _
         cause Failed h = write_here c ran.cause ran.faults (h.counts.cause refl)
         cause NoMemory h = short_here c ran.cause (h.counts.still (λ failed. absurd cc))
 
-        printed_cut : (ir : RunOf (GoesOn network replies)) (more : List ℕ) → Printed (waits ++ (turn_text script ir.run ++ more)) [] OutOfMemory (write_status fault) now.stream c
+        printed_cut : (ir : RunOf GoesOn) (more : List ℕ) → Printed (waits ++ (turn_text script ir.run ++ more)) [] OutOfMemory (write_status fault) now.stream c
         printed_cut ir more =
             subst (λ (t : List ℕ). Printed t [] OutOfMemory (write_status fault) now.stream c) (append_assoc waits (turn_text script ir.run) more)
-            (printed_more (waits ++ turn_text script ir.run) more (write_status fault) now.stream c (printed_failing (turn_text script ir.run) waits still fault OutOfMemory now.stream c (turn_handed network replies ir (Err fault) still c hands)))
+            (printed_more (waits ++ turn_text script ir.run) more (write_status fault) now.stream c (printed_failing (turn_text script ir.run) waits still fault OutOfMemory now.stream c (turn_handed ir (Err fault) still c hands)))
 
   -- an event of a capture
   broken : (fault : FileFault) (c : SinkState) (status : Status) → Ran (Broken fault) → Printed waits' (capture_line (k + 1) fault) WrongCapture status mid.stream c
@@ -315,7 +311,7 @@ module _
       })
 
   pub call_ends : (end : FlowEnd) (c : SinkState) (status : Status) → Ran end → Ends end c (Err status) → ScriptEnds script workers start (after c) (seen ++ lists ∷ []) status
-  call_ends (GoesOn network replies) c status ran ends = subst (ScriptEnds script workers start (after c) (seen ++ lists ∷ [])) (sym ends.2) (replies_fail network replies c ends.1 ends.0 ran ends.3)
+  call_ends GoesOn c status ran ends = subst (ScriptEnds script workers start (after c) (seen ++ lists ∷ [])) (sym ends.2) (replies_fail c ends.1 ends.0 ran ends.3)
   call_ends (Broken fault) c status ran ends = broken fault c status ran ends
   call_ends TooMany c status ran ends = too_many c status ran ends
   call_ends (Stopped stop.Read) c status ran ends = read_failed c status ran ends

@@ -1,9 +1,8 @@
 //! Replies to steps, handed on one by one.
 
-ghost use Rattle.std.specs.Prelude.{◌≡◌, ◌+◌, ◌<◌, ◌≤◌, All, Some, length, OnOk};
+ghost use Rattle.std.specs.Prelude.{◌≡◌, ◌+◌, ◌-◌, ◌<◌, ◌≤◌, All, Some, length, OnOk};
 ghost use Rattle.script_lines.specs.declared.command.Step.{Step as StepValue};
 ghost use Rattle.node_tables.specs.Steps.{reply_at, tables_after};
-ghost use Rattle.label_flow.specs.Round.{AreReplies};
 ghost use Rattle.call_report.specs.Lines.Reply.{reply_line_at, reply_text, replies_text};
 ghost use Rattle.call_report.specs.Printing.{HandsOn};
 
@@ -12,27 +11,29 @@ use label_commands::{Name, Step};
 use net_io::{IoFault, Sink};
 use node_tables::{Network, Reply};
 
-/// Carries out the first `upto` steps, one after the other, and hands on what each answers.
+/// Carries out the steps behind the first `from` up to the first `upto`, one after the other, and hands on what each answers. A reply is
+/// dropped before the next one is made.
 pub fn answer_steps<S: Sink>(
     names: &[Name],
     steps: &[Step],
+    from: usize,
     upto: usize,
     network: &mut Network,
     report: &mut Report,
     out: &mut S,
 ) -> Result<(), IoFault>
     requires nodes { All (λ (step : StepValue). step.node < length names.now) steps.now }
-    requires within { upto ≤ length steps.now }
-    requires fresh { network.old ≡ tables_after (length names.now) steps.now 0 }
-    ensures replies { HandsOn (replies_text names.now steps.now 0 upto)
+    requires between { (from ≤ upto) × (upto ≤ length steps.now) }
+    requires tables { network.old ≡ tables_after (length names.now) steps.now from }
+    ensures replies { HandsOn (replies_text names.now steps.now from (upto - from))
         report.old.waiting.items report.new.waiting.items
         result (S.state out.old) (S.state out.new) }
     ensures tables { OnOk result (network.new ≡ tables_after (length names.now) steps.now upto) }
 {
-    let mut done = 0;
-    while done < upto {
-        answer_step(names, steps, done, network, report, out)?;
-        done += 1;
+    let mut place = from;
+    while place < upto {
+        answer_step(names, steps, place, network, report, out)?;
+        place += 1;
     }
     Ok(())
 }
@@ -59,31 +60,6 @@ fn answer_step<S: Sink>(
         return Err(IoFault::OutOfMemory);
     };
     hand_on_at(names, steps, place, &reply, report, out)
-}
-
-/// Hands on the replies that were given to the steps behind the first `from`.
-pub(crate) fn hand_on_replies<S: Sink>(
-    names: &[Name],
-    steps: &[Step],
-    from: usize,
-    replies: &[Reply],
-    report: &mut Report,
-    out: &mut S,
-) -> Result<(), IoFault>
-    requires nodes { All (λ (step : StepValue). step.node < length names.now) steps.now }
-    requires within { from + length replies.now ≤ length steps.now }
-    requires given { AreReplies (record { nodes = length names.now; steps = steps.now })
-        from replies.now }
-    ensures { HandsOn (replies_text names.now steps.now from (length replies.now))
-        report.old.waiting.items report.new.waiting.items
-        result (S.state out.old) (S.state out.new) }
-{
-    let mut done = 0;
-    while done < replies.len() {
-        hand_on_at(names, steps, from + done, &replies[done], report, out)?;
-        done += 1;
-    }
-    Ok(())
 }
 
 /// Hands on the reply that was given to the step at this place.

@@ -21,6 +21,7 @@ use label_commands::Script;
 use label_flow::Gate;
 use net_io::{Depot, Sink};
 use node_tables::Network;
+use shared_tables::SharedSteps;
 use std::alloc::Global;
 use std::sync::Wait;
 use std::thread::Threads;
@@ -49,8 +50,11 @@ pub fn run_script<D: Depot + Send, S: Sink + Send, G: Gate + Sync, R: Threads + 
         (record { folder = D.state depot.new; stream = S.state out.new }) result.0 result.1 }
 {
     let runner = Runner { rt, alloc, gate };
+    let Ok(steps) = SharedSteps::copy_of(alloc, script.steps.as_slice()) else {
+        return (Seen::none(alloc), Status::OutOfMemory);
+    };
     match begin(alloc, script, out) {
-        Ok(next) => run_flows(&runner, script, workers, next, depot, out),
+        Ok(next) => run_flows(&runner, script, &steps, workers, next, depot, out),
         Err(status) => (Seen::none(alloc), status),
     }
 }
@@ -67,7 +71,7 @@ fn begin<S: Sink>(alloc: Global, script: &Script, out: &mut S) -> Result<Next, S
     let Ok(mut network) = Network::fresh(alloc, names.len()) else {
         return Err(Status::OutOfMemory);
     };
-    match answer_steps(names, steps, upto, &mut network, &mut report, out) {
+    match answer_steps(names, steps, 0, upto, &mut network, &mut report, out) {
         Ok(()) => Ok(Next { network, report }),
         Err(fault) => Err(Status::after_write(fault)),
     }
@@ -77,6 +81,7 @@ fn begin<S: Sink>(alloc: Global, script: &Script, out: &mut S) -> Result<Next, S
 fn run_flows<D: Depot + Send, S: Sink + Send, G: Gate + Sync, R: Threads + Wait + Sync>(
     runner: &Runner<'_, '_, R, G>,
     script: &Script,
+    steps: &SharedSteps,
     workers: usize,
     next: Next,
     depot: &mut D,
@@ -84,6 +89,7 @@ fn run_flows<D: Depot + Send, S: Sink + Send, G: Gate + Sync, R: Threads + Wait 
 ) -> (Seen, Status)
     requires workers { (0 < workers) × (workers ≤ 16) }
     requires sound { (own : List ℕ) × IsSoundScript own script.now }
+    requires steps { steps.now ≡ script.now.steps }
     requires network { next.network
         ≡ tables_after (length script.now.nodes) script.now.steps (before script.now 0) }
     ensures { (start : SinkState)
@@ -101,15 +107,15 @@ fn run_flows<D: Depot + Send, S: Sink + Send, G: Gate + Sync, R: Threads + Wait 
         if seen.reserve(1).is_err() {
             return (Seen::of(seen), Status::OutOfMemory);
         }
-        let place = place_of(script, workers, done, left);
+        let place = place_of(script, steps, workers, done, left);
         let Next {
             network,
             mut report,
         } = next;
-        let (lists, end) = run_flow(runner, &place, network, &mut report, depot, out);
+        let (lists, end) = run_flow(runner, &place, &network, &mut report, depot, out);
         left = left.saturating_sub(lists.len() as u64);
         seen.push_reserved(lists);
-        match end_turn(alloc, &place, end, report, out) {
+        match end_turn(alloc, &place, end, Next { network, report }, out) {
             Ok(after) => next = after,
             Err(status) => return (Seen::of(seen), status),
         }
@@ -119,9 +125,16 @@ fn run_flows<D: Depot + Send, S: Sink + Send, G: Gate + Sync, R: Threads + Wait 
 }
 
 /// Where a flow stands, counted from 0, where so many packets may still be read.
-fn place_of(script: &Script, workers: usize, flow: usize, most: u64) -> FlowPlace<'_>
+fn place_of<'s>(
+    script: &'s Script,
+    steps: &'s SharedSteps,
+    workers: usize,
+    flow: usize,
+    most: u64,
+) -> FlowPlace<'s>
     requires steps { length script.now.steps < 2 ^ 32 }
     requires few { length script.now.flows < 2 ^ 32 }
+    requires shared { steps.now ≡ script.now.steps }
     requires flow { flow < length script.now.flows }
     ensures flow { slice_get script.now.flows flow ≡ Some result.flow.now }
     ensures number { result.number ≡ flow + 1 }
@@ -139,7 +152,7 @@ fn place_of(script: &Script, workers: usize, flow: usize, most: u64) -> FlowPlac
         upto: script.steps_above(flow + 1),
         workers,
         names: script.nodes.as_slice(),
-        steps: script.steps.as_slice(),
+        steps,
     }
 }
 

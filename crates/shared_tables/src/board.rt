@@ -1,6 +1,6 @@
 //! Making a board.
 
-ghost use Rattle.std.specs.Prelude.{◌≡◌, ◌≤◌, ◌<◌, [], length, drop, All, IfOk, IfErr};
+ghost use Rattle.std.specs.Prelude.{◌≡◌, ◌≤◌, ◌<◌, [], length, drop, All, IfOk};
 ghost use Rattle.std.specs.Arc.{arc_value};
 ghost use Rattle.left_right.specs.Sides.{view};
 ghost use Rattle.shared_tables.specs.Plan.{network_after};
@@ -18,29 +18,23 @@ use node_tables::Network;
 use std::alloc::Global;
 use std::sync::{Arc, Wait};
 
-/// Memory ran out, and here is the network.
-#[derive(Drop)]
-pub struct Unbegun {
-    pub network: Network,
-}
-
 /// What a publisher and its viewers share. No value of it is made.
 pub struct Board;
 
 impl Board {
-    /// Opens a board at a version of a plan, with the tables of that version, for so many viewers. It may wait: where a viewer's place
-    /// is refused, it closes what it opened. After an error the plan's share is dropped, and the network is handed back.
+    /// Opens a board at a version of a plan, on copies of a network that has the tables of that version, for so many viewers. It may
+    /// wait: where a viewer's place is refused, it closes what it opened. After an error the plan's share is dropped.
     pub fn begin<R: Wait>(
         rt: &R,
         alloc: Global,
-        network: Network,
+        network: &Network,
         plan: Arc<Plan>,
         version: u32,
         viewers: usize,
-    ) -> Result<(Publisher, Vec<Viewer>), Unbegun>
+    ) -> Result<(Publisher, Vec<Viewer>), OutOfMemory>
         requires viewers { (0 < viewers) × (viewers ≤ 16) }
         requires version { version ≤ length (arc_value plan).steps }
-        requires network { network ≡ network_after (arc_value plan) version }
+        requires network { network.now ≡ network_after (arc_value plan) version }
         ensures publisher { IfOk result
             (λ begun. (begun.0.plan ≡ arc_value plan) × (begun.0.version ≡ version)) }
         ensures viewers { IfOk result
@@ -52,22 +46,19 @@ impl Board {
               plan = arc_value plan;
               seen = version;
             }) begun.1.items) }
-        ensures err { IfErr result (λ unbegun. unbegun.network ≡ network) }
     {
-        let Ok(writer) = open(alloc, &network, &plan, version, viewers) else {
-            return Err(Unbegun { network });
-        };
+        let writer = open(alloc, network, &plan, version, viewers)?;
         // With nothing pending this tells the writer its own version.
         let (mut writer, published) = publish(writer, rt);
         if published.is_err() {
             drop(writer.take(rt));
-            return Err(Unbegun { network });
+            return Err(OutOfMemory);
         }
         match seats(alloc, &mut writer, viewers) {
-            Ok(all) => Ok((Publisher::of(writer, network), all)),
+            Ok(all) => Ok((Publisher::of(writer), all)),
             Err(_) => {
                 drop(writer.take(rt));
-                Err(Unbegun { network })
+                Err(OutOfMemory)
             }
         }
     }

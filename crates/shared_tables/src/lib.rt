@@ -9,11 +9,13 @@ mod note;
 mod plan;
 mod publisher;
 mod rule;
+mod shared_steps;
 mod state;
 mod viewer;
 
-pub use board::{Board, Unbegun};
+pub use board::Board;
 pub use note::Note;
 pub use plan::Plan;
 pub use publisher::Publisher;
+pub use shared_steps::SharedSteps;
 pub use viewer::Viewer;

@@ -1,31 +1,35 @@
-//! Plans: the steps of a script.
+//! Plans: the steps of a script, or its first ones.
 
-ghost use Rattle.std.specs.Prelude.{◌≡◌, ◌^◌, ◌<◌, ◌≤◌, length, slice_get, IfOk, All, Some};
+ghost use Rattle.std.specs.Prelude.{◌≡◌, ◌^◌, ◌<◌, ◌≤◌, length, take, slice_get, IfOk, All, Some};
 ghost use Rattle.std.specs.Arc.{arc_value};
 
+use crate::shared_steps::SharedSteps;
 use mls_label::OutOfMemory;
 use script_lines::Step;
 use std::alloc::Global;
 use std::marker::Model;
 use std::sync::Arc;
 
-/// A number of nodes, and the steps that are given to them one after another. Each step's node is one of them: the type keeps that.
+/// A number of nodes, and the steps that are given to them one after another: the first of some that plans share. Each step's node is
+/// one of them: the type keeps that.
 #[derive(Drop)]
 pub struct Plan {
     nodes: usize,
-    steps: Vec<Step>,
+    steps: SharedSteps,
+    upto: u32,
 }
 
 impl Model for Plan {
-    ghost use Rattle.std.specs.Prelude.{◌<◌, ◌^◌, All, length};
+    ghost use Rattle.std.specs.Prelude.{◌<◌, ◌≤◌, ◌^◌, All, length, take};
     ghost use Rattle.shared_tables.specs.Plan.{PlanState};
 
     ghost Value = { PlanState };
 
-    ghost view = { λ plan. record { nodes = plan.nodes; steps = plan.steps.items } };
+    ghost view = { λ plan. record { nodes = plan.nodes; steps = take plan.upto plan.steps } };
 
-    ghost invariant = { λ plan. (length plan.steps.items < 2 ^ 32)
-        × All (λ step. step.node < plan.nodes) plan.steps.items };
+    ghost invariant = { λ plan. (plan.upto < 2 ^ 32)
+        × (plan.upto ≤ length plan.steps)
+        × All (λ step. step.node < plan.nodes) plan.steps };
 }
 
 impl Plan {
@@ -41,7 +45,26 @@ impl Plan {
         ensures { IfOk result
             (λ plan. arc_value plan ≡ record { nodes = nodes; steps = steps.items }) }
     {
-        let plan = Plan { nodes, steps };
+        let upto = steps.len() as u32;
+        let shared = SharedSteps::of(alloc, steps)?;
+        Plan::of_first(alloc, &shared, upto, nodes)
+    }
+
+    /// The plan of the first of these steps, which it shares, on so many nodes.
+    pub fn of_first(
+        alloc: Global,
+        steps: &SharedSteps,
+        upto: u32,
+        nodes: usize,
+    ) -> Result<Arc<Plan>, OutOfMemory>
+        requires nodes { nodes ≤ 32 }
+        requires inside { All (λ step. step.node < nodes) steps.now }
+        requires upto { upto ≤ length steps.now }
+        ensures { IfOk result
+            (λ plan. arc_value plan ≡ record { nodes = nodes; steps = take upto steps.now }) }
+    {
+        let steps = steps.again()?;
+        let plan = Plan { nodes, steps, upto };
         Arc::new(alloc, plan).map_err(|_| OutOfMemory)
     }
 
@@ -49,7 +72,7 @@ impl Plan {
     pub(crate) fn len(&self) -> u32
         ensures { result ≡ length self.now.steps }
     {
-        self.steps.len() as u32
+        self.upto
     }
 
     /// A step, counted from 0.
@@ -59,6 +82,6 @@ impl Plan {
         ensures inside { result.now.node < self.now.nodes }
         ensures few { length self.now.steps < 2 ^ 32 }
     {
-        &self.steps[i as usize]
+        &self.steps.as_slice()[i as usize]
     }
 }

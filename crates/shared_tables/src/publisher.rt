@@ -1,12 +1,11 @@
 //! The publisher.
 
-ghost use Rattle.std.specs.Prelude.{◌≡◌, ◌+◌, ◌<◌, ◌≤◌, length, drop, Some, IfOk, OnOk, OnErr, MatchOption};
+ghost use Rattle.std.specs.Prelude.{◌≡◌, ◌+◌, ◌<◌, ◌≤◌, length, drop, OnOk, OnErr};
 ghost use Rattle.std.specs.Arc.{arc_value};
 ghost use Rattle.left_right.specs.Sides.{view};
-ghost use Rattle.shared_tables.specs.Plan.{network_after, reply_after};
 ghost use Rattle.shared_tables.specs.inside.Name.{board_name};
 ghost use Rattle.shared_tables.specs.inside.Rule.{known};
-ghost use Rattle.shared_tables.specs.inside.Ready.{IsNext, HasPublished};
+ghost use Rattle.shared_tables.specs.inside.Ready.{HasPublished};
 
 use crate::note::Note;
 use crate::rule::{Rule, Sees, View};
@@ -14,7 +13,6 @@ use crate::state::{Advance, State};
 use core::mem;
 use left_right::writer::Writer;
 use mls_label::OutOfMemory;
-use node_tables::{Network, Reply};
 use std::alloc::AllocError;
 use std::marker::Model;
 use std::sync::Wait;
@@ -22,9 +20,6 @@ use std::sync::Wait;
 /// The one who makes the steps. It can't be dropped: it ends by `close`.
 pub struct Publisher {
     writer: Writer<State, Advance, View, Rule>,
-    // The network of the published version, or of the next one where its reply waits.
-    ahead: Network,
-    waiting: Option<Reply>,
 }
 
 impl Model for Publisher {
@@ -40,16 +35,14 @@ impl Model for Publisher {
     ghost view = { λ p. record { board = board_name; plan = arc_value p.writer.desk.shown.value.plan; version = p.writer.desk.shown.value.version } };
 
     ghost invariant = { λ p. IsReady p.writer.desk.shown.value (sides.view p.writer.desk.place)
-        (length (drop p.writer.behind p.writer.log.items)) p.ahead p.waiting };
+        (length (drop p.writer.behind p.writer.log.items)) };
 }
 
 impl Publisher {
-    pub(crate) fn of(writer: Writer<State, Advance, View, Rule>, network: Network) -> Publisher
+    pub(crate) fn of(writer: Writer<State, Advance, View, Rule>) -> Publisher
         requires knows { view writer.desk.place ≡ known
             (arc_value writer.desk.shown.value.plan) writer.desk.shown.value.version }
         requires none { length (drop writer.behind writer.log.items) ≡ 0 }
-        requires network { network ≡ network_after
-            (arc_value writer.desk.shown.value.plan) writer.desk.shown.value.version }
         ensures { result
             ≡ record {
               board = board_name;
@@ -57,37 +50,21 @@ impl Publisher {
               version = writer.desk.shown.value.version;
             } }
     {
-        Publisher {
-            writer,
-            ahead: network,
-            waiting: None,
-        }
+        Publisher { writer }
     }
 
-    /// Publishes the next step in one moment, and gives its reply; a listing and a refusal are versions as well. It waits for viewers
-    /// that still look at the version before the last. After an error the published version is the same, and the next call publishes
-    /// that step, once.
-    pub fn step<R: Wait>(&mut self, rt: &R) -> Result<Reply, OutOfMemory>
+    /// Publishes the next step in one moment; a listing and a refusal are versions as well. It waits for viewers that still look at the
+    /// version before the last. After an error the published version is the same, and the next call publishes that step, once.
+    pub fn step<R: Wait>(&mut self, rt: &R) -> Result<(), OutOfMemory>
         requires { self.old.version < length self.old.plan.steps }
-        ensures reply { IfOk result
-            (λ reply. reply_after self.old.plan self.old.version ≡ Some reply) }
         ensures ok { OnOk result (self.new ≡ record self.old { version = self.old.version + 1 }) }
         ensures err { OnErr result (self.new ≡ self.old) }
     {
-        let Publisher {
-            writer,
-            ahead,
-            waiting,
-            ..
-        } = self;
-        prepare(writer.published(), ahead, waiting)?;
+        let Publisher { writer } = self;
         append(writer)?;
-        if mem::replace_with(writer, rt, |writer, rt| publish(writer, rt)).is_err() {
-            return Err(OutOfMemory);
-        }
-        match waiting.take() {
-            Some(reply) => Ok(reply),
-            None => unreachable!(),
+        match mem::replace_with(writer, rt, |writer, rt| publish(writer, rt)) {
+            Ok(()) => Ok(()),
+            Err(_) => Err(OutOfMemory),
         }
     }
 
@@ -107,45 +84,11 @@ impl Publisher {
         Note::of(self.writer.published().version)
     }
 
-    /// Waits for viewers to leave, and gives the tables as they were published last.
-    pub fn close<R: Wait>(self, rt: &R) -> Network
-        ensures { result ≡ network_after self.plan self.version }
-    {
-        let Publisher {
-            writer,
-            ahead: _,
-            waiting: _,
-        } = self;
-        let state = Box::into_inner(writer.take(rt));
-        let State {
-            plan: _,
-            version: _,
-            network,
-        } = state;
-        network
+    /// Waits for viewers to leave, and drops the tables.
+    pub fn close<R: Wait>(self, rt: &R) {
+        let Publisher { writer } = self;
+        drop(writer.take(rt));
     }
-}
-
-// Makes the next network and its reply, unless they wait already.
-fn prepare(
-    state: &State,
-    ahead: &mut Network,
-    waiting: &mut Option<Reply>,
-) -> Result<(), OutOfMemory>
-    requires left { state.now.version < length (arc_value state.now.plan).steps }
-    requires ahead { MatchOption waiting.old
-        (ahead.old ≡ network_after (arc_value state.now.plan) state.now.version)
-        (λ reply. IsNext (arc_value state.now.plan) state.now.version ahead.old reply) }
-    ensures ok { OnOk result
-        (MatchOption waiting.new ⊥
-        (λ reply. IsNext (arc_value state.now.plan) state.now.version ahead.new reply)) }
-    ensures err { OnErr result ((ahead.new ≡ ahead.old) × (waiting.new ≡ waiting.old)) }
-{
-    if waiting.is_none() {
-        let reply = ahead.apply(state.plan.step(state.version))?;
-        *waiting = Some(reply);
-    }
-    Ok(())
 }
 
 // Appends the step, unless it is appended already.

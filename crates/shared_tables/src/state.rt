@@ -1,13 +1,13 @@
 //! What is published.
 
-ghost use Rattle.std.specs.Prelude.{◌≡◌, ◌+◌, ◌<◌, ◌≤◌, length, Some, IfOk, OnOk, OnErr};
+ghost use Rattle.std.specs.Prelude.{◌≡◌, ◌+◌, ◌<◌, ◌≤◌, length, OnOk, OnErr};
 ghost use Rattle.std.specs.Arc.{arc_value};
-ghost use Rattle.shared_tables.specs.Plan.{network_after, reply_after};
+ghost use Rattle.shared_tables.specs.Plan.{network_after};
 
 use crate::plan::Plan;
 use left_right::Absorb;
 use mls_label::OutOfMemory;
-use node_tables::{Network, Reply};
+use node_tables::Network;
 use std::alloc::AllocError;
 use std::sync::Arc;
 
@@ -32,12 +32,10 @@ pub struct Point {
 pub struct Advance;
 
 impl State {
-    /// Takes the next step in place, and gives its reply. After an error nothing has changed.
-    pub fn advance(&mut self) -> Result<Reply, OutOfMemory>
+    /// Takes the next step in place. After an error nothing has changed.
+    pub fn advance(&mut self) -> Result<(), OutOfMemory>
         requires { self.old.version < length (arc_value self.old.plan).steps }
         ensures plan { arc_value self.new.plan ≡ arc_value self.old.plan }
-        ensures reply { IfOk result
-            (λ reply. reply_after (arc_value self.old.plan) self.old.version ≡ Some reply) }
         ensures ok { OnOk result (self.new.version ≡ self.old.version + 1) }
         ensures err { OnErr result (self.new.version ≡ self.old.version) }
     {
@@ -46,9 +44,9 @@ impl State {
             version,
             network,
         } = self;
-        let reply = network.apply(plan.step(*version))?;
+        network.advance(plan.step(*version))?;
         *version += 1;
-        Ok(reply)
+        Ok(())
     }
 }
 
@@ -65,7 +63,7 @@ impl Absorb<Advance> for State {
             return Err(AllocError);
         }
         match self.advance() {
-            Ok(_) => Ok(()),
+            Ok(()) => Ok(()),
             Err(_) => Err(AllocError),
         }
     }

@@ -88,7 +88,7 @@ walk_over : (plan : PlanState) (m k : ℕ) (hops : List Hop) (coming : Coming) (
 walk_over plan m k [] coming versions end out low x = x
 walk_over plan m k (hop ∷ hops) coming [] end out low x = absurd x
 walk_over plan m k (hop ∷ hops) coming (version ∷ versions) end out low x =
-    let same = (beginnings_agree plan m version (low 0 0 (omega arith))).0 in
+    let same = beginnings_agree plan m version (low 0 0 (omega arith)) in
     let X : Coming → Type 0 = λ next. IsWalk (first_steps plan m) (k + 1) hops next versions end out in
     let there = subst (λ (network : List TableState). Follows k (octets_in coming) X versions end out (hop_verdict network hop (octets_in coming) x.0)) same x.2 in (
       x.0,

@@ -42,7 +42,7 @@ use Rattle.script_run.specs.declared.flow_run.source.Behind.{Behind}
 use Rattle.script_run.specs.declared.flow_run.source.Behind.TheVariants as the_behind
 use Rattle.script_run.specs.flow_run.Input.{FlowInput, input_by, flow_input}
 use Rattle.script_run.specs.flow_run.Run.{FlowRun, is_judged, is_denied, walked_lines, run_text, run_end, kept_frames, passed_in, denied_in}
-use Rattle.script_run.specs.flow_run.Ends.{IsHandedOn, IsPrinted, IsEnd, HasEnded, HasMade, HasReadInput, IsCause, IsRunOf, HasSteps, FlowEnds}
+use Rattle.script_run.specs.flow_run.Ends.{IsHandedOn, IsPrinted, IsEnd, HasEnded, HasMade, HasReadInput, IsCause, IsRunOf, FlowEnds}
 use Rattle.script_run.specs.flow_run.inside.Output.{IsAppended, HasHead}
 use Rattle.script_run.specs.flow_run.inside.Source.{frames_left, packets_left, heads_left, file_of, StandsBy, IsAtEnd, event_of, is_end, ReadsMove, IsFed}
 use Rattle.script_run.specs.flow_run.inside.Taken.{Moment, IsPrintedTo, kept_by, IsMoved, outside_of, HasTaken}
@@ -93,12 +93,12 @@ module _ (plan : PlanState) (names : List (List ℕ)) (workers number most upto 
   first_run = early_run number most flow (before.folder.held flow.input)
 
   early : (end : FlowEnd) → (IsTrue before.folder.tells → IsEnd end first_run) → (IsTrue before.folder.tells → IsPrinted names first_run end waits waits' before.stream after.stream)
-      → (IsTrue before.folder.tells → HasMade first_run end before.folder.held after.folder.held) → HasSteps plan flow.before upto end → IsCause flow end before after
+      → (IsTrue before.folder.tells → HasMade first_run end before.folder.held after.folder.held) → IsCause flow end before after
       → (flow.output ≡ None → SameCounts before.folder.creates after.folder.creates × SameCounts before.folder.appends after.folder.appends)
       → before.stream.faults ≤ after.stream.faults → after.folder.tells ≡ before.folder.tells → after.stream.tells ≡ before.stream.tells
       → FlowEnds plan names workers number most upto flow before after waits waits' [] end
   unfolding first_run
-  early end ends printed made steps cause still faults folder_told stream_told = record {
+  early end ends printed made cause still faults folder_told stream_told = record {
     runs = λ told. record {
       run = early_run number most flow (before.folder.held flow.input);
       numbered = refl;
@@ -110,7 +110,6 @@ module _ (plan : PlanState) (names : List (List ℕ)) (workers number most upto 
       printed = printed told;
       made = made told;
     };
-    steps = steps;
     cause = cause;
     still = still;
     faults = faults;
@@ -152,7 +151,7 @@ module _ (plan : PlanState) (names : List (List ℕ)) (workers number most upto 
         prefix = λ t. record { count = 0; within = omega arith; written = ap (λ (s : SinkState). s.written) stream ∙ sym (append-nil before.stream.written) };
       })
       (λ told. unmade the_stop.OutOfMemory (λ name. ap (λ (d : DepotState). d.held name) folder))
-      tt (ran_short folder stream) (λ none. (λ name. ap (λ (d : DepotState). d.creates name) folder, λ name. ap (λ (d : DepotState). d.appends name) folder))
+      (ran_short folder stream) (λ none. (λ name. ap (λ (d : DepotState). d.creates name) folder, λ name. ap (λ (d : DepotState). d.appends name) folder))
       (faults_same stream) (ap (λ (d : DepotState). d.tells) folder) (ap (λ (s : SinkState). s.tells) stream)
 
   module _ (waits_are : waits' ≡ waits ++ flow_line number flow.input) (stream : after.stream ≡ before.stream) (folder_told : after.folder.tells ≡ before.folder.tells)
@@ -161,20 +160,20 @@ module _ (plan : PlanState) (names : List (List ℕ)) (workers number most upto 
     -- a read of the beginning has failed
     pub ends_unread : Rose (before.folder.reads flow.input) (after.folder.reads flow.input) → NoWriteFailed before after → FlowEnds plan names workers number most upto flow before after waits waits' [] (Stopped the_stop.Read)
     ends_unread rose unwritten =
-        early (Stopped the_stop.Read) (λ told. tt) (λ told. line_waits waits_are stream) (λ told. unmade the_stop.Read (kept told)) tt (rose, unwritten) still
+        early (Stopped the_stop.Read) (λ told. tt) (λ told. line_waits waits_are stream) (λ told. unmade the_stop.Read (kept told)) (rose, unwritten) still
         (faults_same stream) folder_told (ap (λ (s : SinkState). s.tells) stream)
 
     -- the output can't be made
     pub ends_unmade : (name : List ℕ) → flow.output ≡ Some name → Rose (before.folder.creates name) (after.folder.creates name) → NoWriteFailed before after
         → FlowEnds plan names workers number most upto flow before after waits waits' [] (Stopped the_stop.Create)
     ends_unmade name is rose unwritten =
-        early (Stopped the_stop.Create) (λ told. tt) (λ told. line_waits waits_are stream) (λ told. unmade the_stop.Create (kept told)) tt (name, is, rose, unwritten) still
+        early (Stopped the_stop.Create) (λ told. tt) (λ told. line_waits waits_are stream) (λ told. unmade the_stop.Create (kept told)) (name, is, rose, unwritten) still
         (faults_same stream) folder_told (ap (λ (s : SinkState). s.tells) stream)
 
     -- memory runs out behind its line
     pub ends_early : RanShort → FlowEnds plan names workers number most upto flow before after waits waits' [] (Stopped the_stop.OutOfMemory)
     ends_early short =
-        early (Stopped the_stop.OutOfMemory) (λ told. tt) (λ told. cut_off _ _ _ _ _ (line_waits waits_are stream)) (λ told. unmade the_stop.OutOfMemory (kept told)) tt short still
+        early (Stopped the_stop.OutOfMemory) (λ told. tt) (λ told. cut_off _ _ _ _ _ (line_waits waits_are stream)) (λ told. unmade the_stop.OutOfMemory (kept told)) short still
         (faults_same stream) folder_told (ap (λ (s : SinkState). s.tells) stream)
 
     -- the beginning is broken
@@ -185,7 +184,7 @@ module _ (plan : PlanState) (names : List (List ℕ)) (workers number most upto 
         early (Broken fault) (λ told. broken_ends number most flow (before.folder.held flow.input) fault (holds told))
         (λ told. line_waits waits_are stream)
         (λ told. broken_made number most flow (before.folder.held flow.input) fault before.folder.held after.folder.held (holds told) (kept told))
-        tt none still (faults_same stream) folder_told (ap (λ (s : SinkState). s.tells) stream)
+        none still (faults_same stream) folder_told (ap (λ (s : SinkState). s.tells) stream)
 
 -- ---- a flow that has run
 
@@ -241,7 +240,7 @@ printed_front stop line text waits mid still a b is printed =
 printed_end : (names : List (List ℕ)) (run : FlowRun) (end : FlowEnd) (now : Moment) (waits waits' : List ℕ) (a b : SinkState)
     → IsPrintedTo (stop_of end) (run_text names run) waits now.lines a b → WaitsFor run.number end now waits'
     → length now.seen ≡ length run.pairs → now.passed ≡ passed_in run.pairs → now.denied ≡ denied_in run.pairs → IsPrinted names run end waits waits' a b
-printed_end names run (GoesOn network replies) now waits waits' a b printed are seen passed denied =
+printed_end names run GoesOn now waits waits' a b printed are seen passed denied =
     let is : waits' ≡ now.lines ++ run_end run =
     are
     ∙ ap (λ n. now.lines ++ flow_end_line run.number n now.passed now.denied) seen
@@ -260,14 +259,14 @@ printed_end names run (Stopped the_stop.OutOfMemory) now waits waits' a b printe
 -- which event ends it
 end_event : (run : FlowRun) (end : FlowEnd) (format : CaptureFormat) (behind : Option Behind) → run.input.format ≡ Some format → (HasEnded end → is_judged run ≡ true)
     → IsBehind end behind → ((b : Behind) → behind ≡ Some b → is_end (Some b) ≡ true → run.input.event ≡ event_of run.number b) → IsEnd end run
-end_event run (GoesOn network replies) format behind has judged is event =
+end_event run GoesOn format behind has judged is event =
     rw (judged tt, has, event the_behind.Whole is refl) refl
 end_event run (Broken fault) format behind has judged is event = (judged tt, event (the_behind.Broken fault) is refl)
 end_event run TooMany format behind has judged is event = (judged tt, event the_behind.TooMany is refl)
 end_event run (Stopped why) format behind has judged is event = tt
 
 stop_ended : (end : FlowEnd) → HasEnded end → stop_of end ≡ None
-stop_ended (GoesOn network replies) ended = refl
+stop_ended GoesOn ended = refl
 stop_ended (Broken fault) ended = refl
 stop_ended TooMany ended = refl
 stop_ended (Stopped why) ended = absurd ended
@@ -346,7 +345,7 @@ module _ (flow : FlowLine) (behind : Option Behind) (before after : Outside) (re
   has_read = record { reads = reads_or_rose behind flow.input before.folder.reads after.folder.reads reads; creates = creates }
 
   cause_of : (end : FlowEnd) → IsBehind end behind → (stop_of end ≡ Some the_stop.Read → behind ≡ Some the_behind.Failed) → IsMoved flow (stop_of end) before after → IsCause flow end before after
-  cause_of (GoesOn network replies) is failed moved = none_failed the_behind.Whole refl is moved
+  cause_of GoesOn is failed moved = none_failed the_behind.Whole refl is moved
   cause_of (Broken fault) is failed moved = none_failed (the_behind.Broken fault) refl is moved
   cause_of TooMany is failed moved = none_failed the_behind.TooMany refl is moved
   cause_of (Stopped the_stop.Read) is failed moved = (subst (λ (b : Option Behind). ReadsMove b flow.input before.folder.reads after.folder.reads) (failed refl) reads, moved)
@@ -551,7 +550,6 @@ module _ (plan : PlanState) (names : List (List ℕ)) (workers number most upto 
   pub ends_run : FlowEnds plan names workers number most upto flow before after waits waits' seen end
   ends_run = record {
     runs = is_run;
-    steps = flown.steps;
     cause = cause_of flow flown.now.source.behind before after reads_are creates_are end flown.behind (λ is. flown.taken.failed (flown.stop ∙ is)) moved_are;
     still = λ none. (creates_are, λ name. ap (λ (d : DepotState). d.appends name) flown.folder ∙ flown.taken.still none name ∙ start.appends name);
     faults = omega (arith, flown.taken.faults, ap (λ (s : SinkState). s.faults) flown.stream, ap (λ (s : SinkState). s.faults) stream);

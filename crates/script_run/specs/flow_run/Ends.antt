@@ -3,9 +3,7 @@ use Rattle.std.specs.Prelude.{ℕ, ◌≡◌, ◌≢◌, ◌≤◌, ◌⊎◌, �
 use Rattle.net_io.specs.Sink.{SinkState, WritesPrefix}
 use Rattle.net_io.specs.Faults.{Rose, SameCounts}
 use Rattle.label_commands.specs.declared.flow_lines.flow.FlowLine.{FlowLine}
-use Rattle.node_tables.specs.Steps.{tables_after}
 use Rattle.shared_tables.specs.Plan.{PlanState}
-use Rattle.label_flow.specs.Round.{AreReplies}
 use Rattle.label_flow.specs.Schedule.{AreLawful}
 use Rattle.call_report.specs.Lines.Capture.{capture_line}
 use Rattle.call_report.specs.Lines.Fixed.{packets_limit_line}
@@ -32,7 +30,7 @@ pub record IsCutOff (text waits : List ℕ) (before after : SinkState) : Type 0 
 
 -- what was printed of a flow
 abbrev pub IsPrinted : List (List ℕ) → FlowRun → FlowEnd → List ℕ → List ℕ → SinkState → SinkState → Type 0
-IsPrinted names run (GoesOn network replies) waits waits' before after = IsHandedOn (run_text names run ++ run_end run) waits waits' before after
+IsPrinted names run GoesOn waits waits' before after = IsHandedOn (run_text names run ++ run_end run) waits waits' before after
 IsPrinted names run (Broken fault) waits waits' before after = IsHandedOn (run_text names run) waits waits' before after
 IsPrinted names run TooMany waits waits' before after = IsHandedOn (run_text names run) waits waits' before after
 IsPrinted names run (Stopped stop.Read) waits waits' before after = IsHandedOn (run_text names run) waits waits' before after
@@ -44,7 +42,7 @@ IsPrinted names run (Stopped stop.OutOfMemory) waits waits' before after = IsCut
 
 -- where a flow stands that ends so: the next one comes; its capture ends there by this event; or it was stopped somewhere
 abbrev pub IsEnd : FlowEnd → FlowRun → Type 0
-IsEnd (GoesOn network replies) run = IsTrue (goes_on run)
+IsEnd GoesOn run = IsTrue (goes_on run)
 IsEnd (Broken fault) run = IsTrue (is_judged run) × (run.input.event ≡ Some (record { status = 5; line = capture_line run.number fault }))
 IsEnd TooMany run = IsTrue (is_judged run) × (run.input.event ≡ Some (record { status = 7; line = packets_limit_line }))
 IsEnd (Stopped why) run = Unit {0}
@@ -90,15 +88,9 @@ pub record IsRunOf (plan : PlanState) (names : List (List ℕ)) (workers number 
   pub printed : IsPrinted names run end waits waits' before.stream after.stream
   pub made : HasMade run end before.folder.held after.folder.held
 
--- where the next flow comes, the nodes' tables are those behind all steps in front of it, each of which was answered
-abbrev pub HasSteps : PlanState → ℕ → ℕ → FlowEnd → Type 0
-HasSteps plan from upto (GoesOn network replies) = (network ≡ tables_after plan.nodes plan.steps upto) × (from + length replies.items ≡ upto) × AreReplies plan from replies.items
-HasSteps plan from upto end = Unit {0}
-
 -- What one flow does. Its captures are in the folder, and its lines go through what waits for the stream.
 pub record FlowEnds (plan : PlanState) (names : List (List ℕ)) (workers number most upto : ℕ) (flow : FlowLine) (before after : Outside) (waits waits' : List ℕ) (seen : List (List ℕ)) (end : FlowEnd) : Type 0 where
   pub runs : IsTrue before.folder.tells → IsRunOf plan names workers number most upto flow before after waits waits' seen end
-  pub steps : HasSteps plan flow.before upto end
   pub cause : IsCause flow end before after
   -- a flow without an output makes nothing and appends nothing
   pub still : flow.output ≡ None → SameCounts before.folder.creates after.folder.creates × SameCounts before.folder.appends after.folder.appends

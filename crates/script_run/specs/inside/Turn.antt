@@ -5,7 +5,6 @@ use Rattle.net_io.specs.Sink.{SinkState}
 use Rattle.script_lines.specs.declared.command.Step.{Step}
 use Rattle.label_commands.specs.declared.script.Script.{Script}
 use Rattle.label_commands.specs.Script.{before}
-use Rattle.node_tables.specs.Tables.{TableState}
 use Rattle.node_tables.specs.Steps.{tables_after}
 use Rattle.call_report.specs.Lines.Reply.{replies_text}
 use Rattle.call_report.specs.Lines.Capture.{capture_line}
@@ -21,12 +20,12 @@ use Rattle.script_run.specs.declared.flow_run.end.FlowStop.TheVariants as stop
 use Rattle.script_run.specs.Report.{first_replies}
 use Rattle.script_run.specs.declared.turn.Next.{Next}
 
--- the replies to so many steps behind the first `from` were handed on, and the next flow comes, on this network; or a write of them was refused
-abbrev pub HasAnswered : List (List ℕ) → List Step → ℕ → ℕ → List TableState → List ℕ → SinkState → SinkState → Result Next Status → Type 0
-HasAnswered names steps from count network waits a b (Ok next) =
-    (next.network ≡ network) × HandsOn {T = Unit {0}} (replies_text names steps from count) waits next.report.waiting.items (Ok tt) a b
-HasAnswered names steps from count network waits a b (Err status) =
-    (fault : IoFault) × (still : List ℕ) × (status ≡ write_status fault) × HandsOn {T = Unit {0}} (replies_text names steps from count) waits still (Err fault) a b
+-- the replies to the steps from one to another were handed on, and the next flow comes, on the tables after these steps; or a write of them was refused
+abbrev pub HasAnswered : List (List ℕ) → List Step → ℕ → ℕ → List ℕ → SinkState → SinkState → Result Next Status → Type 0
+HasAnswered names steps from upto waits a b (Ok next) =
+    (next.network ≡ tables_after (length names) steps upto) × HandsOn {T = Unit {0}} (replies_text names steps from (upto - from)) waits next.report.waiting.items (Ok tt) a b
+HasAnswered names steps from upto waits a b (Err status) =
+    (fault : IoFault) × (still : List ℕ) × (status ≡ write_status fault) × HandsOn {T = Unit {0}} (replies_text names steps from (upto - from)) waits still (Err fault) a b
 
 -- the report ends here, with this line behind what waits
 abbrev pub HasPrinted : List ℕ → List ℕ → Status → SinkState → SinkState → Result Next Status → Type 0
@@ -45,7 +44,7 @@ HasCeased due a b (Err status) = (status ≡ due) × (b ≡ a)
 
 -- by how the flow of this number has ended
 abbrev pub IsTurnEnd : List (List ℕ) → List Step → ℕ → ℕ → ℕ → FlowEnd → List ℕ → SinkState → SinkState → Result Next Status → Type 0
-IsTurnEnd names steps number from upto (GoesOn network replies) waits a b result = HasAnswered names steps from (upto - from) network waits a b result
+IsTurnEnd names steps number from upto GoesOn waits a b result = HasAnswered names steps from upto waits a b result
 IsTurnEnd names steps number from upto (Broken fault) waits a b result = HasPrinted waits (capture_line number fault) WrongCapture a b result
 IsTurnEnd names steps number from upto TooMany waits a b result = HasPrinted waits packets_limit_line Limit a b result
 IsTurnEnd names steps number from upto (Stopped stop.Read) waits a b result = HasPrinted waits [] ReadFault a b result

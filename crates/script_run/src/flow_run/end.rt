@@ -3,8 +3,7 @@
 use captures::FileFault;
 use domain_map::Name;
 use label_commands::FlowLine;
-use node_tables::{Network, Reply};
-use script_lines::Step;
+use shared_tables::SharedSteps;
 
 /// Where a flow stands in its script.
 #[derive(Clone, Copy)]
@@ -22,7 +21,7 @@ pub struct FlowPlace<'a> {
     /// The names of all nodes.
     pub names: &'a [Name],
     /// All steps of the script.
-    pub steps: &'a [Step],
+    pub steps: &'a SharedSteps,
 }
 
 /// Why a flow was stopped.
@@ -40,13 +39,10 @@ pub enum FlowStop {
 }
 
 /// How a flow ends.
-#[derive(Drop)]
+#[derive(Clone, Copy, Debug, PartialEq, Eq)]
 pub enum FlowEnd {
-    /// All its packets were walked, and the next flow comes under these tables; these are the replies to the steps beside it.
-    GoesOn {
-        network: Network,
-        replies: Vec<Reply>,
-    },
+    /// All its packets were walked, and the next flow comes.
+    GoesOn,
     /// Its capture has a fault behind its last packet.
     Broken(FileFault),
     /// Its capture has more packets than may be read.

@@ -1,8 +1,7 @@
 //! One flow, from its line to the next one's.
 
-ghost use Rattle.std.specs.Prelude.{◌≡◌, ◌≢◌, ◌⊎◌, ◌+◌, ◌≤◌, [], length, None, Some, true, OnOk, IfOk, IsOk};
+ghost use Rattle.std.specs.Prelude.{◌≡◌, ◌≢◌, ◌⊎◌, None, Some, true, OnOk, IsOk};
 ghost use Rattle.captures.specs.Reader.{file_name_of};
-ghost use Rattle.label_flow.specs.Round.{AreReplies};
 ghost use Rattle.script_run.specs.flow_run.Place.{StandsAt, tables_at};
 ghost use Rattle.script_run.specs.flow_run.Ends.{HasEnded, FlowEndsAt};
 ghost use Rattle.script_run.specs.declared.flow_run.end.FlowStop.TheVariants.{OutOfMemory as NoMemoryStop};
@@ -11,7 +10,7 @@ ghost use Rattle.script_run.specs.flow_run.inside.Board.{IsOpenFor};
 ghost use Rattle.script_run.specs.flow_run.inside.Output.{IsThere, AreSent};
 ghost use Rattle.script_run.specs.flow_run.inside.Source.{IsFed, is_end};
 ghost use Rattle.script_run.specs.flow_run.inside.Taken.{stop_in};
-ghost use Rattle.script_run.specs.flow_run.inside.Flown.{EndsBehind, Gives, IsFresh, LeavesWaiting, WaitsFor, IsBehind, stop_of, end_at};
+ghost use Rattle.script_run.specs.flow_run.inside.Flown.{EndsBehind, IsFresh, LeavesWaiting, WaitsFor, IsBehind, stop_of, end_at};
 ghost use Rattle.script_run.specs.flow_run.inside.Feed.{IsSameFlow, IsNew, IsPrepared, GoesOnFrom, HasRound, HasTakenToEnd, HasFlownSince, EndsSince, last_moment};
 
 use crate::flow_run::board::open_board;
@@ -24,7 +23,7 @@ use call_report::{FlowSeen, Report, WalkLines, write_flow, write_flow_end};
 use captures::{FileFault, ReadStop};
 use label_flow::{Gate, RoundStop, round};
 use net_io::{Depot, Sink};
-use node_tables::{Network, Reply};
+use node_tables::Network;
 use shared_tables::{Publisher, Viewer};
 use std::sync::Wait;
 use std::thread::Threads;
@@ -44,7 +43,7 @@ fn drive<D: Depot + Send, S: Sink + Send, G: Gate + Sync, R: Threads + Wait + Sy
     publisher: &mut Publisher,
     viewers: &mut [Viewer],
     feed: &mut RunFeed<'_, '_, '_, '_, D, S>,
-) -> Result<Vec<Reply>, FlowStop>
+) -> Result<(), FlowStop>
     requires stands { StandsAt feed.old.place }
     requires board { IsOpenFor feed.old.place publisher.old viewers.old }
     requires going { GoesOnFrom D.state S.state feed.old }
@@ -53,16 +52,11 @@ fn drive<D: Depot + Send, S: Sink + Send, G: Gate + Sync, R: Threads + Wait + Sy
     ensures fed { IsFed (D.state feed.new.depot.now) feed.new.source }
     ensures there { IsThere feed.new.place.flow.now.output (D.state feed.new.depot.now) }
     ensures ended { OnOk result (is_end feed.new.source.behind ≡ true) }
-    ensures plan { publisher.new.plan ≡ publisher.old.plan }
-    ensures version { publisher.old.version ≤ publisher.new.version }
-    ensures replies { IfOk result (λ rs. (publisher.new.version ≡ feed.old.place.upto)
-        × (publisher.old.version + length rs.items ≡ feed.old.place.upto)
-        × AreReplies publisher.old.plan publisher.old.version rs.items) }
 {
     let Runner { rt, alloc, gate } = runner;
     let FlowPlace { upto, flow, .. } = feed.place;
     match round(*rt, *alloc, publisher, viewers, upto, flow, feed, *gate) {
-        Ok(replies) => Ok(replies),
+        Ok(()) => Ok(()),
         Err(RoundStop::Feed(stop)) => Err(stop),
         Err(RoundStop::OutOfMemory) => {
             feed.stop = Some(FlowStop::OutOfMemory);
@@ -72,8 +66,7 @@ fn drive<D: Depot + Send, S: Sink + Send, G: Gate + Sync, R: Threads + Wait + Sy
 }
 
 // The last line of a flow that goes on.
-fn go_on(report: &mut Report, totals: Totals, network: Network, replies: Vec<Reply>) -> FlowEnd
-    ensures gives { Gives result network replies.items }
+fn go_on(report: &mut Report, totals: Totals) -> FlowEnd
     ensures stop { (stop_of result ≡ None) ⊎ (stop_of result ≡ Some NoMemoryStop) }
     ensures waits { LeavesWaiting totals result report.old.waiting.items report.new.waiting.items }
     ensures behind { IsBehind result (Some the_behind.Whole) }
@@ -85,27 +78,20 @@ fn go_on(report: &mut Report, totals: Totals, network: Network, replies: Vec<Rep
         denied,
     } = totals;
     match write_flow_end(number, packets, passed, denied, &mut report.waiting) {
-        Ok(()) => FlowEnd::GoesOn { network, replies },
+        Ok(()) => FlowEnd::GoesOn,
         Err(_) => FlowEnd::Stopped(FlowStop::OutOfMemory),
     }
 }
 
 // How a flow ends whose packets were all walked and written.
-fn conclude(
-    report: &mut Report,
-    totals: Totals,
-    behind: Option<Behind>,
-    network: Network,
-    replies: Vec<Reply>,
-) -> FlowEnd
+fn conclude(report: &mut Report, totals: Totals, behind: Option<Behind>) -> FlowEnd
     requires { is_end behind ≡ true }
-    ensures gives { Gives result network replies.items }
     ensures stop { (stop_of result ≡ None) ⊎ (stop_of result ≡ Some NoMemoryStop) }
     ensures waits { LeavesWaiting totals result report.old.waiting.items report.new.waiting.items }
     ensures behind { IsBehind result behind }
 {
     match behind {
-        Some(Behind::Whole) => go_on(report, totals, network, replies),
+        Some(Behind::Whole) => go_on(report, totals),
         Some(Behind::Broken(fault)) => FlowEnd::Broken(fault),
         Some(Behind::TooMany) => FlowEnd::TooMany,
         Some(Behind::Failed | Behind::NoMemory) | None => unreachable!(),
@@ -115,8 +101,7 @@ fn conclude(
 // What waits for the output is appended where nothing stopped the flow, and the flow ends.
 fn finish<D: Depot, S: Sink>(
     feed: &mut RunFeed<'_, '_, '_, '_, D, S>,
-    network: Network,
-    driven: Result<Vec<Reply>, FlowStop>,
+    driven: Result<(), FlowStop>,
 ) -> FlowEnd
     requires there { IsThere feed.old.place.flow.now.output (D.state feed.old.depot.now) }
     requires ended { OnOk driven (is_end feed.old.source.behind ≡ true) }
@@ -128,14 +113,13 @@ fn finish<D: Depot, S: Sink>(
     ensures sent { HasEnded result
         → AreSent feed.old.place.flow.now.output feed.new.octets.items }
     ensures behind { IsBehind result feed.new.source.behind }
-    ensures gives { IfOk driven (λ replies. Gives result network replies.items) }
     ensures done { HasEnded result → IsOk driven }
     ensures fed { IsFed (D.state feed.old.depot.now) feed.old.source
         → feed.old.place.flow.now.output ≢ Some (file_name_of feed.old.source.reader)
         → IsFed (D.state feed.new.depot.now) feed.new.source }
 {
     match driven {
-        Ok(replies) => match append_rest(feed.depot, &feed.place.flow.output, &mut feed.octets) {
+        Ok(()) => match append_rest(feed.depot, &feed.place.flow.output, &mut feed.octets) {
             Ok(()) => {
                 let totals = Totals {
                     number: u64::from(feed.place.number),
@@ -143,7 +127,7 @@ fn finish<D: Depot, S: Sink>(
                     passed: feed.passed,
                     denied: feed.denied,
                 };
-                conclude(feed.report, totals, feed.source.behind, network, replies)
+                conclude(feed.report, totals, feed.source.behind)
             }
             Err(stop) => FlowEnd::Stopped(stop),
         },
@@ -166,18 +150,18 @@ fn run_on<D: Depot + Send, S: Sink + Send, G: Gate + Sync, R: Threads + Wait + S
     let (mut publisher, mut viewers) = board;
     let seats = viewers.as_mut_slice();
     let driven = drive(runner, &mut publisher, seats, feed);
-    let network = publisher.close(runner.rt);
-    finish(feed, network, driven)
+    publisher.close(runner.rt);
+    finish(feed, driven)
 }
 
 // The packets of a capture whose beginning was read, where the output is made.
 fn run_made<D: Depot + Send, S: Sink + Send, G: Gate + Sync, R: Threads + Wait + Sync>(
     runner: &Runner<'_, '_, R, G>,
-    network: Network,
+    network: &Network,
     feed: &mut RunFeed<'_, '_, '_, '_, D, S>,
 ) -> FlowEnd
     requires stands { StandsAt feed.old.place }
-    requires network { network ≡ tables_at feed.old.place }
+    requires network { network.now ≡ tables_at feed.old.place }
     requires prepared { IsPrepared D.state feed.old }
     ensures same { IsSameFlow feed.old feed.new }
     ensures flown { HasFlownSince D.state S.state feed.old feed.new result }
@@ -192,11 +176,11 @@ fn run_made<D: Depot + Send, S: Sink + Send, G: Gate + Sync, R: Threads + Wait +
 // A flow whose input's beginning was read.
 fn run_read<D: Depot + Send, S: Sink + Send, G: Gate + Sync, R: Threads + Wait + Sync>(
     runner: &Runner<'_, '_, R, G>,
-    network: Network,
+    network: &Network,
     feed: &mut RunFeed<'_, '_, '_, '_, D, S>,
 ) -> FlowEnd
     requires stands { StandsAt feed.old.place }
-    requires network { network ≡ tables_at feed.old.place }
+    requires network { network.now ≡ tables_at feed.old.place }
     requires new { IsNew D.state feed.old }
     ensures same { (feed.new.depot.ghost_name ≡ feed.old.depot.ghost_name)
         × (feed.new.out.ghost_name ≡ feed.old.out.ghost_name)
@@ -217,14 +201,14 @@ fn run_read<D: Depot + Send, S: Sink + Send, G: Gate + Sync, R: Threads + Wait +
 fn run_source<D: Depot + Send, S: Sink + Send, G: Gate + Sync, R: Threads + Wait + Sync>(
     runner: &Runner<'_, '_, R, G>,
     place: &FlowPlace<'_>,
-    network: Network,
+    network: &Network,
     source: Source,
     report: &mut Report,
     depot: &mut D,
     out: &mut S,
 ) -> (FlowSeen, FlowEnd)
     requires stands { StandsAt place.now }
-    requires network { network ≡ tables_at place.now }
+    requires network { network.now ≡ tables_at place.now }
     requires fresh { IsFresh place.now.flow.now.input place.now.most source }
     requires fed { IsFed (D.state depot.old) source }
     ensures { EndsBehind place.now source
@@ -285,20 +269,21 @@ fn end_at(stop: ReadStop) -> FlowEnd
 
 /// Carries out a flow of a script, up to the next one. A line is printed for the flow and for each of its packets, and the packets
 /// that aren't denied are written to its output, if it has one: a capture of link type 101 in the input's format. The steps up to
-/// the next flow are made beside the packets, which so many workers walk.
+/// the next flow are made beside the packets, which so many workers walk, on copies of the network: it stays as it is, and who prints the
+/// replies carries them out once more.
 ///
 /// Each version under which a packet was judged is given back. Where a read or an append fails, or memory runs out, all packets in front
 /// of it stand in the lines; of the output some first octets may be there.
 pub fn run_flow<D: Depot + Send, S: Sink + Send, G: Gate + Sync, R: Threads + Wait + Sync>(
     runner: &Runner<'_, '_, R, G>,
     place: &FlowPlace<'_>,
-    network: Network,
+    network: &Network,
     report: &mut Report,
     depot: &mut D,
     out: &mut S,
 ) -> (FlowSeen, FlowEnd)
     requires stands { StandsAt place.now }
-    requires network { network ≡ tables_at place.now }
+    requires network { network.now ≡ tables_at place.now }
     ensures { FlowEndsAt place.now
         (record { folder = D.state depot.old; stream = S.state out.old })
         (record { folder = D.state depot.new; stream = S.state out.new })

@@ -3,6 +3,7 @@ use Rattle.flow_tests.proofs.of_label_flow.stepped.Given as goal
 
 abbrev pub invariant-loop-publisher : goal.invariant-loop-publisher
 invariant-loop-publisher g l = record {
+  board : l.publisher.board ≡ l.fn.publisher.board;
   plan : l.publisher.plan ≡ l.fn.publisher.plan;
   within : l.publisher.version ≤ l.version;
 }

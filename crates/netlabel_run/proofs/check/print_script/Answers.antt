@@ -6,8 +6,8 @@ use Rattle.call_report.specs.declared.status.Status.TheVariants.{Done}
 use Rattle.call_report.proofs.Law.{a_text_begins_a_report, a_failing_text_ends_a_report}
 use Rattle.netlabel_run.proofs.check.print_script.Goals as goal
 
-pub answer_steps-requires-clause-fresh : goal.answer_steps-requires-clause-fresh
-answer_steps-requires-clause-fresh g c = c.in-Ok.ensures ∙ sym (nodes_begin_fresh (length c.as_slice-names.result.now) c.as_slice-steps.result.now)
+pub answer_steps-requires-clause-tables : goal.answer_steps-requires-clause-tables
+answer_steps-requires-clause-tables g c = c.in-Ok.ensures ∙ sym (nodes_begin_fresh (length c.as_slice-names.result.now) c.as_slice-steps.result.now)
 
 pub returns-in-Ok-answer_steps : goal.returns-in-Ok-answer_steps
 returns-in-Ok-answer_steps g c =

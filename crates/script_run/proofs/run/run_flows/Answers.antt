@@ -99,7 +99,7 @@ loop-done-preserved g c =
       within = omega (arith, c.loop-done-test.true, ap length c.as_slice-flows.ensures);
       few = rw c.saturating_sub-left.ensures (omega (arith, inv.few));
       count = ap length longer ∙ length-append c.loop-done.seen.items (c.run_flow-lists.result.0 ∷ []) ∙ ap (λ n. n + 1) inv.count;
-      tables = network_next (plan_of script) script.nodes (k + 1) flow.before (before script (k + 1)) c.run_flow-lists.result.1 c.run_flow-lists.new.report.waiting.items (g.S.Sink.state c.run_flow-lists.new.out) (g.S.Sink.state c.end_turn.new.out) c.in-Ok.after ran.steps ends;
+      tables = network_next script.nodes script.steps (k + 1) flow.before (before script (k + 1)) c.run_flow-lists.result.1 c.run_flow-lists.new.report.waiting.items (g.S.Sink.state c.run_flow-lists.new.out) (g.S.Sink.state c.end_turn.new.out) c.in-Ok.after ends;
       runs = λ start way.
           let first : Outside = record { folder = g.D.Depot.state c.args.depot.now; stream = start } in
           let now : Outside = record { folder = g.D.Depot.state c.loop-done.depot; stream = g.S.Sink.state c.loop-done.out } in

@@ -9,8 +9,6 @@ use Rattle.captures.specs.declared.fault.ReadStop.{ReadStop}
 use Rattle.captures.specs.declared.fault.ReadStop.TheVariants as read_stop
 use Rattle.captures.specs.Reader.{file_name_of, format_of, IsFileBegun}
 use Rattle.captures.specs.declared.packet_in.PacketIn.{PacketIn}
-use Rattle.node_tables.specs.declared.reply.Reply.{Reply}
-use Rattle.node_tables.specs.Tables.{TableState}
 use Rattle.shared_tables.specs.Plan.{PlanState}
 use Rattle.label_flow.specs.Pair.{PairState}
 use Rattle.label_flow.specs.Feed.{AreBegun, AreWhole}
@@ -28,7 +26,7 @@ use Rattle.script_run.specs.declared.flow_run.source.Source.{Source}
 use Rattle.script_run.specs.declared.flow_run.source.Behind.{Behind}
 use Rattle.script_run.specs.declared.flow_run.source.Behind.TheVariants as the_behind
 use Rattle.script_run.specs.flow_run.Place.{plan_at}
-use Rattle.script_run.specs.flow_run.Ends.{HasEnded, HasSteps, FlowEndsAt}
+use Rattle.script_run.specs.flow_run.Ends.{HasEnded, FlowEndsAt}
 use Rattle.script_run.specs.flow_run.inside.Output.{HasHead, AreSent}
 use Rattle.script_run.specs.flow_run.inside.Source.{IsFed, packets_left, file_of}
 use Rattle.script_run.specs.flow_run.inside.Taken.{Moment, HasTaken}
@@ -88,7 +86,7 @@ pub record IsStart (flow : FlowLine) (most : ℕ) (before folder : DepotState) (
   pub appends : SameCounts before.appends folder.appends
 
 abbrev pub stop_of : FlowEnd → Option FlowStop
-stop_of (GoesOn network replies) = None
+stop_of GoesOn = None
 stop_of (Broken fault) = None
 stop_of TooMany = None
 stop_of (Stopped why) = Some why
@@ -100,16 +98,9 @@ end_at (read_stop.Ng fault) = Broken (file.Pcapng fault)
 end_at read_stop.ReadFault = Stopped the_stop.Read
 end_at read_stop.OutOfMemory = Stopped the_stop.OutOfMemory
 
--- the next flow comes under these tables, with these replies in between
-abbrev pub Gives : FlowEnd → List TableState → List Reply → Type 0
-Gives (GoesOn network replies) tables answers = (network ≡ tables) × (replies.items ≡ answers)
-Gives (Broken fault) tables answers = Unit {0}
-Gives TooMany tables answers = Unit {0}
-Gives (Stopped why) tables answers = Unit {0}
-
 -- what waits for the stream at the end of a flow of these totals, behind these lines
 abbrev pub LeavesWaiting : Totals → FlowEnd → List ℕ → List ℕ → Type 0
-LeavesWaiting totals (GoesOn network replies) lines waits = waits ≡ lines ++ flow_end_line totals.number totals.packets totals.passed totals.denied
+LeavesWaiting totals GoesOn lines waits = waits ≡ lines ++ flow_end_line totals.number totals.packets totals.passed totals.denied
 LeavesWaiting totals (Broken fault) lines waits = waits ≡ lines
 LeavesWaiting totals TooMany lines waits = waits ≡ lines
 LeavesWaiting totals (Stopped the_stop.Read) lines waits = waits ≡ lines
@@ -127,7 +118,7 @@ WaitsFor number end now waits = LeavesWaiting (totals_at number now) end now.lin
 
 -- what stands behind the last packet
 abbrev pub IsBehind : FlowEnd → Option Behind → Type 0
-IsBehind (GoesOn network replies) behind = behind ≡ Some the_behind.Whole
+IsBehind GoesOn behind = behind ≡ Some the_behind.Whole
 IsBehind (Broken fault) behind = behind ≡ Some (the_behind.Broken fault)
 IsBehind TooMany behind = behind ≡ Some the_behind.TooMany
 IsBehind (Stopped why) behind = Unit {0}
@@ -150,7 +141,6 @@ pub record HasFlown (plan : PlanState) (names : List (List ℕ)) (workers number
   pub all : HasEnded end → AreWhole (packets_left was.folder.tells was.source (file_of was.folder was.source)) packets
   pub walked : AreWalked plan flow.hops packets pairs
   pub lawful : AreLawful plan flow.hops workers flow.before upto packets (versions_in pairs)
-  pub steps : HasSteps plan flow.before upto end
 
 -- the same of a flow at its place
 abbrev pub HasFlownAt : FlowPlace → Moment → Outside → List ℕ → List (List ℕ) → FlowEnd → Type 0

@@ -6,7 +6,7 @@ use Rattle.script_run.specs.flow_run.inside.Feed.{last_moment}
 use Rattle.script_run.specs.declared.flow_run.end.FlowPlace.{FlowPlace}
 use Rattle.script_run.proofs.flow_run.Ahead.{left_unread, unread_ahead}
 use Rattle.script_run.proofs.flow_run.Steps.{going_fresh}
-use Rattle.script_run.proofs.flow_run.Flown.{round_walked, round_lawful, ok_none, steps_flown}
+use Rattle.script_run.proofs.flow_run.Flown.{round_walked, round_lawful, ok_none}
 use Rattle.script_run.proofs.flow_run.run.run_on.Goals as goal
 
 pub drive-driven-requires-clause-going : goal.drive-driven-requires-clause-going
@@ -57,5 +57,4 @@ returns-clause-flown g c =
       all = λ done. subst (λ (ps : Option (List PacketIn)). AreWhole ps round.packets) left (round.whole (driven.stop ∙ ok_none c.drive-driven.result (ended.done done)));
       walked = round_walked plan _ _ _ _ _ _ _ _ _ seats count stands.workers.0 stands.beside.1 stands.beside.0 round.round;
       lawful = round_lawful plan _ _ _ _ _ _ _ _ _ seats count stands.workers.0 stands.beside.1 stands.beside.0 round.round;
-      steps = steps_flown plan _ _ c.finish.result c.drive-driven.result c.close-network.result c.args.board.0 c.drive-driven.new.publisher ended.done ended.gives driven.replies c.close-network.ensures driven.plan c.requires.board.plan c.requires.board.version;
     }

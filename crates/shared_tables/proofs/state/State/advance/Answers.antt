@@ -1,12 +1,12 @@
 use Rattle.std.proofs.Common.{arith, ◌≡◌, length, slice_get, Some, sym, ◌∙◌, ap}
 use Rattle.std.specs.Arc.{arc_value}
 use Rattle.shared_tables.specs.Plan.{PlanState}
-use Rattle.node_tables.specs.Steps.{step_applied, step_reply}
+use Rattle.node_tables.specs.Steps.{step_applied}
 use Rattle.node_tables.proofs.Law.{steps_apply_one_by_one, nodes_keep_their_number}
 use Rattle.shared_tables.proofs.state.State.advance.Goals as goal
 
-pub apply-requires : goal.apply-requires
-apply-requires c =
+pub advance-requires : goal.advance-requires
+advance-requires c =
     let p : PlanState = arc_value c.args.self.now.plan in
     omega (arith, c.step.ensures.inside, nodes_keep_their_number p.nodes p.steps c.args.self.now.version, ap length c.args.self.now.is_after, ap (λ (p : PlanState). p.nodes) c.deref.ensures)
 
@@ -21,13 +21,5 @@ invariant_of-self-2 c =
     let at : slice_get p.steps k ≡ Some s = ap (λ (p : PlanState). slice_get p.steps k) (sym c.deref.ensures) ∙ c.step.ensures.step in
     record {
       within = omega (arith, c.requires);
-      is_after = c.in_ok-reply.ensures.tables ∙ ap (λ n. step_applied n s) c.args.self.now.is_after ∙ sym (steps_apply_one_by_one p.nodes p.steps k s at).0;
+      is_after = c.in_ok-advance.ensures.tables ∙ ap (λ n. step_applied n s) c.args.self.now.is_after ∙ sym (steps_apply_one_by_one p.nodes p.steps k s at).0;
     }
-
-pub returns-clause-reply : goal.returns-clause-reply
-returns-clause-reply c =
-    let p : PlanState = arc_value c.args.self.now.plan in
-    let k = c.args.self.now.version in
-    let s = c.step.result.now in
-    let at : slice_get p.steps k ≡ Some s = ap (λ (p : PlanState). slice_get p.steps k) (sym c.deref.ensures) ∙ c.step.ensures.step in
-    (steps_apply_one_by_one p.nodes p.steps k s at).1 ∙ ap (λ n. step_reply n s) (sym c.args.self.now.is_after) ∙ c.in_ok-reply.ensures.reply
