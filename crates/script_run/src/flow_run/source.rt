@@ -30,6 +30,12 @@ fn most_at_once(workers: usize, hops: usize) -> usize
     }
 }
 
+// A batch ends where its packets have so many octets, however few they are.
+const OCTETS_AT_ONCE: usize = 1 << 21;
+
+// A place whose packet had more octets doesn't keep their room for the next one: there are many places, and a large packet may come to each.
+const OCTETS_KEPT: usize = 1 << 14;
+
 /// What stands behind the packets that were read.
 #[derive(Clone, Copy, Debug, PartialEq, Eq)]
 pub enum Behind {
@@ -63,7 +69,7 @@ pub struct Source {
     pub at: usize,
 }
 
-// Makes room for a packet and its time: behind those of the batch there is no packet yet, or one whose room is used again.
+// Makes room for a packet and its time: behind those of the batch there is no packet yet, or one whose room is used again unless it is large.
 fn has_place(alloc: Global, batch: &mut Vec<PacketIn>, heads: &mut Vec<FrameHead>) -> bool
     requires { length heads.old.items ≤ length batch.old.items }
     ensures batch { take (length heads.old.items) batch.new.items
@@ -75,7 +81,22 @@ fn has_place(alloc: Global, batch: &mut Vec<PacketIn>, heads: &mut Vec<FrameHead
     if heads.reserve(1).is_err() {
         return false;
     }
-    heads.len() < batch.len() || batch.push(empty_packet(alloc)).is_ok()
+    if heads.len() < batch.len() {
+        renew(alloc, batch, heads.len());
+        return true;
+    }
+    batch.push(empty_packet(alloc)).is_ok()
+}
+
+// A packet is to be read into this place: where that of a batch before was large, its room is given back.
+fn renew(alloc: Global, batch: &mut [PacketIn], place: usize)
+    requires { place < length batch.old }
+    ensures front { take place batch.new ≡ take place batch.old }
+    ensures count { length batch.new ≡ length batch.old }
+{
+    if batch[place].bytes.as_slice().len() > OCTETS_KEPT {
+        batch[place] = empty_packet(alloc);
+    }
 }
 
 // A packet to read into.
@@ -153,7 +174,15 @@ fn read_one<D: Depot>(
     }
 }
 
-// Reads until the batch is full, or up to what stands behind the last packet.
+// How many octets the last of so many packets has.
+fn octets_of_last(batch: &[PacketIn], count: usize) -> usize
+    requires some { 0 < count }
+    requires within { count ≤ length batch.now }
+{
+    batch[count - 1].bytes.as_slice().len()
+}
+
+// Reads until the batch is full, by its packets or by their octets, or up to what stands behind the last packet.
 fn fill<D: Depot>(alloc: Global, depot: &mut D, source: &mut Source, batch: &mut Vec<PacketIn>)
     requires ready { IsReadable (D.state depot.old) source.old.reader }
     requires amid { IsTrue (D.state depot.old).tells
@@ -177,10 +206,12 @@ fn fill<D: Depot>(alloc: Global, depot: &mut D, source: &mut Source, batch: &mut
     ensures some { (0 < length source.new.heads.items) ⊎ IsSome source.new.behind }
 {
     let most = most_at_once(source.workers, source.hops);
-    while source.heads.len() < most {
+    let mut room = OCTETS_AT_ONCE;
+    while room > 0 && source.heads.len() < most {
         if !read_one(alloc, depot, source, batch) {
             return;
         }
+        room = room.saturating_sub(octets_of_last(batch, source.heads.len()));
     }
 }
 

@@ -1,23 +1,10 @@
-use Rattle.std.proofs.Common.{refl, ap, arith, length}
-use Rattle.script_run.proofs.flow_run.Reading.{got_nothing, only_none, next_amid, next_none, next_got}
+use Rattle.std.proofs.Common.{arith, inr}
+use Rattle.script_run.proofs.flow_run.Reading.{next_amid, next_none, next_got}
 use Rattle.script_run.proofs.flow_run.source.fill.Goals as goal
 
-pub loop-alloc-init : goal.loop-alloc-init
-loop-alloc-init g c = record {
-  within = c.requires.within;
-  ready = c.requires.ready;
-  amid = c.requires.amid;
-  reads = only_none _ _;
-  got = got_nothing _ _ _ _ _ _ (record { name = refl; format = refl; most = refl }) (record { times = refl; at = refl }) refl refl (λ told. refl);
-  behind = c.requires.begins;
-  few = omega (arith, ap length c.requires.empty);
-  counted = refl;
-  places = omega (arith, ap length c.requires.empty);
-}
-
-pub loop-alloc-preserved : goal.loop-alloc-preserved
-loop-alloc-preserved g c =
-    let was = c.loop-alloc.invariant in
+pub loop-room-preserved : goal.loop-room-preserved
+loop-room-preserved g c =
+    let was = c.loop-room.invariant in
     let one = c.read_one.ensures in
     let none = one.more c.if-not-read_one.false in
     record {
@@ -27,7 +14,8 @@ loop-alloc-preserved g c =
       reads = next_none _ _ _ _ _ _ was.reads was.got c.read_one.new.source _ none one.reads;
       got = next_got _ _ _ _ _ _ was.reads was.got _ _ one.got;
       behind = none;
-      few = omega (arith, (rw c.if-not-read_one.false at one.count), c.loop-alloc-test.true, c.len.ensures, c.most_at_once-most.ensures.few);
+      few = omega (arith, (rw c.if-not-read_one.false at one.count), c.if-len-most.true, c.len.ensures, c.most_at_once-most.ensures.few);
       counted = omega (arith, was.counted, (rw c.if-not-read_one.false at one.count), (rw c.if-not-read_one.false at one.read));
       places = one.places;
+      some = inr (omega (arith, (rw c.if-not-read_one.false at one.count)));
     }

@@ -1,14 +1,14 @@
-use Rattle.std.proofs.Common.{◌≡◌, ◌≤◌, ◌-◌, ◌+◌, IsTrue, length, None}
+use Rattle.std.proofs.Common.{◌≡◌, ◌≤◌, ◌<◌, ◌⊎◌, ◌-◌, ◌+◌, IsTrue, length, None}
 use Rattle.captures.specs.Reader.{file_name_of, IsReadable}
 use Rattle.script_run.specs.flow_run.inside.Source.{IsAmid, HasGot, HasOnlyRead, read_into, file_of}
 use Rattle.script_run.proofs.flow_run.source.fill.Given as goal
 
-abbrev pub decreases-loop-alloc : goal.decreases-loop-alloc
-decreases-loop-alloc g l = 1024 - length l.source.heads.items
+abbrev pub decreases-loop-room : goal.decreases-loop-room
+decreases-loop-room g l = 1024 - length l.source.heads.items
 
 -- so many packets were read, one behind the other, and the reader stands in front of the next
-abbrev pub invariant-loop-alloc : goal.invariant-loop-alloc
-invariant-loop-alloc g l =
+abbrev pub invariant-loop-room : goal.invariant-loop-room
+invariant-loop-room g l =
     let before = g.D.Depot.state l.fn.depot in
     let now = g.D.Depot.state l.depot in
     record {
@@ -21,4 +21,5 @@ invariant-loop-alloc g l =
       few : length l.source.heads.items ≤ 1024;
       counted : length l.source.heads.items + l.fn.source.read ≡ length l.fn.source.heads.items + l.source.read;
       places : length l.source.heads.items ≤ length l.batch.items;
+      some : (0 < l.room) ⊎ (0 < length l.source.heads.items);
     }
