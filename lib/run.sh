@@ -114,8 +114,10 @@ find_unmade() {
         why="this call reads it"
     elif is_among "$1" $outputs; then
         why="this call makes it already"
-    else
-        said=$(LC_ALL=C dd if=/dev/null of="$1" conv=notrunc,nocreat status=none 2>&1) || take_text "$said"
+    elif ! said=$(LC_ALL=C dd if=/dev/null of="$1" conv=notrunc,nocreat status=none 2>&1); then
+        take_text "$said"
+    elif command -v flock >/dev/null && ! flock -n -- "$1" true 2>/dev/null; then
+        why="another call makes it"
     fi
 }
 
@@ -164,6 +166,8 @@ say_unwritten() {
 
 # Runs the program on these words, and ends with its status, or by the signal that has ended it.
 run_program() {
+    # A write past the limit on a file's size is to fail, and not to end the program.
+    trap '' XFSZ
     $bound "$program" "$@"
     status=$?
     case $status in
