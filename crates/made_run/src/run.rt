@@ -43,7 +43,7 @@ fn judge<D: Depot + Send, G: Gate + Sync, R: Threads + Wait + Sync>(
     ensures { HasRound D.state (stop_of result) feed.old feed.new }
 {
     match round(rt, alloc, publisher, viewers, STEPS, flow, feed, gate) {
-        Ok(()) => Ok(()),
+        Ok(_) => Ok(()),
         Err(RoundStop::Feed(stop)) => Err(stop),
         Err(RoundStop::OutOfMemory) => {
             feed.stop = Some(MadeStop::OutOfMemory);
