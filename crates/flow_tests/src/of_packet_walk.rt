@@ -270,8 +270,9 @@ fn begun<R: Wait + Abort>(
     let steps = steps_of(alloc, nodes, commands).expect(rt, "commands");
     let plan = Plan::from_steps(alloc, steps, nodes).expect(rt, "memory");
     let network = fresh(rt, alloc, &plan, nodes);
-    let (publisher, mut viewers) =
-        Board::begin(rt, alloc, &network, plan, 0, 1).expect(rt, "memory");
+    let (publisher, mut viewers) = Board::begin(rt, alloc, &network, plan, 0, 1).expect(
+        rt, "memory",
+    );
     let viewer = viewers.pop().expect(rt, "a viewer");
     (stepped(rt, publisher, count), viewer)
 }

@@ -134,11 +134,7 @@ fn after_two(rt: &impl Abort, alloc: Global, steps: &[Step]) -> Network
 }
 
 // A board at version 2 of these steps, of which the first six are planned.
-fn begun_at_two<R: Wait + Abort>(
-    rt: &R,
-    alloc: Global,
-    shared: &SharedSteps,
-) -> (Publisher, Viewer)
+fn begun_at_two<R: Wait + Abort>(rt: &R, alloc: Global, shared: &SharedSteps) -> (Publisher, Viewer)
     requires nodes { All (λ (step : StepValue). step.node < 1) shared.now }
     requires six { 6 ≤ length shared.now }
     ensures publisher { (result.0.plan.nodes ≡ 1)

@@ -70,7 +70,15 @@ fn answer_beside<S: Sink>(place: &FlowPlace<'_>, next: Next, out: &mut S) -> Res
     let steps = place.steps.as_slice();
     let from = place.flow.before as usize;
     let upto = place.upto as usize;
-    match answer_steps(place.names, steps, from, upto, &mut network, &mut report, out) {
+    match answer_steps(
+        place.names,
+        steps,
+        from,
+        upto,
+        &mut network,
+        &mut report,
+        out,
+    ) {
         Ok(()) => Ok(Next { network, report }),
         Err(fault) => Err(Status::after_write(fault)),
     }

@@ -41,7 +41,7 @@ loop-place-preserved g c =
     let here : place ≡ from + (place - from) = omega (arith, inv.low) in
     let further : place - from + 1 ≡ place + 1 - from = omega (arith, inv.low) in
     let next = replying_next names steps from (c.args.upto - from) c.args.report.now.waiting.items (place - from) c.loop-place.report.waiting.items (g.S.Sink.state c.args.out.now) (g.S.Sink.state c.loop-place.out) inv.replying
-        (omega (arith, c.loop-place-test.true, inv.low)) (reply_line_at names steps place) c.answer_step.new.report.waiting.items (ap (reply_line_at names steps) here) (g.S.Sink.state c.answer_step.new.out) c.in_ok-answer_step.ensures.replied in
+    (omega (arith, c.loop-place-test.true, inv.low)) (reply_line_at names steps place) c.answer_step.new.report.waiting.items (ap (reply_line_at names steps) here) (g.S.Sink.state c.answer_step.new.out) c.in_ok-answer_step.ensures.replied in
     record {
       low = omega (arith, inv.low);
       within = omega (arith, c.loop-place-test.true);
