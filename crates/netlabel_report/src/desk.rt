@@ -8,7 +8,7 @@ ghost use Rattle.netlabel_report.specs.declared.desk.TellStop.TheVariants.{OutOf
 ghost use Rattle.netlabel_report.specs.inside.Telling.{IsTaken, IsEndTaken, IsPassed};
 
 use crate::report_telling::{
-    Manner, Progress, Tally, count_end, count_line, line_kind, risen, start, tell_end, tell_line,
+    Manner, Progress, Tallies, count_end, count_line, line_kind, risen, start, tell_end, tell_line,
 };
 use call_report::Report;
 use mls_label::{Label, OutOfMemory};
@@ -41,13 +41,13 @@ pub(crate) struct Desk {
     pub(crate) line: Vec<u8>,
     pub(crate) label: Label,
     pub(crate) progress: Progress,
-    pub(crate) tallies: Vec<Tally>,
+    pub(crate) tallies: Tallies,
 }
 
 impl Desk {
     pub fn new(alloc: Global) -> Result<Desk, AllocError>
         ensures progress { IfOk result (λ desk. desk.progress ≡ start_progress) }
-        ensures tallies { IfOk result (λ desk. desk.tallies.items ≡ []) }
+        ensures tallies { IfOk result (λ desk. desk.tallies ≡ []) }
     {
         let window = Window::new(alloc)?;
         Ok(Desk {
@@ -55,7 +55,7 @@ impl Desk {
             line: Vec::new(alloc),
             label: Label::lowest(),
             progress: start(),
-            tallies: Vec::new(alloc),
+            tallies: Tallies::new(alloc),
         })
     }
 }
@@ -68,8 +68,8 @@ pub(crate) fn take_line<S: Sink>(
     out: &mut S,
 ) -> Result<(), TellStop>
     ensures taken { IsTaken manner.now desk.old.line.items
-        (record { progress = desk.old.progress; tallies = desk.old.tallies.items })
-        (record { progress = desk.new.progress; tallies = desk.new.tallies.items })
+        (record { progress = desk.old.progress; tallies = desk.old.tallies })
+        (record { progress = desk.new.progress; tallies = desk.new.tallies })
         report.old.waiting.items report.new.waiting.items result (S.state out.old)
         (S.state out.new) }
     ensures window { desk.new.window ≡ desk.old.window }
@@ -97,8 +97,8 @@ pub(crate) fn take_end<S: Sink>(
     out: &mut S,
 ) -> Result<(), TellStop>
     ensures { IsEndTaken manner.now
-        (record { progress = desk.old.progress; tallies = desk.old.tallies.items })
-        (record { progress = desk.new.progress; tallies = desk.new.tallies.items })
+        (record { progress = desk.old.progress; tallies = desk.old.tallies })
+        (record { progress = desk.new.progress; tallies = desk.new.tallies })
         report.old.waiting.items report.new.waiting.items result (S.state out.old)
         (S.state out.new) }
 {

@@ -22,8 +22,8 @@ pub(crate) fn tell_report<D: Depot, S: Sink>(
 ) -> Result<(), TellStop>
     ensures told { Tells (D.state depot.old).tells
         (report_course manner.now ((D.state depot.old).held name.now)
-        (record { progress = desk.old.progress; tallies = desk.old.tallies.items }))
-        (record { progress = desk.new.progress; tallies = desk.new.tallies.items })
+        (record { progress = desk.old.progress; tallies = desk.old.tallies }))
+        (record { progress = desk.new.progress; tallies = desk.new.tallies })
         report.old.waiting.items report.new.waiting.items result (S.state out.old)
         (S.state out.new) }
     ensures frame { OnlyReads TellStop.ReadFault result name.now (D.state depot.old)

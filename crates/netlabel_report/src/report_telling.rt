@@ -12,7 +12,7 @@ mod taking;
 mod way;
 
 pub use commands::{CommandPlace, Commands};
-pub use counts::{Progress, Tally, risen, start};
+pub use counts::{Progress, Tallies, risen, start};
 pub use csv::heading;
 pub use mls_label::OutOfMemory;
 pub use summary::write_summary;

@@ -26,8 +26,8 @@ pub(crate) fn tell_reports<D: Depot, S: Sink>(
 ) -> Result<(), TellStop>
     ensures told { Tells (D.state depot.old).tells
         (reports_course manner.now (D.state depot.old).held (reports_named (texts_of names.now))
-        (record { progress = desk.old.progress; tallies = desk.old.tallies.items }))
-        (record { progress = desk.new.progress; tallies = desk.new.tallies.items })
+        (record { progress = desk.old.progress; tallies = desk.old.tallies }))
+        (record { progress = desk.new.progress; tallies = desk.new.tallies })
         report.old.waiting.items report.new.waiting.items result (S.state out.old)
         (S.state out.new) }
     ensures frame { AreRead (reports_named (texts_of names.now)) result (D.state depot.old)
@@ -50,8 +50,8 @@ fn tell_each<D: Depot, S: Sink>(
 ) -> Result<(), TellStop>
     ensures told { Tells (D.state depot.old).tells
         (reports_course manner.now (D.state depot.old).held (texts_of names.now)
-        (record { progress = desk.old.progress; tallies = desk.old.tallies.items }))
-        (record { progress = desk.new.progress; tallies = desk.new.tallies.items })
+        (record { progress = desk.old.progress; tallies = desk.old.tallies }))
+        (record { progress = desk.new.progress; tallies = desk.new.tallies })
         report.old.waiting.items report.new.waiting.items result (S.state out.old)
         (S.state out.new) }
     ensures frame { AreRead (texts_of names.now) result (D.state depot.old)

@@ -15,7 +15,7 @@ ghost use Rattle.netlabel_report.specs.inside.Telling.{HasCommands, Tells, AreRe
 use crate::desk::{Desk, TellStop};
 use crate::question::{ReportQuestion, read_question, report_usage};
 use crate::report_telling::{
-    Commands, Manner, Progress, Tally, Way, heading, write_fault, write_summary,
+    Commands, Manner, Progress, Tallies, Way, heading, write_fault, write_summary,
 };
 use crate::reports::tell_reports;
 use crate::script::commands_of;
@@ -133,11 +133,11 @@ fn tell_all<D: Depot, S: Sink>(
     depot: &mut D,
     out: &mut S,
 ) -> Result<(), TellStop>
-    requires progress { record { progress = desk.old.progress; tallies = desk.old.tallies.items }
+    requires progress { record { progress = desk.old.progress; tallies = desk.old.tallies }
         ≡ start_standing }
     ensures told { Tells (D.state depot.old).tells
         (told_course manner.now (D.state depot.old).held (reports_named (texts_of names.now)))
-        (record { progress = desk.new.progress; tallies = desk.new.tallies.items })
+        (record { progress = desk.new.progress; tallies = desk.new.tallies })
         report.old.waiting.items report.new.waiting.items result (S.state out.old)
         (S.state out.new) }
     ensures frame { AreRead (reports_named (texts_of names.now)) result (D.state depot.old)
@@ -170,7 +170,7 @@ fn end_answer<S: Sink>(
     out: &mut S,
 ) -> u8
     ensures { IsAnswerEnd asked.now told
-        (record { progress = desk.now.progress; tallies = desk.now.tallies.items })
+        (record { progress = desk.now.progress; tallies = desk.now.tallies })
         report.waiting.items result (S.state out.old) (S.state out.new) }
 {
     match told {
@@ -191,7 +191,7 @@ fn end_answer<S: Sink>(
 fn end_whole<S: Sink>(
     way: Way,
     progress: &Progress,
-    tallies: &[Tally],
+    tallies: &Tallies,
     report: Report,
     out: &mut S,
 ) -> Status
@@ -210,7 +210,7 @@ fn end_whole<S: Sink>(
 fn write_closing(
     way: Way,
     progress: &Progress,
-    tallies: &[Tally],
+    tallies: &Tallies,
     out: &mut Vec<u8>,
 ) -> Result<(), OutOfMemory>
     ensures { OnOk result (out.new.items ≡ out.old.items

@@ -3,7 +3,6 @@ use Rattle.std.specs.Prelude.{ℕ, ◌+◌, Bool, false, ◌&&◌, ◌||◌, ◌
 use Rattle.std.specs.Str.{bytes_eq}
 use Rattle.std.specs.List.{list_any}
 use Rattle.netlabel_report.specs.declared.report_telling.counts.Progress.{Progress}
-use Rattle.netlabel_report.specs.declared.report_telling.counts.Tally.{Tally}
 
 -- one more; a number stands still at its type's end
 abbrev pub risen : ℕ → ℕ
@@ -12,6 +11,14 @@ risen n = if nat_lt n 18446744073709551615 then n + 1 else n
 -- nothing was read yet
 abbrev pub start_progress : Progress
 start_progress = record { reports = 0; unfinished = 0; stopped = 0; commands = 0; refused = 0; delivered = 0; sent = 0; denied = 0; elsewhere = 0; line = 0; due = 0; finished = false }
+
+-- How many packets were denied for a reason, at a hop of a node.
+pub record Tally : Type 0 where
+  pub reason : ℕ
+  pub name : List ℕ
+  pub hop : ℕ
+  pub node : List ℕ
+  pub count : ℕ
 
 -- denials for a reason, at a hop of a node
 abbrev pub is_tally : ℕ → ℕ → List ℕ → Tally → Bool

@@ -3,7 +3,7 @@ use Rattle.std.specs.Prelude.{ℕ, ◌+◌, ◌-◌, ◌==◌, nat_le, List, [],
 use Rattle.std.specs.Fmt.{decimal}
 use Rattle.std.specs.List.{flat_map, before_first, after_first}
 use Rattle.netlabel_report.specs.declared.report_telling.counts.Progress.{Progress}
-use Rattle.netlabel_report.specs.declared.report_telling.counts.Tally.{Tally}
+use Rattle.netlabel_report.specs.report_telling.Counts.{Tally}
 
 -- a text, and a number behind it
 abbrev pub count_text : List ℕ → ℕ → List ℕ

@@ -7,7 +7,6 @@ use Rattle.call_report.specs.declared.report_lines.form.Form.TheVariants as form
 use Rattle.call_report.specs.declared.report_lines.slot.Field.TheVariants as name
 use Rattle.call_report.specs.report_lines.Line.{line_form}
 use Rattle.netlabel_report.specs.declared.report_telling.counts.Progress.{Progress}
-use Rattle.netlabel_report.specs.declared.report_telling.counts.Tally.{Tally}
 use Rattle.netlabel_report.specs.declared.report_telling.way.Manner.{Manner}
 use Rattle.netlabel_report.specs.declared.report_telling.way.Way.{Way}
 use Rattle.netlabel_report.specs.declared.report_telling.way.Way.TheVariants.{Summary, Denied, Json, Csv}
@@ -15,7 +14,7 @@ use Rattle.netlabel_report.specs.declared.report_telling.taking.LineKind.{LineKi
 use Rattle.netlabel_report.specs.declared.report_telling.taking.LineKind.TheVariants.{Listed, Of}
 use Rattle.netlabel_report.specs.declared.report_telling.commands.CommandPlace.{CommandPlace}
 use Rattle.netlabel_report.specs.report_telling.Commands.{answered_at, stranger_at}
-use Rattle.netlabel_report.specs.report_telling.Counts.{risen, tallied, is_counted}
+use Rattle.netlabel_report.specs.report_telling.Counts.{Tally, risen, tallied, is_counted}
 use Rattle.netlabel_report.specs.report_telling.Fields.{told_in, number_told}
 use Rattle.netlabel_report.specs.report_telling.Json.{json_text, listed_json, unfinished_json}
 use Rattle.netlabel_report.specs.report_telling.Csv.{csv_text, listed_csv, unfinished_csv}

@@ -1,11 +1,14 @@
 //! What was counted, and where a reading stands.
 
-ghost use Rattle.std.specs.Prelude.{◌≡◌, OnOk, IfOk};
-ghost use Rattle.std.specs.List.{list_any};
-ghost use Rattle.netlabel_report.specs.report_telling.Counts.{risen, start_progress, is_tally, raised, is_counted, tallied};
+ghost use Rattle.std.specs.Prelude.{◌≡◌, ◌<◌, length};
+ghost use Rattle.netlabel_report.specs.report_telling.Counts.{risen, start_progress};
+ghost use Rattle.netlabel_report.specs.inside.Tallies.{raised_at};
 
 use domain_map::Name;
+use indexmap::IndexMap;
 use mls_label::OutOfMemory;
+use std::alloc::Global;
+use std::marker::Model;
 
 /// The most places at which denials are told apart.
 const MOST_TALLIES: usize = 4096;
@@ -61,71 +64,83 @@ pub fn risen(number: u64) -> u64
     }
 }
 
-/// How many packets were denied for a reason, at a hop of a node.
-#[derive(Drop)]
-pub struct Tally {
+/// Where packets are denied: for a reason, at a hop of a node.
+#[derive(Debug, Drop, PartialEq, Eq, Hash)]
+pub struct DenialPlace {
     pub reason: u64,
-    pub name: Name,
     pub hop: u64,
     pub node: Name,
+}
+
+/// How many were denied there, and the reason's name as it stood at the first of them.
+#[derive(Debug, Drop)]
+pub struct DenialCount {
+    pub name: Name,
     pub count: u64,
 }
 
-/// Counts one more in its tally, or in a new one where there is room, and tells whether it was counted.
-pub fn count_at(
-    tallies: &mut Vec<Tally>,
-    reason: u64,
-    name: Name,
-    hop: u64,
-    node: Name,
-) -> Result<bool, OutOfMemory>
-    ensures counted { IfOk result (λ counted.
-        counted ≡ is_counted reason hop node tallies.old.items) }
-    ensures tallies { OnOk result
-        (tallies.new.items ≡ tallied reason name hop node tallies.old.items) }
-{
-    if has_tally(tallies, reason, hop, &node) {
-        raise(tallies, reason, hop, &node);
-        return Ok(true);
-    }
-    if tallies.len() >= MOST_TALLIES {
-        return Ok(false);
-    }
-    tallies.push(Tally {
-        reason,
-        name,
-        hop,
-        node,
-        count: 1,
-    })?;
-    Ok(true)
+/// Denials by their places, in the order of the first of each. Contracts see a tally of each place.
+#[derive(Drop)]
+pub struct Tallies {
+    counts: IndexMap<DenialPlace, DenialCount>,
 }
 
-/// Whether a tally is that of a reason, at a hop of a node.
-fn is_tally(tally: &Tally, reason: u64, hop: u64, node: &Name) -> bool
-    ensures { result ≡ is_tally reason hop node.now tally.now }
-{
-    tally.reason == reason && tally.hop == hop && tally.node == *node
+impl Model for Tallies {
+    ghost use Rattle.std.specs.Prelude.{List, map};
+    ghost use Rattle.netlabel_report.specs.report_telling.Counts.{Tally};
+    ghost use Rattle.netlabel_report.specs.inside.Tallies.{tally_at};
+
+    ghost Value = { List Tally };
+
+    ghost view = { λ t. map tally_at t.counts.entries };
 }
 
-fn has_tally(tallies: &[Tally], reason: u64, hop: u64, node: &Name) -> bool
-    ensures { result ≡ list_any (is_tally reason hop node.now) tallies.now }
-{
-    tallies
-        .iter()
-        .any(|tally| is_tally(tally, reason, hop, node))
-}
+impl Tallies {
+    ghost use Rattle.std.specs.Prelude.{◌≡◌, [], map, OnOk, IfOk};
+    ghost use Rattle.netlabel_report.specs.report_telling.Counts.{is_counted, tallied};
+    ghost use Rattle.netlabel_report.specs.inside.Tallies.{tally_at};
 
-/// Counts one more in the first such tally.
-fn raise(tallies: &mut [Tally], reason: u64, hop: u64, node: &Name)
-    ensures { tallies.new ≡ raised reason hop node.now tallies.old }
-{
-    let mut place = 0;
-    while place < tallies.len() {
-        if is_tally(&tallies[place], reason, hop, node) {
-            tallies[place].count = risen(tallies[place].count);
-            return;
+    /// Nothing was denied yet.
+    pub fn new(alloc: Global) -> Tallies
+        ensures { result ≡ [] }
+    {
+        Tallies {
+            counts: IndexMap::new(alloc),
         }
-        place += 1;
+    }
+
+    /// The places with their counts.
+    pub fn counts(&self) -> &IndexMap<DenialPlace, DenialCount>
+        ensures { map tally_at result.now.entries ≡ self.now }
+    {
+        &self.counts
+    }
+
+    /// Counts one more at its place, or at a new one where there is room, and tells whether it was counted.
+    pub fn count(&mut self, place: DenialPlace, name: Name) -> Result<bool, OutOfMemory>
+        ensures counted { IfOk result (λ counted.
+            counted ≡ is_counted place.reason place.hop place.node self.old) }
+        ensures tallies { OnOk result
+            (self.new ≡ tallied place.reason name place.hop place.node self.old) }
+    {
+        if let Some(at) = self.counts.get_index_of(&place) {
+            raise(&mut self.counts, at);
+            return Ok(true);
+        }
+        if self.counts.len() >= MOST_TALLIES {
+            return Ok(false);
+        }
+        self.counts.insert(place, DenialCount { name, count: 1 })?;
+        Ok(true)
+    }
+}
+
+/// Counts one more at the place of this index.
+fn raise(counts: &mut IndexMap<DenialPlace, DenialCount>, at: usize)
+    requires { at < length counts.old.entries }
+    ensures { counts.new.entries ≡ raised_at counts.old.entries at }
+{
+    if let Some(denied) = counts.get_index_mut(at) {
+        denied.count = risen(denied.count);
     }
 }

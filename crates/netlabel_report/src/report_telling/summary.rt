@@ -1,11 +1,13 @@
 //! The table of what was added up.
 
-ghost use Rattle.std.specs.Prelude.{◌≡◌, ◌++◌, codes, Some, OnOk};
+ghost use Rattle.std.specs.Prelude.{◌≡◌, ◌++◌, codes, map, Some, OnOk};
 ghost use Rattle.std.specs.List.{flat_map};
+ghost use Rattle.netlabel_report.specs.inside.Tallies.{tally_at};
 ghost use Rattle.netlabel_report.specs.report_telling.Summary.{count_text, placed_reply, refused_text, ended_text, reports_text, early_text, commands_text, packets_text, others_text, sum_of, tally_text, elsewhere_text, summary_text};
 
-use crate::report_telling::counts::{Progress, Tally};
+use crate::report_telling::counts::{DenialCount, DenialPlace, Progress, Tallies};
 use call_report::parts_at;
+use indexmap::IndexMap;
 use mls_label::{OutOfMemory, write_decimal};
 
 /// Appends that a command was refused, by the text of its line behind `command `, with the line in the script at which the command stands.
@@ -65,7 +67,7 @@ pub fn write_ended(report: u64, how: &[u8], out: &mut Vec<u8>) -> Result<(), Out
 #[tactic(auto, unfolding(crate::specs::report_telling::Summary::summary_text))]
 pub fn write_summary(
     progress: &Progress,
-    tallies: &[Tally],
+    tallies: &Tallies,
     out: &mut Vec<u8>,
 ) -> Result<(), OutOfMemory>
     ensures { OnOk result (out.new.items
@@ -74,7 +76,7 @@ pub fn write_summary(
     append_reports(progress, out)?;
     append_commands(progress, out)?;
     append_packets(progress, out)?;
-    append_tallies(tallies, out)?;
+    append_counts(tallies.counts(), out)?;
     append_elsewhere(progress.elsewhere, out)
 }
 
@@ -127,35 +129,46 @@ fn sum_of(a: u64, b: u64) -> u64
     if a <= u64::MAX - b { a + b } else { u64::MAX }
 }
 
-fn append_tallies(tallies: &[Tally], out: &mut Vec<u8>) -> Result<(), OutOfMemory>
-    ensures { OnOk result (out.new.items ≡ out.old.items ++ flat_map tally_text tallies.now) }
+fn append_counts(
+    counts: &IndexMap<DenialPlace, DenialCount>,
+    out: &mut Vec<u8>,
+) -> Result<(), OutOfMemory>
+    ensures { OnOk result (out.new.items
+        ≡ out.old.items ++ flat_map tally_text (map tally_at counts.now.entries)) }
 {
-    let mut tallies = tallies;
-    while let [tally, others @ ..] = tallies {
-        append_tally(tally, out)?;
-        tallies = others;
+    for (place, denied) in counts.iter() {
+        append_tally(place, denied, out)?;
     }
     Ok(())
 }
 
 #[tactic(auto, unfolding(crate::specs::report_telling::Summary::tally_text))]
-fn append_tally(tally: &Tally, out: &mut Vec<u8>) -> Result<(), OutOfMemory>
-    ensures { OnOk result (out.new.items ≡ out.old.items ++ tally_text tally.now) }
+fn append_tally(
+    place: &DenialPlace,
+    denied: &DenialCount,
+    out: &mut Vec<u8>,
+) -> Result<(), OutOfMemory>
+    ensures { OnOk result (out.new.items
+        ≡ out.old.items ++ tally_text (tally_at (place.now, denied.now))) }
 {
-    append_count(b"denied ", tally.reason, out)?;
+    append_count(b"denied ", place.reason, out)?;
     out.push(b' ')?;
-    out.extend_from_slice(tally.name.text())?;
-    append_count(b" hop ", tally.hop, out)?;
-    append_node(tally, out)
+    out.extend_from_slice(denied.name.text())?;
+    append_count(b" hop ", place.hop, out)?;
+    append_node(place, denied, out)
 }
 
-fn append_node(tally: &Tally, out: &mut Vec<u8>) -> Result<(), OutOfMemory>
-    ensures { OnOk result (out.new.items ≡ out.old.items ++ (codes " node " ++ tally.now.node
-        ++ count_text (codes " packets ") tally.now.count ++ codes "\n")) }
+fn append_node(
+    place: &DenialPlace,
+    denied: &DenialCount,
+    out: &mut Vec<u8>,
+) -> Result<(), OutOfMemory>
+    ensures { OnOk result (out.new.items ≡ out.old.items ++ (codes " node " ++ place.now.node
+        ++ count_text (codes " packets ") denied.now.count ++ codes "\n")) }
 {
     out.extend_from_slice(b" node ")?;
-    out.extend_from_slice(tally.node.text())?;
-    append_count(b" packets ", tally.count, out)?;
+    out.extend_from_slice(place.node.text())?;
+    append_count(b" packets ", denied.count, out)?;
     out.push(b'\n')?;
     Ok(())
 }

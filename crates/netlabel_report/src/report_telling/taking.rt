@@ -7,7 +7,7 @@ ghost use Rattle.netlabel_report.specs.report_telling.Taking.{Standing, is_print
 ghost use Rattle.netlabel_report.specs.report_telling.Counts.{risen};
 
 use crate::report_telling::commands::{Commands, number_told};
-use crate::report_telling::counts::{Progress, Tally, count_at, risen};
+use crate::report_telling::counts::{DenialPlace, Progress, Tallies, risen};
 use crate::report_telling::csv::{write_csv, write_listed_csv, write_unfinished_csv};
 use crate::report_telling::json::{write_json, write_listed_json, write_unfinished_json};
 use crate::report_telling::summary::{write_ended, write_refused};
@@ -196,11 +196,11 @@ pub fn count_line(
     kind: LineKind,
     line: &[u8],
     progress: &mut Progress,
-    tallies: &mut Vec<Tally>,
+    tallies: &mut Tallies,
 ) -> Result<(), OutOfMemory>
-    ensures { OnOk result (record { progress = progress.new; tallies = tallies.new.items }
+    ensures { OnOk result (record { progress = progress.new; tallies = tallies.new }
         ≡ after_line kind line.now
-        (record { progress = progress.old; tallies = tallies.old.items })) }
+        (record { progress = progress.old; tallies = tallies.old })) }
 {
     progress.line = risen(progress.line);
     match kind {
@@ -251,11 +251,11 @@ fn count_denied(
     form: Form,
     line: &[u8],
     progress: &mut Progress,
-    tallies: &mut Vec<Tally>,
+    tallies: &mut Tallies,
 ) -> Result<(), OutOfMemory>
-    ensures { OnOk result (record { progress = progress.new; tallies = tallies.new.items }
+    ensures { OnOk result (record { progress = progress.new; tallies = tallies.new }
         ≡ with_denied form line.now
-        (record { progress = progress.old; tallies = tallies.old.items })) }
+        (record { progress = progress.old; tallies = tallies.old })) }
 {
     if !tally_denied(form, line, tallies)? {
         progress.elsewhere = risen(progress.elsewhere);
@@ -264,10 +264,10 @@ fn count_denied(
 }
 
 /// Counts a packet that was denied in its tally, and tells whether it was counted.
-fn tally_denied(form: Form, line: &[u8], tallies: &mut Vec<Tally>) -> Result<bool, OutOfMemory>
-    ensures counted { IfOk result (λ counted. counted ≡ has_place form line.now tallies.old.items) }
-    ensures tallies { IfOk result (λ counted. tallies.new.items
-        ≡ (if counted then with_tally form line.now tallies.old.items else tallies.old.items)) }
+fn tally_denied(form: Form, line: &[u8], tallies: &mut Tallies) -> Result<bool, OutOfMemory>
+    ensures counted { IfOk result (λ counted. counted ≡ has_place form line.now tallies.old) }
+    ensures tallies { IfOk result (λ counted. tallies.new
+        ≡ (if counted then with_tally form line.now tallies.old else tallies.old)) }
 {
     let Some(name) = read_name(told_word(Field::Name, form.slots(), line)) else {
         return Ok(false);
@@ -275,9 +275,12 @@ fn tally_denied(form: Form, line: &[u8], tallies: &mut Vec<Tally>) -> Result<boo
     let Some(node) = read_name(told_word(Field::Node, form.slots(), line)) else {
         return Ok(false);
     };
-    let reason = number_told(Field::Denial, form, line);
-    let hop = number_told(Field::Hop, form, line);
-    count_at(tallies, reason, name, hop, node)
+    let place = DenialPlace {
+        reason: number_told(Field::Denial, form, line),
+        hop: number_told(Field::Hop, form, line),
+        node,
+    };
+    tallies.count(place, name)
 }
 
 /// Appends that a report isn't finished, where it isn't.

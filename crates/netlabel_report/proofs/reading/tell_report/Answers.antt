@@ -15,7 +15,7 @@ returns-in-Err-clause-told g c = rw c.read_stop.ensures (stops_unread _ c.in-Err
 pub loop-desk-init : goal.loop-desk-init
 loop-desk-init g c =
     let start = g.D.Depot.state c.args.depot.now in
-    let first : Standing = record { progress = c.args.desk.now.progress; tallies = c.args.desk.now.tallies.items } in
+    let first : Standing = record { progress = c.args.desk.now.progress; tallies = c.args.desk.now.tallies } in
     let clauses = c.in-Ok.ensures in
     record {
       comes = comes_start start.tells _ _ _ _ (λ told. present_course c.args.manner.now (start.held c.args.name.now) first (clauses.present told));
@@ -32,8 +32,8 @@ loop-desk-preserved g c =
     let name = c.args.name.now in
     let way = c.args.manner.now in
     let file = octets_of (start.held name) in
-    let first : Standing = record { progress = c.args.desk.now.progress; tallies = c.args.desk.now.tallies.items } in
-    let here : Standing = record { progress = head.desk.progress; tallies = head.desk.tallies.items } in
+    let first : Standing = record { progress = c.args.desk.now.progress; tallies = c.args.desk.now.tallies } in
+    let here : Standing = record { progress = head.desk.progress; tallies = head.desk.tallies } in
     let at' = c.next_line.new.place in
     let line = c.next_line.new.line.items in
     let old = g.S.Sink.state c.args.out.now in
@@ -43,7 +43,7 @@ loop-desk-preserved g c =
     let then = g.D.Depot.state c.next_line.new.depot in
     let clauses = rw c.in-Ok-Line.field-0-is at c.in-Ok-Line.ensures in
     let taken = c.in_ok-take_line-in-Ok-Line.ensures in
-    let after : Standing = record { progress = c.take_line.new.desk.progress; tallies = c.take_line.new.desk.tallies.items } in
+    let after : Standing = record { progress = c.take_line.new.desk.progress; tallies = c.take_line.new.desk.tallies } in
     let more = read_so_far ReadFault name now then Failed _ clauses.frame in
     record {
       comes = turns start.tells course way (drop head.place file) line here c.args.report.now.waiting.items head.report.waiting.items old mid head.invariant.comes (drop at' file)
@@ -61,8 +61,8 @@ returns-in_err-take_line-in-Ok-Line-clause-told g c =
     let name = c.args.name.now in
     let way = c.args.manner.now in
     let file = octets_of (start.held name) in
-    let first : Standing = record { progress = c.args.desk.now.progress; tallies = c.args.desk.now.tallies.items } in
-    let here : Standing = record { progress = head.desk.progress; tallies = head.desk.tallies.items } in
+    let first : Standing = record { progress = c.args.desk.now.progress; tallies = c.args.desk.now.tallies } in
+    let here : Standing = record { progress = head.desk.progress; tallies = head.desk.tallies } in
     let at' = c.next_line.new.place in
     let line = c.next_line.new.line.items in
     let old = g.S.Sink.state c.args.out.now in
@@ -71,7 +71,7 @@ returns-in_err-take_line-in-Ok-Line-clause-told g c =
     let course = report_course way (start.held name) first in
     let clauses = rw c.in-Ok-Line.field-0-is at c.in-Ok-Line.ensures in
     let taken = c.in_err-take_line-in-Ok-Line.ensures in
-    let after : Standing = record { progress = c.take_line.new.desk.progress; tallies = c.take_line.new.desk.tallies.items } in
+    let after : Standing = record { progress = c.take_line.new.desk.progress; tallies = c.take_line.new.desk.tallies } in
     let told = turns_off start.tells course way (drop head.place file) line here c.args.report.now.waiting.items head.report.waiting.items old mid head.invariant.comes (drop at' file)
     (next_here ReadFault name start now so Line head.place at' line clauses.next) after c.take_line.new.report.waiting.items c.in_err-take_line-in-Ok-Line.field-0.0 (g.S.Sink.state c.take_line.new.out) taken.taken in
     search (rules, told, c.from_residual.ensures)
@@ -84,8 +84,8 @@ returns-in-Ok-End-clause-told g c =
     let name = c.args.name.now in
     let way = c.args.manner.now in
     let file = octets_of (start.held name) in
-    let first : Standing = record { progress = c.args.desk.now.progress; tallies = c.args.desk.now.tallies.items } in
-    let here : Standing = record { progress = head.desk.progress; tallies = head.desk.tallies.items } in
+    let first : Standing = record { progress = c.args.desk.now.progress; tallies = c.args.desk.now.tallies } in
+    let here : Standing = record { progress = head.desk.progress; tallies = head.desk.tallies } in
     let at' = c.next_line.new.place in
     let line = c.next_line.new.line.items in
     let old = g.S.Sink.state c.args.out.now in
@@ -93,6 +93,6 @@ returns-in-Ok-End-clause-told g c =
     let so = head.invariant.so in
     let course = report_course way (start.held name) first in
     let clauses = rw c.in-Ok-End.field-0-is at c.in-Ok-End.ensures in
-    let after : Standing = record { progress = c.take_end.new.desk.progress; tallies = c.take_end.new.desk.tallies.items } in
+    let after : Standing = record { progress = c.take_end.new.desk.progress; tallies = c.take_end.new.desk.tallies } in
     ends_there start.tells course way (drop head.place file) line here c.args.report.now.waiting.items head.report.waiting.items old mid head.invariant.comes (drop at' file)
     after c.take_end.new.report.waiting.items c.take_end.result (g.S.Sink.state c.take_end.new.out) (next_here ReadFault name start now so End head.place at' line clauses.next) c.take_end.ensures

@@ -14,8 +14,8 @@ abbrev pub invariant-loop-desk : goal.invariant-loop-desk
 invariant-loop-desk g l =
     let start = g.D.Depot.state l.fn.depot in
     let file = octets_of (start.held l.fn.name) in
-    let first : Standing = record { progress = l.fn.desk.progress; tallies = l.fn.desk.tallies.items } in
-    let here : Standing = record { progress = l.desk.progress; tallies = l.desk.tallies.items } in
+    let first : Standing = record { progress = l.fn.desk.progress; tallies = l.fn.desk.tallies } in
+    let here : Standing = record { progress = l.desk.progress; tallies = l.desk.tallies } in
     record {
       comes : Comes start.tells (report_course l.fn.manner (start.held l.fn.name) first) (followed_by (lines_course l.fn.manner (parts_of (drop l.place file)) here) (end_course l.fn.manner))
           l.fn.report.waiting.items l.report.waiting.items (g.S.Sink.state l.fn.out) (g.S.Sink.state l.out);

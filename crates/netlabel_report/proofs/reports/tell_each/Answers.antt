@@ -14,9 +14,9 @@ returns-in_err-tell_report-clause-told g c =
     let head = c.loop-rest in
     let name = string_bytes c.name-item.result in
     let others = texts_of (take (length head.rest.now - 1) (drop 1 head.rest.now)) in
-    let first : Standing = record { progress = c.args.desk.now.progress; tallies = c.args.desk.now.tallies.items } in
-    let here : Standing = record { progress = head.desk.progress; tallies = head.desk.tallies.items } in
-    let after : Standing = record { progress = c.tell_report.new.desk.progress; tallies = c.tell_report.new.desk.tallies.items } in
+    let first : Standing = record { progress = c.args.desk.now.progress; tallies = c.args.desk.now.tallies } in
+    let here : Standing = record { progress = head.desk.progress; tallies = head.desk.tallies } in
+    let after : Standing = record { progress = c.tell_report.new.desk.progress; tallies = c.tell_report.new.desk.tallies } in
     let course = reports_course c.args.manner.now start.held (texts_of c.args.names.now) first in
     let old = g.S.Sink.state c.args.out.now in
     let mid = g.S.Sink.state head.out in
@@ -35,9 +35,9 @@ loop-rest-preserved g c =
     let head = c.loop-rest in
     let name = string_bytes c.name-item.result in
     let others = texts_of (take (length head.rest.now - 1) (drop 1 head.rest.now)) in
-    let first : Standing = record { progress = c.args.desk.now.progress; tallies = c.args.desk.now.tallies.items } in
-    let here : Standing = record { progress = head.desk.progress; tallies = head.desk.tallies.items } in
-    let after : Standing = record { progress = c.tell_report.new.desk.progress; tallies = c.tell_report.new.desk.tallies.items } in
+    let first : Standing = record { progress = c.args.desk.now.progress; tallies = c.args.desk.now.tallies } in
+    let here : Standing = record { progress = head.desk.progress; tallies = head.desk.tallies } in
+    let after : Standing = record { progress = c.tell_report.new.desk.progress; tallies = c.tell_report.new.desk.tallies } in
     let course = reports_course c.args.manner.now start.held (texts_of c.args.names.now) first in
     let old = g.S.Sink.state c.args.out.now in
     let mid = g.S.Sink.state head.out in

@@ -13,8 +13,8 @@ decreases-loop-rest g l = length l.rest
 abbrev pub invariant-loop-rest : goal.invariant-loop-rest
 invariant-loop-rest g l =
     let start = g.D.Depot.state l.fn.depot in
-    let first : Standing = record { progress = l.fn.desk.progress; tallies = l.fn.desk.tallies.items } in
-    let here : Standing = record { progress = l.desk.progress; tallies = l.desk.tallies.items } in
+    let first : Standing = record { progress = l.fn.desk.progress; tallies = l.fn.desk.tallies } in
+    let here : Standing = record { progress = l.desk.progress; tallies = l.desk.tallies } in
     record {
       comes : Comes start.tells (reports_course l.fn.manner start.held (texts_of l.fn.names) first) (reports_course l.fn.manner start.held (texts_of l.rest) here)
           l.fn.report.waiting.items l.report.waiting.items (g.S.Sink.state l.fn.out) (g.S.Sink.state l.out);

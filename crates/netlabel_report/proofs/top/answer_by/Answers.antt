@@ -11,7 +11,7 @@ pub returns : goal.returns
 returns g c before has =
     let mid : Outside = record { folder = g.D.Depot.state c.args.depot.now; stream = g.S.Sink.state c.args.out.now } in
     let after : Outside = record { folder = g.D.Depot.state c.tell_all-told.new.depot; stream = g.S.Sink.state c.end_answer.new.out } in
-    let s : Standing = record { progress = c.tell_all-told.new.desk.progress; tallies = c.tell_all-told.new.desk.tallies.items } in
+    let s : Standing = record { progress = c.tell_all-told.new.desk.progress; tallies = c.tell_all-told.new.desk.tallies } in
     let told = rw c.new-report.ensures at c.tell_all-told.ensures.told in
     rw (← c.asked.view_is)
     (ends_by _ before mid c.args.commands (rw (← c.asked.view_is) at has) s c.tell_all-told.new.report.waiting.items (g.S.Sink.state c.tell_all-told.new.out) after c.tell_all-told.result c.end_answer.result

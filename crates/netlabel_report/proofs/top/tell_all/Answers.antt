@@ -11,7 +11,7 @@ use Rattle.netlabel_report.proofs.top.tell_all.Goals as goal
 pub returns-in_err-write_opening-clause-told : goal.returns-in_err-write_opening-clause-told
 returns-in_err-write_opening-clause-told g c =
     let start = g.D.Depot.state c.args.depot.now in
-    let first : Standing = record { progress = c.args.desk.now.progress; tallies = c.args.desk.now.tallies.items } in
+    let first : Standing = record { progress = c.args.desk.now.progress; tallies = c.args.desk.now.tallies } in
     let stopped = stops start.tells (told_course c.args.manner.now start.held (reports_named (texts_of c.args.names.now))) first c.args.report.now.waiting.items c.write_opening.new.out.items (g.S.Sink.state c.args.out.now) in
     search (rules, stopped, c.from_residual.ensures)
 
@@ -20,8 +20,8 @@ returns-clause-told g c =
     let start = g.D.Depot.state c.args.depot.now in
     let manner = c.args.manner.now in
     let names = reports_named (texts_of c.args.names.now) in
-    let first : Standing = record { progress = c.args.desk.now.progress; tallies = c.args.desk.now.tallies.items } in
-    let after : Standing = record { progress = c.tell_reports.new.desk.progress; tallies = c.tell_reports.new.desk.tallies.items } in
+    let first : Standing = record { progress = c.args.desk.now.progress; tallies = c.args.desk.now.tallies } in
+    let after : Standing = record { progress = c.tell_reports.new.desk.progress; tallies = c.tell_reports.new.desk.tallies } in
     let old = g.S.Sink.state c.args.out.now in
     let new = g.S.Sink.state c.tell_reports.new.out in
     let waits = c.args.report.now.waiting.items in
