@@ -6,7 +6,7 @@ use std::alloc::Global;
 use std::process::Abort;
 
 /// The files of the folder.
-const FILES: [(&str, &str); 14] = [
+const FILES: &[(&str, &str)] = &[
     (
         "whole",
         "command 1 gate done\ncommand 2 gate DoiExists\ncommand 3 gate listed 1\n  unlbl \"x\"\nflow 1 a\npacket 1.1 delivered s0 to 10.9.0.2 versions 3\npacket 1.2 denied 3 Unlabelled hop 1 node gate versions 3\nend 1 packets 2 passed 1 denied 1\ndone\n",
@@ -39,7 +39,7 @@ const FILES: [(&str, &str); 14] = [
 ];
 
 /// Words, the status, and what is printed.
-const CALLS: [(&str, u8, &str); 34] = [
+const CALLS: &[(&str, u8, &str)] = &[
     (
         "",
         1,
@@ -181,24 +181,54 @@ fn words_in(rt: &impl Abort, alloc: Global, line: &str) -> Vec<String> {
 fn folder(rt: &impl Abort, alloc: Global, failing: &[u32], piece: usize) -> MemoryDepot {
     assert!(rt; piece > 0);
     let mut depot = MemoryDepot::new(alloc, failing, piece).expect(rt, "memory");
-    for (name, text) in FILES {
+    for &(name, text) in FILES {
         depot.put(name, text.as_bytes()).expect(rt, "memory");
     }
     depot
 }
 
+/// A stream out, of which a write fails where its number is planned to.
+fn stream(rt: &impl Abort, alloc: Global, failing: &[u32]) -> MemorySink {
+    MemorySink::new(alloc, failing, 1_000_000).expect(rt, "memory")
+}
+
+/// Compares how a call ended and what it printed, by the words that it had.
+fn same(rt: &impl Abort, case: &str, found: (u8, &[u8]), wanted: (u8, &[u8])) {
+    assert_eq!(rt; found, wanted, "of {case}");
+}
+
+/// Makes a call, and compares it.
+fn ends_so(
+    rt: &impl Abort,
+    alloc: Global,
+    line: &str,
+    depot: &mut MemoryDepot,
+    sink: &mut MemorySink,
+    wanted: (u8, &str),
+) {
+    let words = words_in(rt, alloc, line);
+    let ended = report(alloc, &words, depot, sink);
+    same(
+        rt,
+        line,
+        (ended, sink.bytes()),
+        (wanted.0, wanted.1.as_bytes()),
+    );
+}
+
+/// Makes a call over a folder whose reads give so many octets at the most.
+fn tells_in_pieces(rt: &impl Abort, alloc: Global, line: &str, piece: usize, wanted: (u8, &str)) {
+    let mut depot = folder(rt, alloc, &[], piece);
+    let mut sink = stream(rt, alloc, &[]);
+    ends_so(rt, alloc, line, &mut depot, &mut sink, wanted);
+}
+
 #[test]
 fn tells_reports(rt: HostRuntime) {
     let alloc = rt.alloc();
-    for (line, status, printed) in CALLS {
-        for piece in [7, 1_000_000] {
-            let words = words_in(&rt, alloc, line);
-            let mut depot = folder(&rt, alloc, &[], piece);
-            let mut sink = MemorySink::new(alloc, &[], 1_000_000).expect(&rt, "memory");
-            let ended = report(alloc, &words, &mut depot, &mut sink);
-            assert_eq!(rt; ended, status, "of {line}");
-            assert_eq!(rt; sink.bytes(), printed.as_bytes(), "of {line}");
-        }
+    for &(line, status, printed) in CALLS {
+        tells_in_pieces(&rt, alloc, line, 7, (status, printed));
+        tells_in_pieces(&rt, alloc, line, 1_000_000, (status, printed));
     }
 }
 
@@ -225,7 +255,7 @@ const GOOD_ROWS: &str =
     "report,line,step,node,answer,lines,flow,input,number,became,label,receiver,carrier,denial,name,octet,category,cause,hop,versions,packets,passed,denied,capture,kind,at,limit,most,nodes,commands,flows,text\n1,done,,,,,,,,,,,,,,,,,,,,,,,,,,,,,,\n";
 
 /// Reports that follow one that ends with `done`, and what is printed of them.
-const ENDS: [ReportEnd; 7] = [
+const ENDS: &[ReportEnd] = &[
     ReportEnd {
         text: "done\n",
         status: 0,
@@ -301,55 +331,56 @@ fn joined(rt: &impl Abort, alloc: Global, first: &str, second: &str) -> Vec<u8> 
     text
 }
 
-/// Asks for this report, which follows one that ends well.
-fn asks_for(
-    rt: &impl Abort,
-    alloc: Global,
-    words: &[String],
-    text: &str,
-    status: u8,
-    printed: &[u8],
-) {
+/// A folder with this report, and one that ends well.
+fn folder_with(rt: &impl Abort, alloc: Global, text: &str) -> MemoryDepot {
     let mut depot = MemoryDepot::new(alloc, &[], 1_000_000).expect(rt, "memory");
     depot.put("good", b"done\n").expect(rt, "memory");
     depot.put("last", text.as_bytes()).expect(rt, "memory");
-    let mut sink = MemorySink::new(alloc, &[], 1_000_000).expect(rt, "memory");
-    let ended = report(alloc, words, &mut depot, &mut sink);
-    assert_eq!(rt; ended, status, "of {text}");
-    assert_eq!(rt; sink.bytes(), printed, "of {text}");
+    depot
 }
 
-/// Asks for it by these words, the first of which is `-e`, and by the others alone.
-fn tells_end(rt: &impl Abort, alloc: Global, line: &str, end: &ReportEnd, printed: &[u8]) {
+/// Asks for this report, which follows one that ends well.
+fn asks_for(rt: &impl Abort, alloc: Global, words: &[String], text: &str, wanted: (u8, &[u8])) {
+    let mut depot = folder_with(rt, alloc, text);
+    let mut sink = stream(rt, alloc, &[]);
+    let ended = report(alloc, words, &mut depot, &mut sink);
+    same(rt, text, (ended, sink.bytes()), wanted);
+}
+
+/// Asks for it by these words, the first of which is `-e`, and by the others alone. What is printed has two parts.
+fn tells_end(rt: &impl Abort, alloc: Global, line: &str, end: &ReportEnd, parts: (&str, &str)) {
     let words = words_in(rt, alloc, line);
-    asks_for(rt, alloc, &words, end.text, end.status, printed);
+    let printed = joined(rt, alloc, parts.0, parts.1);
+    asks_for(rt, alloc, &words, end.text, (end.status, &printed));
     if let [_, others @ ..] = words.as_slice() {
-        asks_for(rt, alloc, others, end.text, 0, printed);
+        asks_for(rt, alloc, others, end.text, (0, &printed));
     }
+}
+
+fn tells_end_each_way(rt: &impl Abort, alloc: Global, end: &ReportEnd) {
+    let json = ("{\"report\":1,\"line\":\"done\"}\n", end.json);
+    tells_end(
+        rt,
+        alloc,
+        "-e summary good last",
+        end,
+        (end.ended, end.sums),
+    );
+    tells_end(rt, alloc, "-e denied good last", end, (end.denied, ""));
+    tells_end(rt, alloc, "-e json good last", end, json);
+    tells_end(rt, alloc, "-e csv good last", end, (GOOD_ROWS, end.csv));
 }
 
 #[test]
 fn tells_ends(rt: HostRuntime) {
     let alloc = rt.alloc();
-    for end in &ENDS {
-        let sums = joined(&rt, alloc, end.ended, end.sums);
-        tells_end(&rt, alloc, "-e summary good last", end, &sums);
-        tells_end(
-            &rt,
-            alloc,
-            "-e denied good last",
-            end,
-            end.denied.as_bytes(),
-        );
-        let json = joined(&rt, alloc, "{\"report\":1,\"line\":\"done\"}\n", end.json);
-        tells_end(&rt, alloc, "-e json good last", end, &json);
-        let csv = joined(&rt, alloc, GOOD_ROWS, end.csv);
-        tells_end(&rt, alloc, "-e csv good last", end, &csv);
+    for end in ENDS {
+        tells_end_each_way(&rt, alloc, end);
     }
 }
 
 /// Words, the reads and the writes that fail, by their numbers, the status, and what is printed.
-const FAILING: [(&str, u32, u32, u8, &str); 11] = [
+const FAILING: &[(&str, u32, u32, u8, &str)] = &[
     ("denied whole", 1, 0, 3, ""),
     ("denied whole", 2, 0, 3, ""),
     (
@@ -381,15 +412,17 @@ const FAILING: [(&str, u32, u32, u8, &str); 11] = [
     ("-s whole csv whole", 0, 1, 2, ""),
 ];
 
+/// Makes a call of which one read and one write fail.
+fn fails_so(rt: &impl Abort, alloc: Global, line: &str, read: u32, write: u32, wanted: (u8, &str)) {
+    let mut depot = folder(rt, alloc, &[read], 1_000_000);
+    let mut sink = stream(rt, alloc, &[write]);
+    ends_so(rt, alloc, line, &mut depot, &mut sink, wanted);
+}
+
 #[test]
 fn reads_and_writes_fail(rt: HostRuntime) {
     let alloc = rt.alloc();
-    for (line, read, write, status, printed) in FAILING {
-        let words = words_in(&rt, alloc, line);
-        let mut depot = folder(&rt, alloc, &[read], 1_000_000);
-        let mut sink = MemorySink::new(alloc, &[write], 1_000_000).expect(&rt, "memory");
-        let ended = report(alloc, &words, &mut depot, &mut sink);
-        assert_eq!(rt; ended, status, "of {line}");
-        assert_eq!(rt; sink.bytes(), printed.as_bytes(), "of {line}");
+    for &(line, read, write, status, printed) in FAILING {
+        fails_so(&rt, alloc, line, read, write, (status, printed));
     }
 }
