@@ -146,7 +146,6 @@ def checks(with_proved, environment):
     """What takes long comes first."""
     if with_proved:
         yield Check("calls of the proved program", lambda: script(["checks.py"]))
-        yield Check("loads", lambda: script(["../bench/hard.py", "--short"]))
     yield Check("examples, captures of a kernel, captures that are made, names of files", lambda: all_calls("netlabel"))
     for program in PROGRAMS[1:]:
         if calls_of(program):
