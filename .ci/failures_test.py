@@ -230,7 +230,7 @@ def test_second_call(house):
     with half_way(house) as (begun, feed):
         before = (house.folder / "o.pcap").read_bytes()
         house.fails("an output that another call makes", "netlabel", ["make", "7", "3", "o.pcap"], 3, "o.pcap: another call makes it")
-        tell("what that holds", (house.folder / "o.pcap").read_bytes() == before)
+        tell("what that holds", (house.folder / "o.pcap").read_bytes().startswith(before))
         feed()
         tell("the call that makes it", begun.wait(timeout=60) == 0)
 

@@ -2,7 +2,7 @@
 
 ghost use Rattle.std.specs.Prelude.{◌≡◌, ◌+◌, ◌<◌, ◌≤◌, ◌^◌, All, length};
 ghost use Rattle.std.specs.Arc.{arc_value};
-ghost use Rattle.node_tables.specs.Steps.{tables_after};
+ghost use Rattle.node_tables.specs.Steps.{step_applied, tables_after};
 ghost use Rattle.script_lines.specs.declared.command.Step.{Step as StepValue};
 ghost use Rattle.shared_tables.specs.Plan.{network_after};
 
@@ -121,16 +121,32 @@ fn a_viewer_learns_of_a_step(rt: HostRuntime) {
     publisher.close(&rt);
 }
 
+// The tables after this step.
+fn advanced(rt: &impl Abort, network: Network, step: &Step) -> Network
+    requires { step.now.node < length network }
+    ensures { result ≡ step_applied network step.now }
+{
+    let mut network = network;
+    match network.advance(step) {
+        Ok(()) => network,
+        Err(_) => panic!(rt; "memory"),
+    }
+}
+
 // The tables after two steps.
 fn after_two(rt: &impl Abort, alloc: Global, steps: &[Step]) -> Network
     requires nodes { All (λ (step : StepValue). step.node < 1) steps.now }
     requires two { 2 ≤ length steps.now }
     ensures { result ≡ tables_after 1 steps.now 2 }
 {
-    let mut network = Network::fresh(alloc, 1).expect(rt, "memory");
-    network.advance(&steps[0]).expect(rt, "memory");
-    network.advance(&steps[1]).expect(rt, "memory");
-    network
+    let network = Network::fresh(alloc, 1).expect(rt, "memory");
+    match steps {
+        [first, second, ..] => {
+            let network = advanced(rt, network, first);
+            advanced(rt, network, second)
+        }
+        _ => unreachable!(),
+    }
 }
 
 // A board at version 2 of these steps, of which the first six are planned.

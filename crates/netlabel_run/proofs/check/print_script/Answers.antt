@@ -1,4 +1,4 @@
-use Rattle.std.proofs.Common.{[], length, sym, ◌∙◌}
+use Rattle.std.proofs.Common.{◌≡◌, ◌-◌, [], length, sym, ◌∙◌, arith}
 use Rattle.node_tables.proofs.Law.{nodes_begin_fresh}
 use Rattle.call_report.specs.Lines.Reply.{replies_text}
 use Rattle.call_report.specs.Lines.Script.{ok_line}
@@ -12,14 +12,16 @@ answer_steps-requires-clause-tables g c = c.in-Ok.ensures ∙ sym (nodes_begin_f
 pub returns-in-Ok-answer_steps : goal.returns-in-Ok-answer_steps
 returns-in-Ok-answer_steps g c =
     let script = c.args.script.now in
-    let hands = rw (c.as_slice-names.ensures, c.as_slice-steps.ensures, c.new-report.ensures) at c.in-Ok-answer_steps.ensures.replies in
+    let all : length script.steps - 0 ≡ length script.steps = omega arith in
+    let hands = rw (c.as_slice-names.ensures, c.as_slice-steps.ensures, all, c.new-report.ensures) at c.in-Ok-answer_steps.ensures.replies in
     a_text_begins_a_report (replies_text script.nodes script.steps 0 (length script.steps)) (ok_line (length script.nodes) (length script.steps) (length script.flows)) c.answer_steps.new.report.waiting.items []
     c.in-Ok-answer_steps.field-0 Done c.end_checked.result (g.S.Sink.state c.args.out.now) (g.S.Sink.state c.answer_steps.new.out) (g.S.Sink.state c.end_checked.new.out) hands c.end_checked.ensures
 
 pub returns : goal.returns
 returns g c =
     let script = c.args.script.now in
-    let hands = rw (c.as_slice-names.ensures, c.as_slice-steps.ensures, c.new-report.ensures) at c.in-Err-answer_steps.ensures.replies in
+    let all : length script.steps - 0 ≡ length script.steps = omega arith in
+    let hands = rw (c.as_slice-names.ensures, c.as_slice-steps.ensures, all, c.new-report.ensures) at c.in-Err-answer_steps.ensures.replies in
     rw c.after_write.ensures
     (a_failing_text_ends_a_report (replies_text script.nodes script.steps 0 (length script.steps)) (ok_line (length script.nodes) (length script.steps) (length script.flows)) c.answer_steps.new.report.waiting.items []
     c.in-Err-answer_steps.fault Done (g.S.Sink.state c.args.out.now) (g.S.Sink.state c.answer_steps.new.out) hands)
